@@ -1,18 +1,11 @@
 -- All nodes begin.
-use Rattle.std.proofs.Common.{◌≡◌, ℕ, suc, ◌+◌, ◌<◌, ◌≤◌, cond, ltb, is_none, ◌&&◌, List, [], ◌∷◌, ◌++◌, length, Option, Some, None, slice_get, refl, sym, ap, subst, ◌∙◌, arith, append_assoc, length-append}
-use Rattle.std.specs.Option.{option_map}
-use Rattle.std.proofs.lemmas.Bool.{lt-ltb}
-use Rattle.dist_core_setup.specs.declared.setup.Setup.{Setup}
-use Rattle.dist_world_model.specs.declared.happening.Happening.{Happening}
+use Rattle.dist_audit.proofs.Words.{◌≡◌, ℕ, suc, ◌+◌, ◌<◌, ◌≤◌, cond, ltb, is_none, ◌&&◌, List, [], ◌∷◌, ◌++◌, length, Option, Some, None, slice_get, refl, sym}
+use Rattle.dist_audit.proofs.Words.{ap, subst, ◌∙◌, arith, append_assoc, length-append, option_map, lt-ltb, Setup, Happening, first_where, World, Life, empty}
+use Rattle.dist_audit.proofs.Words.{runs, runs_for, running, begin, without_closing, applied_at, happens, ticked_on, there, one_where, begins, AllApply}
+use Rattle.dist_world_model.proofs.Conditions.{holds}
+use Rattle.dist_world_model.specs.Happenings.{new_life}
 use Rattle.dist_world_model.specs.declared.happening.Happening.TheVariants as happening
-use Rattle.dist_world_model.specs.Lists.{first_where}
-use Rattle.dist_world_model.specs.World.{World, Life, empty, runs, runs_for, running}
-use Rattle.dist_world_model.specs.Happenings.{begin, new_life, without_closing, applied_at, happens, ticked_on}
-use Rattle.dist_world_model.proofs.Conditions.{there, holds}
-use Rattle.dist_world_model.specs.Run.{one_where}
 use Rattle.dist_audit.proofs.Numbers.{eqb-not}
-use Rattle.dist_audit.specs.Happenings.{begins}
-use Rattle.dist_audit.specs.Audit.{AllApply}
 
 -- these are incarnations of nodes below number i
 abbrev AreBelow : ℕ → List Life → Type 0

@@ -1,6 +1,6 @@
 -- One test or another, over lists.
-use Rattle.std.proofs.Common.{◌≡◌, Bool, true, false, ◌||◌, List, [], ◌∷◌, refl}
-use Rattle.std.specs.List.{list_any, IsDistinct}
+use Rattle.dist_audit.proofs.Words.{◌≡◌, List, [], ◌∷◌, refl, Bool, true, false, ◌||◌, list_any}
+use Rattle.std.specs.List.{IsDistinct}
 
 pub or-true : (a : Bool) → (a || true) ≡ true
 or-true true = refl

@@ -1,36 +1,20 @@
 -- A link comes to the node of its line: the connection of its number leads to the incarnation of that node.
-use Rattle.std.proofs.Common.{◌≡◌, ℕ, zero, suc, ◌+◌, Bool, true, false, cond, ltb, eqb, not, ◌&&◌, ◌||◌, List, [], ◌∷◌, ◌++◌, length, Option, Some, None, IfSome, slice_get, is_none, option_to_list, refl, sym, ap, subst, ◌∙◌, arith, append_assoc}
-use Rattle.std.specs.Option.{option_map}
-use Rattle.std.specs.Int.{w16}
-use Rattle.std.specs.List.{list_any}
-use Rattle.std.proofs.lemmas.Bool.{eqb-true}
-use Rattle.dist_frames.specs.Stream.{first_body}
-use Rattle.dist_messages.specs.declared.message.Side.{Side}
-use Rattle.dist_messages.specs.declared.message.Side.TheVariants.{Dialler, Acceptor}
-use Rattle.dist_peers.specs.declared.entry.EndId.{EndId}
-use Rattle.dist_core_ends.specs.Ends.{is_dialing}
-use Rattle.dist_core_setup.specs.declared.setup.Setup.{Setup}
-use Rattle.dist_names.specs.declared.creation.Creation.{Creation}
-use Rattle.dist_locked_book.specs.declared.closing.Closed.{Closed}
-use Rattle.dist_core.specs.declared.event.Event.{Event}
-use Rattle.dist_core.specs.declared.event.Event.TheVariants as event
-use Rattle.dist_core.specs.Step.{step}
-use Rattle.dist_world_model.specs.declared.happening.Happening.{Happening}
-use Rattle.dist_world_model.specs.declared.happening.Happening.TheVariants as happening
-use Rattle.dist_world_model.specs.Lists.{at_place, first_where}
-use Rattle.dist_world_model.specs.Rows.{EndRow}
-use Rattle.dist_world_model.specs.World.{World, Life, Conn, Text, empty, runs, runs_for, running, row_at, end_at}
-use Rattle.dist_world_model.specs.Delivery.{says, conns_after_saying, spoken_on, text_to, change_to, after_delivery, body_taken}
-use Rattle.dist_world_model.specs.Happenings.{life_after, begin, notify, notify_node, new_conn, reach as happening_reach, reached_life, conn_of as wire_number, notify_opened, accept, accepted_by, next_end, is_open_end, is_nonempty, deliver, take_frame, world_after, without_closing, ticked_on, applied_at, happens}
-use Rattle.dist_world_model.proofs.Conditions.{if_there, if_ok, if_holds}
-use Rattle.dist_world_model.specs.Run.{run, one_where}
-use Rattle.dist_audit.proofs.Numbers.{eqb-self}
+use Rattle.dist_audit.proofs.Words.{◌≡◌, ℕ, suc, ◌+◌, cond, ltb, is_none, ◌&&◌, List, [], ◌∷◌, ◌++◌, length, Option, Some, None, slice_get, refl, sym, ap}
+use Rattle.dist_audit.proofs.Words.{subst, ◌∙◌, arith, append_assoc, option_map, Setup, Happening, first_where, World, Life, empty, runs, runs_for, running}
+use Rattle.dist_audit.proofs.Words.{begin, without_closing, applied_at, happens, ticked_on, one_where, begins, AllApply, Bool, true, false, ◌||◌, list_any}
+use Rattle.dist_audit.proofs.Words.{Closed, setups_of, links_unpaired, zero, eqb, not, IfSome, option_to_list, w16, eqb-true, first_body, Side, Dialler}
+use Rattle.dist_audit.proofs.Words.{Acceptor, EndId, is_dialing, Creation, Event, step, at_place, EndRow, Conn, Text, row_at, end_at, says, conns_after_saying}
+use Rattle.dist_audit.proofs.Words.{spoken_on, text_to, change_to, after_delivery, body_taken, notify, notify_node, new_conn, notify_opened, accept}
+use Rattle.dist_audit.proofs.Words.{accepted_by, next_end, is_open_end, is_nonempty, world_after, if_there, if_ok, if_holds, run, AreFollowed, AreOfOneWorld}
+use Rattle.dist_audit.proofs.Words.{after, NodeLine, opens, opens_in, comes, comes_in, dialled_end, dialled_in, or_else, is_among, dialler_of, acceptor_of}
+use Rattle.dist_audit.proofs.Words.{target_of, conn_of, with_mentions, reach, reach_first, before, own, repeats, links_repeat, is_unopened, comes_unopened}
+use Rattle.dist_audit.specs.Audit.{ComeHome, ComesHere, EachLinkComesHome}
+use Rattle.dist_audit.specs.Links.{link_in, mention}
+use Rattle.dist_world_model.specs.Happenings.{deliver, life_after, reached_life, take_frame, reach as happening_reach, conn_of as wire_number}
 use Rattle.dist_audit.specs.Audit as audit
-use Rattle.dist_audit.specs.Audit.{AllApply, AreFollowed, AreOfOneWorld, after, ComesHere, ComeHome, EachLinkComesHome}
-use Rattle.dist_audit.specs.Lines.{NodeLine}
-use Rattle.dist_audit.specs.Links.{link_in, opens, opens_in, comes, comes_in, dialled_end, dialled_in, or_else, is_among, dialler_of, acceptor_of, target_of, conn_of, mention}
-use Rattle.dist_audit.specs.Happenings.{setups_of, begins, with_mentions, reach, reach_first, before, own}
-use Rattle.dist_audit.specs.Faults.{repeats, links_repeat, is_unopened, comes_unopened, links_unpaired}
+use Rattle.dist_core.specs.declared.event.Event.TheVariants as event
+use Rattle.dist_world_model.specs.declared.happening.Happening.TheVariants as happening
+use Rattle.dist_audit.proofs.Numbers.{eqb-self}
 
 -- ---- the incarnations that connections lead to
 

@@ -1,16 +1,11 @@
 -- What lines say of links.
-use Rattle.std.proofs.Common.{◌≡◌, ℕ, zero, suc, ◌-◌, ◌<◌, ◌≤◌, Bool, true, false, cond, not, ◌||◌, eqb, List, [], ◌∷◌, Option, Some, None, is_some, refl, ap, sym, subst, ◌∙◌, length, get_or, drop, drop-cons, arith}
-use Rattle.std.specs.Ordering.{nat_cmp}
-use Rattle.std.specs.List.{list_any}
-use Rattle.std.specs.BTreeMap.{BTreeMap, get}
-use Rattle.dist_peers.specs.declared.entry.EndId.{EndId}
-use Rattle.dist_core.specs.declared.event.Event.{Event}
-use Rattle.dist_core.specs.declared.event.Event.TheVariants as event
-use Rattle.dist_audit.specs.Lines.{NodeLine}
-use Rattle.dist_audit.specs.Links.{opens, opens_in, comes_in, dialled_end, dialled_in, or_else, dialler_of, acceptor_of}
-use Rattle.dist_audit.specs.Faults.{repeats, links_repeat, is_unopened, comes_unopened}
+use Rattle.dist_audit.proofs.Words.{◌≡◌, ℕ, suc, ◌<◌, ◌≤◌, cond, List, [], ◌∷◌, length, Option, Some, None, refl, sym, ap, subst, ◌∙◌, arith, Bool, true, false}
+use Rattle.dist_audit.proofs.Words.{◌||◌, list_any, zero, eqb, not, EndId, Event, NodeLine, opens, opens_in, comes_in, dialled_end, dialled_in, or_else}
+use Rattle.dist_audit.proofs.Words.{dialler_of, acceptor_of, repeats, links_repeat, is_unopened, comes_unopened, ◌-◌, is_some, get_or, drop, drop-cons, nat_cmp}
+use Rattle.dist_audit.proofs.Words.{BTreeMap, get}
 use Rattle.dist_audit.specs.Kept.{Knows, is_again, is_unknown}
-use Rattle.dist_audit.proofs.Either.{or-true, or-false, any-same}
+use Rattle.dist_core.specs.declared.event.Event.TheVariants as event
+use Rattle.dist_audit.proofs.Either.{any-same, or-false, or-true}
 
 -- a line that opens names a dialler
 opened-is : (k : ℕ) (e : Event) → is_some (dialled_end k e) ≡ opens k e

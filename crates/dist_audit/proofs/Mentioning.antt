@@ -1,12 +1,10 @@
 -- The numbers of links.
-use Rattle.std.proofs.Common.{◌≡◌, ℕ, suc, Bool, true, false, cond, ◌||◌, eqb, List, [], ◌∷◌, ◌++◌, Option, Some, None, is_some, refl, ap, sym, ◌∙◌, length, arith}
-use Rattle.std.proofs.lemmas.Bool.Decides.{nat_tests}
-use Rattle.std.specs.Option.{option_map, unwrap_or}
+use Rattle.dist_audit.proofs.Words.{◌≡◌, ℕ, suc, cond, List, [], ◌∷◌, ◌++◌, length, Option, Some, None, refl, sym, ap, ◌∙◌, arith, option_map, Bool, true}
+use Rattle.dist_audit.proofs.Words.{false, ◌||◌, eqb, is_among, conn_of, is_some, nat_cmp, BTreeMap, get, nat_tests}
+use Rattle.dist_audit.specs.Kept.{AreNumbers, number_of}
+use Rattle.std.specs.BTreeMap.{is_at}
 use Rattle.std.specs.Cmp.{unsigned_tied}
-use Rattle.std.specs.Ordering.{nat_cmp}
-use Rattle.std.specs.BTreeMap.{BTreeMap, get, is_at}
-use Rattle.dist_audit.specs.Links.{is_among, conn_of}
-use Rattle.dist_audit.specs.Kept.{number_of, AreNumbers}
+use Rattle.std.specs.Option.{unwrap_or}
 
 some-place : (b : Bool) (o : Option ℕ) → is_some (cond b (Some 0) (option_map suc o)) ≡ (b || is_some o)
 some-place true o = refl

@@ -1,15 +1,10 @@
 -- Links that are in pairs, in whatever order the lines stand.
-use Rattle.std.proofs.Common.{◌≡◌, ◌∙◌, ◌||◌, Bool, true, false, not, List, [], ◌∷◌, refl, sym, ap}
-use Rattle.std.specs.List.{AllByRecursion, IsDistinct, list_any}
-use Rattle.std.specs.List.Sorted.{IsPermutation}
-use Rattle.std.proofs.lemmas.List.Sorted.{list_any-IsPermutation, IsPermutation-sym}
-use Rattle.std.proofs.lemmas.Map.Keys.{IsDistinct-head, IsDistinct-tail, IsDistinct-cons, IsDistinct-IsPermutation}
-use Rattle.dist_core.specs.declared.event.Event.{Event}
+use Rattle.dist_audit.proofs.Words.{◌≡◌, List, [], ◌∷◌, refl, sym, ap, ◌∙◌, Bool, true, false, ◌||◌, list_any, IsDistinct, links_unpaired, not, Event, NodeLine}
+use Rattle.dist_audit.proofs.Words.{opens, opens_in, comes, repeats, links_repeat, is_unopened, comes_unopened, AllByRecursion, IsPermutation}
+use Rattle.dist_audit.proofs.Words.{IsPermutation-sym, IsDistinct-head, IsDistinct-tail, IsDistinct-cons, IsDistinct-IsPermutation}
+use Rattle.std.proofs.lemmas.List.Sorted.{list_any-IsPermutation}
 use Rattle.dist_core.specs.declared.event.Event.TheVariants as event
-use Rattle.dist_audit.specs.Lines.{NodeLine}
-use Rattle.dist_audit.specs.Links.{opens, comes, opens_in}
-use Rattle.dist_audit.specs.Faults.{repeats, links_repeat, is_unopened, comes_unopened, links_unpaired}
-use Rattle.dist_audit.proofs.Either.{any-same, left-false, right-false, distinct-none}
+use Rattle.dist_audit.proofs.Either.{any-same, distinct-none, left-false, right-false}
 use Rattle.dist_audit.proofs.Sorting.{flips}
 
 abbrev event_of : NodeLine → Event

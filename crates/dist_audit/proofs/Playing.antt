@@ -1,21 +1,18 @@
 -- A whole play.
-use Rattle.std.proofs.Common.{None, ◌≡◌, false, IsTrue, List, [], length, sym, ap, subst, inl, inr, ◌∙◌}
-use Rattle.dist_locked_book.specs.declared.closing.Closed.{Closed}
-use Rattle.dist_world_model.specs.World.{World, empty}
-use Rattle.dist_world_model.specs.Run.{run}
-use Rattle.dist_audit.specs.Lines.{NodeLine, lines_by_node, AreLinesOf}
-use Rattle.dist_audit.specs.Happenings.{setups_of, begins, of_lines}
-use Rattle.dist_audit.specs.declared.audit_error.AuditError.{AuditError}
+use Rattle.dist_audit.proofs.Words.{◌≡◌, List, [], length, None, sym, ap, subst, ◌∙◌, World, empty, begins, AllApply, false, inl, inr, Closed, AuditError}
+use Rattle.dist_audit.proofs.Words.{lines_by_node, setups_of, links_unpaired, fault_of, run, AreFollowed, AreOfOneWorld, NodeLine, AreLinesOf, of_lines}
+use Rattle.dist_audit.proofs.Words.{Refutes, StopsAt, UnlessShort, world_before_lines, world_of}
+use Rattle.dist_audit.specs.Audit.{AreRefused, HasTables, IsWorldOf, Reports, ReportsFirst}
+use Rattle.dist_audit.specs.Faults.{IsFault}
+use Rattle.std.proofs.Common.{IsTrue}
 use Rattle.dist_audit.specs.declared.audit_error.AuditError.TheVariants as error
-use Rattle.dist_audit.specs.Audit.{AllApply, AreFollowed, HasTables, AreOfOneWorld, AreRefused, Refutes, StopsAt, Reports, ReportsFirst, UnlessShort, world_before_lines, world_of, IsWorldOf}
-use Rattle.dist_audit.specs.Faults.{fault_of, links_unpaired, IsFault}
-use Rattle.dist_audit.proofs.Walking.{run-append, unless-more, all-apply}
 use Rattle.dist_audit.proofs.Beginning.{all-begin}
 use Rattle.dist_audit.proofs.Faultless.{few-nodes, links-paired}
-use Rattle.dist_audit.proofs.Pairs.{unpaired-alike}
 use Rattle.dist_audit.proofs.Homing.{all-come-home}
+use Rattle.dist_audit.proofs.Pairs.{unpaired-alike}
 use Rattle.dist_audit.proofs.Quiet.{FramesAlone, all-take-theirs}
 use Rattle.dist_audit.proofs.Unchanged.{KeepsSetups, own-digests, own-setups}
+use Rattle.dist_audit.proofs.Walking.{all-apply, run-append, unless-more}
 
 -- all nodes begin in the opening world
 pub has-begun : (cs : List Closed) (first : World) → first ≡ empty (setups_of cs) → fault_of cs ≡ None → AllApply (begins 0 first.setups) first

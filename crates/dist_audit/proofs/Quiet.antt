@@ -1,72 +1,41 @@
 -- Of what came to an end nothing is left once a line has happened, so that each line takes its very body.
-use Rattle.std.proofs.Common.{◌≡◌, ℕ, zero, suc, ◌+◌, ◌^◌, ◌<◌, Bool, true, false, cond, ltb, ◌&&◌, List, [], ◌∷◌, ◌++◌, length, take, Option, Some, None, IfSome, slice_get, is_none, option_to_list, refl, sym, ap, subst, ◌∙◌, arith, length-append}
-use Rattle.std.proofs.lemmas.List.{take_at}
-use Rattle.std.specs.Int.{w16, to_be_bytes}
-use Rattle.std.specs.Option.{option_map, option_and_then}
-use Rattle.dist_frames.specs.Stream.{body_frame, first_body, after_first}
-use Rattle.dist_messages.specs.declared.message.Side.{Side}
-use Rattle.dist_messages.specs.declared.message.Side.TheVariants.{Dialler, Acceptor}
-use Rattle.dist_peers.specs.declared.entry.EndId.{EndId}
-use Rattle.dist_core_ends.specs.Ends.{is_dialing}
-use Rattle.dist_core.specs.declared.event.Event.{Event}
-use Rattle.dist_core.specs.declared.event.Event.TheVariants as event
-use Rattle.dist_core_setup.specs.declared.setup.Setup.{Setup}
-use Rattle.dist_core.specs.Step.{step}
-use Rattle.dist_names.specs.declared.creation.Creation.{Creation}
-use Rattle.dist_locked_book.specs.declared.closing.Closed.{Closed}
-use Rattle.dist_world_model.specs.declared.happening.Happening.{Happening}
-use Rattle.dist_world_model.specs.declared.happening.Happening.TheVariants as happening
-use Rattle.dist_world_model.specs.Lists.{at_place}
-use Rattle.dist_world_model.specs.Rows.{EndRow}
-use Rattle.dist_world_model.specs.World.{World, Conn, Text, empty, runs, running, row_at, end_at}
-use Rattle.dist_world_model.specs.Delivery.{says, conns_after_saying, spoken_on, text_to, change_to, after_delivery, body_taken}
-use Rattle.dist_world_lives.specs.Stepping.{wire_of}
+use Rattle.dist_audit.proofs.Words.{◌≡◌, ℕ, suc, ◌+◌, ◌<◌, cond, ltb, is_none, ◌&&◌, List, [], ◌∷◌, ◌++◌, length, Option, Some, None, slice_get, refl, sym, ap}
+use Rattle.dist_audit.proofs.Words.{subst, ◌∙◌, arith, length-append, option_map, Setup, Happening, World, empty, runs, running, begin, without_closing}
+use Rattle.dist_audit.proofs.Words.{applied_at, happens, ticked_on, there, one_where, begins, AllApply, Bool, true, false, Closed, setups_of, IfSome}
+use Rattle.dist_audit.proofs.Words.{option_to_list, w16, first_body, Side, Dialler, Acceptor, EndId, is_dialing, Creation, Event, step, at_place, EndRow, Conn}
+use Rattle.dist_audit.proofs.Words.{Text, row_at, end_at, says, conns_after_saying, spoken_on, text_to, change_to, after_delivery, body_taken, notify}
+use Rattle.dist_audit.proofs.Words.{notify_node, new_conn, notify_opened, accept, accepted_by, next_end, is_open_end, is_nonempty, world_after, if_there, if_ok}
+use Rattle.dist_audit.proofs.Words.{if_holds, run, AreFollowed, AreOfOneWorld, after, NodeLine, is_among, dialler_of, acceptor_of, target_of, with_mentions}
+use Rattle.dist_audit.proofs.Words.{reach, reach_first, before, own}
+use Rattle.dist_audit.specs.Audit.{BeginsWith, IsFront, IsNext, TakeTheirs, come_of}
+use Rattle.dist_frames.specs.Stream.{after_first, body_frame}
 use Rattle.dist_world.specs.Asking.{said_to, undelivered_text}
-use Rattle.dist_world_model.specs.Happenings.{◌>>◌, notify, notify_node, new_conn, reach as happening_reach, conn_of, notify_opened, accept, accepted_by, next_end, begin, is_open_end, is_nonempty, world_after, without_closing, ticked_on, applied_at, happens}
-use Rattle.dist_world_model.proofs.Conditions.{if_there, if_ok, if_holds, there}
-use Rattle.dist_world_model.specs.Run.{run, one_where}
+use Rattle.dist_world_lives.specs.Stepping.{wire_of}
+use Rattle.dist_world_model.specs.Happenings.{conn_of, ◌>>◌, reach as happening_reach}
+use Rattle.dist_audit.specs.Links.{conn_of as number_of}
+use Rattle.std.proofs.Common.{take, ◌^◌}
+use Rattle.std.proofs.lemmas.List.{take_at}
+use Rattle.std.specs.Int.{to_be_bytes}
+use Rattle.std.specs.Option.{option_and_then}
 use Rattle.dist_audit.specs.Audit as audit
-use Rattle.dist_audit.specs.Audit.{AllApply, BeginsWith, Says, IsNext, come_of, IsFront, TakeTheirs, AreFollowed, AreOfOneWorld, after}
-use Rattle.dist_audit.specs.Lines.{NodeLine}
-use Rattle.dist_audit.specs.Happenings.{setups_of, begins, with_mentions, reach, reach_first, before, own}
-use Rattle.dist_audit.specs.Links.{is_among, dialler_of, acceptor_of, target_of, conn_of as number_of}
+use Rattle.dist_core.specs.declared.event.Event.TheVariants as event
+use Rattle.dist_world_model.specs.declared.happening.Happening.TheVariants as happening
+use Rattle.dist_world_model.proofs.Lookups.{place-twice, placed}
+use Rattle.dist_world_model.proofs.Places.{at-more, at-one}
+use Rattle.std.proofs.lemmas.Option.{same_Some}
 
 -- nothing that came is left, on either side
 abbrev pub IsQuiet : Conn → Type 0
 IsQuiet k = ((let t = k.there in t.come) ≡ []) × ((let t = k.back in t.come) ≡ [])
 
 abbrev pub AreQuiet : List Conn → Type 0
-AreQuiet [] = Unit {0}
-AreQuiet (k ∷ ks) = IsQuiet k × AreQuiet ks
+AreQuiet ks = (c : ℕ) (k : Conn) → slice_get ks c ≡ Some k → IsQuiet k
 
 abbrev pub QuietIn : World → Type 0
 QuietIn w = AreQuiet w.conns
 
--- ---- lists
-
-quiet-more : (ks : List Conn) (k : Conn) → AreQuiet ks → IsQuiet k → AreQuiet (ks ++ k ∷ [])
-quiet-more [] k h q = (q, tt)
-quiet-more (x ∷ ks) k h q = (h.0, quiet-more ks k h.1 q)
-
-quiet-at : (c : ℕ) (f : Conn → Conn) → ((k : Conn) → IsQuiet k → IsQuiet (f k)) → (ks : List Conn) → AreQuiet ks → AreQuiet (at_place c f ks)
-quiet-at c f keeps [] h = tt
-quiet-at zero f keeps (k ∷ ks) h = (keeps k h.0, h.1)
-quiet-at (suc c) f keeps (k ∷ ks) h = (h.0, quiet-at c f keeps ks h.1)
-
-quiet-get : (ks : List Conn) (c : ℕ) (k : Conn) → slice_get ks c ≡ Some k → AreQuiet ks → IsQuiet k
-quiet-get [] c k at h = absurd cc
-quiet-get (x ∷ ks) zero k at h = let z : x ≡ k = cc in subst IsQuiet z h.0
-quiet-get (x ∷ ks) (suc c) k at h = quiet-get ks c k at h.1
-
-quiet-twice : (ks : List Conn) (c : ℕ) (f g : Conn → Conn) (k : Conn) → slice_get ks c ≡ Some k → IsQuiet (f (g k)) → AreQuiet ks → AreQuiet (at_place c f (at_place c g ks))
-quiet-twice [] c f g k at q h = absurd cc
-quiet-twice (x ∷ ks) zero f g k at q h = let z : k ≡ x = cc in (subst (λ (y : Conn). IsQuiet (f (g y))) z q, h.1)
-quiet-twice (x ∷ ks) (suc c) f g k at q h = (h.0, quiet-twice ks c f g k at q h.1)
-
-get-at : (ks : List Conn) (c : ℕ) (f : Conn → Conn) (k : Conn) → slice_get ks c ≡ Some k → slice_get (at_place c f ks) c ≡ Some (f k)
-get-at [] c f k at = absurd cc
-get-at (x ∷ ks) zero f k at = let z : x ≡ k = cc in ap (λ (y : Conn). Some (f y)) z
-get-at (x ∷ ks) (suc c) f k at = get-at ks c f k at
+quiet-at : (c : ℕ) (f : Conn → Conn) (ks : List Conn) → ((k : Conn) → slice_get ks c ≡ Some k → IsQuiet (f k)) → AreQuiet ks → AreQuiet (at_place c f ks)
+quiet-at c f ks = at-one (λ d k. IsQuiet k) c f ks
 
 -- ---- what is sent
 
@@ -76,7 +45,7 @@ quiet-says Acceptor s k h = h
 
 quiet-on : (ks : List Conn) (o : Option ℕ) (side : Side) (s : List ℕ) → AreQuiet ks → AreQuiet (spoken_on ks o side s)
 quiet-on ks None side s h = h
-quiet-on ks (Some c) side s h = quiet-at c (says side s) (quiet-says side s) ks h
+quiet-on ks (Some c) side s h = quiet-at c (says side s) ks (λ k at. quiet-says side s k (h c k at)) h
 
 quiet-spoken : (ks : List Conn) (o : Option EndRow) (s : List ℕ) → AreQuiet ks → AreQuiet (conns_after_saying ks o s)
 quiet-spoken ks None s h = h
@@ -98,7 +67,7 @@ module _ (w : World) (h : QuietIn w) where
       if_there QuietIn (running w node) _ (λ i at.
       if_there QuietIn (running w target) _ (λ j far.
       if_holds QuietIn (is_dialing (end_at w i id.0) && is_none (conn_of (row_at w i id.0)) && ltb (length w.conns) 1048576) _ (λ free.
-      quiet-more w.conns (new_conn i id.0 j) h (refl, refl))))
+      at-more (λ c k. IsQuiet k) w.conns (new_conn i id.0 j) (refl, refl) h)))
 
   quiet-opened : (node : ℕ) (id : EndId) → IfSome (notify_opened w node id) QuietIn
   quiet-opened node id =
@@ -111,7 +80,7 @@ quiet-accepted w h c =
     if_there QuietIn (slice_get w.conns c) _ (λ x at.
     if_holds QuietIn (is_none x.accepted) _ (λ free.
     let first = next_end (slice_get w.lives x.target) in
-    quiet-noted (record w { conns = at_place c (accepted_by first) w.conns }) (quiet-at c (accepted_by first) (λ k q. q) w.conns h) x.target (event.Incoming c) 0))
+    quiet-noted (record w { conns = at_place c (accepted_by first) w.conns }) (quiet-at c (accepted_by first) w.conns (λ k at. h c k at) h) x.target (event.Incoming c) 0))
 
 -- ---- happenings that apply
 
@@ -220,12 +189,12 @@ module _ (alone : FramesAlone) (w : World) (i : ℕ) (id : EndId) (body : List �
   came-there = change_to (let r = s.row in r.side) (after_delivery (2 + length body)) s.there
 
   stands-there : slice_get z.conns s.conn ≡ Some came-there
-  stands-there = get-at w.conns s.conn (change_to (let r = s.row in r.side) (after_delivery (2 + length body))) s.there s.at
+  stands-there = placed s.conn (change_to (let r = s.row in r.side) (after_delivery (2 + length body))) w.conns s.there s.at
 
   come-there : (let t = text_to (let r = s.row in r.side) came-there in t.come) ≡ body_frame w16 body
   come-there =
       ap (λ (t : Text). t.come) (text-at (let r = s.row in r.side) (after_delivery (2 + length body)) s.there)
-      ∙ comes-whole (text_to (let r = s.row in r.side) s.there) body s.rest (quiet-text (let r = s.row in r.side) s.there (quiet-get w.conns s.conn s.there s.at h)) s.said
+      ∙ comes-whole (text_to (let r = s.row in r.side) s.there) body s.rest (quiet-text (let r = s.row in r.side) s.there (h s.conn s.there s.at)) s.said
 
   front-there : first_body w16 (let t = text_to (let r = s.row in r.side) came-there in t.come) ≡ Some body
   front-there = ap (first_body w16) come-there ∙ alone.front body few
@@ -251,9 +220,12 @@ module _ (alone : FramesAlone) (w : World) (i : ℕ) (id : EndId) (body : List �
       ∙ there (first_body w16 (let t = text_to (let r = s.row in r.side) came-there in t.come)) body _ front-there)))
 
   quiet-v : QuietIn v
-  quiet-v = quiet-twice w.conns s.conn (change_to (let r = s.row in r.side) body_taken) (change_to (let r = s.row in r.side) (after_delivery (2 + length body))) s.there s.at
-      (quiet-taken (let r = s.row in r.side) (2 + length body) s.there (quiet-get w.conns s.conn s.there s.at h)
-      (ap (after_first w16) (comes-whole (text_to (let r = s.row in r.side) s.there) body s.rest (quiet-text (let r = s.row in r.side) s.there (quiet-get w.conns s.conn s.there s.at h)) s.said) ∙ alone.behind body few)) h
+  quiet-v = let side = (let r = s.row in r.side) in let n = 2 + length body in
+      subst AreQuiet (sym (place-twice s.conn (change_to side (after_delivery n)) (change_to side body_taken) w.conns))
+      (quiet-at s.conn (λ k. change_to side body_taken (change_to side (after_delivery n) k)) w.conns
+      (λ k at. subst (λ k. IsQuiet (change_to side body_taken (change_to side (after_delivery n) k))) (same_Some s.there k (sym s.at ∙ at))
+      (quiet-taken side n s.there (h s.conn s.there s.at)
+      (ap (after_first w16) (comes-whole (text_to side s.there) body s.rest (quiet-text side s.there (h s.conn s.there s.at)) s.said) ∙ alone.behind body few))) h)
 
   quiet-takes : (fresh : ℕ) → AllApply (happening.Take i id fresh ∷ []) z → QuietIn (happens z (happening.Take i id fresh))
   quiet-takes fresh a = quiet-happens z (happening.Take i id fresh) (subst (λ (o : Option World). IfSome o QuietIn) (sym (takes fresh)) (quiet-noted v quiet-v s.place (event.Frame id body) fresh)) a
@@ -322,4 +294,4 @@ take-theirs alone all count ks w (t ∷ ts) h f =
 
 -- in histories of one world each line takes its very body
 pub all-take-theirs : FramesAlone → (cs : List Closed) (ts : List NodeLine) → AreOfOneWorld cs ts → TakeTheirs ts (length cs) [] (audit.world_before_lines cs) ts
-all-take-theirs alone cs ts f = take-theirs alone ts (length cs) [] (audit.world_before_lines cs) ts (quiet-begins (empty (setups_of cs)) 0 (setups_of cs) tt) f.followed
+all-take-theirs alone cs ts f = take-theirs alone ts (length cs) [] (audit.world_before_lines cs) ts (quiet-begins (empty (setups_of cs)) 0 (setups_of cs) (λ c k at. absurd cc)) f.followed

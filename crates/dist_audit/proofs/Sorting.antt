@@ -1,16 +1,16 @@
 -- Lines in the order of their tickets: there is one list of them where tickets rise and none stands twice.
-use Rattle.std.proofs.Common.{◌≡◌, ◌∙◌, ℕ, suc, ◌+◌, ◌<◌, ◌≤◌, ◌==◌, ◌⊎◌, inl, inr, eqb, ltb, Bool, true, false, not, ◌&&◌, List, [], ◌∷◌, ◌++◌, map, refl, sym, ap, subst, arith}
-use Rattle.std.specs.List.{AllByRecursion, IsDistinct, All, list_any}
-use Rattle.std.specs.List.Sorted.{IsPermutation, IsNonDecreasingBy}
-use Rattle.std.proofs.lemmas.Bool.Decides.{nat_tests}
+use Rattle.dist_audit.proofs.Words.{◌≡◌, ℕ, suc, ◌<◌, ◌≤◌, ltb, ◌&&◌, List, [], ◌∷◌, ◌++◌, refl, sym, ap, subst, ◌∙◌, arith, Bool, true, false, list_any}
+use Rattle.dist_audit.proofs.Words.{IsDistinct, inl, inr, Closed, lines_by_node, falls, twice, eqb, not, NodeLine, nat_tests, AllByRecursion, IsPermutation}
+use Rattle.dist_audit.proofs.Words.{IsPermutation-sym, IsDistinct-head, IsDistinct-tail, IsDistinct-cons, IsDistinct-IsPermutation, AreLinesOf, Line}
+use Rattle.dist_audit.proofs.Words.{has_ticket, has_ticket_in}
+use Rattle.dist_audit.specs.Faults.{rises, rises_in, starts_above}
+use Rattle.dist_audit.specs.Lines.{lines_at, lines_from, ticket_of}
+use Rattle.std.proofs.Common.{map, ◌⊎◌, ◌==◌}
 use Rattle.std.proofs.lemmas.List.Elements.{All-from_recursion, recursion_from_All}
-use Rattle.std.proofs.lemmas.List.Sorted.{All-permutation, IsPermutation-sym, IsPermutation-trans, IsPermutation-map}
-use Rattle.std.proofs.lemmas.Map.Keys.{IsDistinct-head, IsDistinct-tail, IsDistinct-cons, IsDistinct-IsPermutation}
-use Rattle.dist_locked_book.specs.declared.line.Line.{Line}
-use Rattle.dist_locked_book.specs.declared.closing.Closed.{Closed}
-use Rattle.dist_audit.specs.Lines.{NodeLine, ticket_of, lines_at, lines_from, lines_by_node, AreLinesOf}
-use Rattle.dist_audit.specs.Faults.{starts_above, rises, rises_in, falls, has_ticket, has_ticket_in, twice}
-use Rattle.dist_audit.proofs.Either.{left-false, right-false, distinct-none}
+use Rattle.std.proofs.lemmas.List.Sorted.{All-permutation, IsPermutation-map, IsPermutation-trans}
+use Rattle.std.specs.List.{All}
+use Rattle.std.specs.List.Sorted.{IsNonDecreasingBy}
+use Rattle.dist_audit.proofs.Either.{distinct-none, left-false, right-false}
 
 -- x is one of these
 abbrev Has : {X : Type 0} → X → List X → Type 0

@@ -1,12 +1,8 @@
 -- Tickets that stand twice.
-use Rattle.std.proofs.Common.{◌≡◌, ℕ, zero, suc, ◌-◌, ◌<◌, ◌≤◌, Bool, true, false, ◌||◌, List, [], ◌∷◌, ap, sym, ◌∙◌, length, get_or, drop, drop-cons, arith}
-use Rattle.std.specs.Ordering.{nat_cmp}
-use Rattle.std.specs.List.{list_any}
+use Rattle.dist_audit.proofs.Words.{◌≡◌, ℕ, suc, ◌<◌, ◌≤◌, List, [], ◌∷◌, length, sym, ap, ◌∙◌, arith, Bool, true, false, ◌||◌, list_any, Closed, twice, zero}
+use Rattle.dist_audit.proofs.Words.{◌-◌, get_or, drop, drop-cons, nat_cmp, Line, has_ticket, has_ticket_in}
 use Rattle.std.specs.BTreeSet.{BTreeSet, contains}
-use Rattle.dist_locked_book.specs.declared.line.Line.{Line}
-use Rattle.dist_locked_book.specs.declared.closing.Closed.{Closed}
-use Rattle.dist_audit.proofs.Either.{or-true, or-false, any-same}
-use Rattle.dist_audit.specs.Faults.{has_ticket, has_ticket_in, twice}
+use Rattle.dist_audit.proofs.Either.{any-same, or-false, or-true}
 
 -- what is true of a part of the nodes is true of all
 twice-drop : (i : ℕ) (cs : List Closed) → twice (drop i cs) ≡ true → twice cs ≡ true

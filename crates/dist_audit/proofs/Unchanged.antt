@@ -1,20 +1,10 @@
 -- No history changes a setup.
-use Rattle.std.proofs.Common.{◌≡◌, ℕ, suc, Bool, true, false, cond, List, [], ◌∷◌, ◌++◌, length, Option, Some, None, option_to_list, sym, subst}
-use Rattle.std.specs.List.{AllByRecursion}
-use Rattle.dist_peers.specs.declared.entry.EndId.{EndId}
-use Rattle.dist_core_setup.specs.declared.setup.Setup.{Setup}
-use Rattle.dist_core.specs.declared.event.Event.{Event}
-use Rattle.dist_core.specs.declared.event.Event.TheVariants as event
-use Rattle.dist_locked_book.specs.declared.closing.Closed.{Closed}
-use Rattle.dist_world_model.specs.declared.happening.Happening.{Happening}
-use Rattle.dist_world_model.specs.World.{World, empty}
-use Rattle.dist_world_model.specs.Run.{run}
+use Rattle.dist_audit.proofs.Words.{◌≡◌, ℕ, suc, cond, List, [], ◌∷◌, ◌++◌, length, Option, Some, None, sym, subst, Setup, Happening, World, empty, begins}
+use Rattle.dist_audit.proofs.Words.{Bool, true, false, Closed, setups_of, option_to_list, EndId, Event, run, NodeLine, is_among, dialler_of, with_mentions}
+use Rattle.dist_audit.proofs.Words.{reach, reach_first, before, own, AllByRecursion, of_lines, world_of, ahead, happenings, itself}
 use Rattle.dist_world_model.specs.Laws.{AllLives}
 use Rattle.dist_world_model.specs.OwnSetups.{AreNoResets, HasSetDigests, IsNoReset, IsSetUp}
-use Rattle.dist_audit.specs.Lines.{NodeLine}
-use Rattle.dist_audit.specs.Links.{dialler_of, is_among}
-use Rattle.dist_audit.specs.Happenings.{ahead, before, begins, happenings, itself, of_lines, own, reach, reach_first, setups_of, with_mentions}
-use Rattle.dist_audit.specs.Audit.{world_of}
+use Rattle.dist_core.specs.declared.event.Event.TheVariants as event
 
 -- what is known of runs in which no setup is changed
 pub record KeepsSetups : Type 0 where

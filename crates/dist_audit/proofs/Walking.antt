@@ -1,15 +1,12 @@
 -- Lines that are followed, one on.
-use Rattle.std.proofs.Common.{◌≡◌, ℕ, suc, ◌+◌, ◌<◌, List, [], ◌∷◌, ◌++◌, option_to_list, refl, ap, sym, subst, inl, inr, ◌∙◌, length, get_or, drop, drop-cons, add-one, add_assoc, length-append, arith}
-use Rattle.dist_world_model.specs.declared.happening.Happening.{Happening}
-use Rattle.dist_locked_book.specs.declared.closing.Closed.{Closed}
-use Rattle.dist_world_model.specs.World.{World, empty}
-use Rattle.dist_world_model.specs.Run.{run, count_applied, one_where}
-use Rattle.dist_world_model.specs.Happenings.{happens, applied_at}
-use Rattle.dist_audit.specs.declared.audit_error.AuditError.{AuditError}
+use Rattle.dist_audit.proofs.Words.{◌≡◌, ℕ, suc, ◌+◌, ◌<◌, List, [], ◌∷◌, ◌++◌, length, refl, sym, ap, subst, ◌∙◌, arith, length-append, Happening, World}
+use Rattle.dist_audit.proofs.Words.{empty, applied_at, happens, one_where, begins, AllApply, inl, inr, Closed, AuditError, setups_of, option_to_list, run}
+use Rattle.dist_audit.proofs.Words.{AreFollowed, AreOfOneWorld, after, NodeLine, with_mentions, get_or, drop, drop-cons, of_lines, Refutes, StopsAt}
+use Rattle.dist_audit.proofs.Words.{UnlessShort, world_before_lines, ahead, happenings, itself}
+use Rattle.dist_audit.specs.Audit.{IsFollowed, RefusesLine}
+use Rattle.dist_world_model.specs.Run.{count_applied}
+use Rattle.std.proofs.Common.{add-one, add_assoc}
 use Rattle.dist_audit.specs.declared.audit_error.AuditError.TheVariants as error
-use Rattle.dist_audit.specs.Lines.{NodeLine}
-use Rattle.dist_audit.specs.Happenings.{setups_of, begins, happenings, of_lines, ahead, itself, with_mentions}
-use Rattle.dist_audit.specs.Audit.{AllApply, IsFollowed, AreFollowed, AreOfOneWorld, after, world_before_lines, Refutes, RefusesLine, StopsAt, UnlessShort}
 
 pub run-append : (xs ys : List Happening) (w : World) → run (xs ++ ys) w ≡ run ys (run xs w)
 run-append [] ys w = refl

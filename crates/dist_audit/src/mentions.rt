@@ -1,4 +1,4 @@
-//! The numbers of connections.
+//! Numbers connections for the audit: each link gets the next number when a history mentions it first.
 ghost use Rattle.std.specs.Prelude.{◌≡◌, ◌∷◌, ◌++◌, [], false, OnOk};
 ghost use Rattle.dist_audit.specs.Links.{link_in, is_among, mention, conn_of};
 
@@ -71,7 +71,7 @@ impl Mentioned {
         }
     }
 
-    /// The links mentioned so far and one more event.
+    /// Adds the link that the event mentions, if it mentions one that is new.
     pub fn mention(&mut self, event: &Event) -> Result<(), AllocError>
         ensures { OnOk result (self.new ≡ mention self.old (link_in event.now)) }
     {

@@ -1,5 +1,5 @@
 -- A history of calls of all kinds on a guest is a run of its node.
-use Rattle.std.proofs.Common.{◌≡◌, ◌==◌, ℕ, true, false, List, [], ◌∷◌, ◌++◌, Option, Result, Ok, Err, refl, sym, ap, subst, ◌∙◌, if◌then◌else◌}
+use Rattle.std.proofs.Common.{◌≡◌, ◌==◌, ℕ, Bool, true, false, map, List, [], ◌∷◌, ◌++◌, Option, Result, Ok, Err, refl, sym, ap, subst, ◌∙◌, if◌then◌else◌}
 use Rattle.dist_core.specs.declared.changing.ChangeError.{ChangeError}
 use Rattle.dist_core.specs.declared.changing.ChangeError.TheVariants as change_error
 use Rattle.dist_core.specs.declared.event.Event.{Event}
@@ -15,12 +15,12 @@ use Rattle.dist_core.specs.Changing.{change, IsChange}
 use Rattle.dist_core.specs.Node.{NodeState}
 use Rattle.std.specs.List.{count_by}
 use Rattle.dist_core_ends.specs.Ends.{is_open}
-use Rattle.dist_core.specs.Runs.{node_after, opening}
+use Rattle.dist_core.specs.Runs.{node_after, opening, run}
 use Rattle.dist_world_model.proofs.Lookups.{eqb-not}
 use Rattle.dist_core.specs.Step.{step}
 use Rattle.dist_c_guest.specs.declared.guest.Guest.{Guest}
 use Rattle.dist_c_guest.specs.Calls.{IsCall, node_letting, answer_after}
-use Rattle.dist_c_guest.specs.Histories.{AnyCall, Step_call, Change_call, Widened_call, Form_call, Forget_call, Renew_call, IsAnyHistory, IsMade, act_of, acts_of, change_lacked, guest_after, has_lacked, is_short_of_memory}
+use Rattle.dist_c_guest.specs.Histories.{AnyCall, Call, Step_call, Change_call, Widened_call, Form_call, Forget_call, Renew_call, IsAnyHistory, IsHistory, IsMade, act_of, acts_of, events_of, change_lacked, guest_after, has_lacked, is_short_of_memory}
 
 abbrev node_of : Guest → NodeState
 node_of g = g.node
@@ -48,12 +48,7 @@ module _ (xs : List Act) (first after last : Guest) (ih : last.node ≡ run_acts
     by_step : (a : Result (Unit {0}) StepError) → IsCall v a (step first.node v fresh) first after → last.node ≡ run_acts (begun a (acts.Steps v fresh) xs) first.node
     by_step (Ok u) (r, is, kept, heard, same) = goes (acts.Steps v fresh) (ap (node_after first.node) is)
     by_step (Err error.NoMemory) (h, same) = lacks same
-    by_step (Err error.NoSuchEnd) (h, same) = refused error.NoSuchEnd h same
-    by_step (Err (error.Gone w)) (h, same) = refused (error.Gone w) h same
-    by_step (Err error.WrongPhase) (h, same) = refused error.WrongPhase h same
-    by_step (Err (error.Busy e)) (h, same) = refused (error.Busy e) h same
-    by_step (Err error.Spent) (h, same) = refused error.Spent h same
-    by_step (Err error.Full) (h, same) = refused error.Full h same
+    by_step (Err e) (h, same) = refused e h same
 
   -- other names might connect for a step, and are given back
   module _ (v : Event) (fresh : ℕ) (names : Option (List Name)) where
@@ -76,12 +71,7 @@ module _ (xs : List Act) (first after last : Guest) (ih : last.node ≡ run_acts
     by_wide : (a : Result (Unit {0}) StepError) → IsCall v a (answer_after first.node made_wide) first after → last.node ≡ run_acts (if is_short_of_memory a then xs else three first.node.setup.allow xs) first.node
     by_wide (Ok u) (r, is, kept, heard, same) = wide (ap (node_after first.node) is)
     by_wide (Err error.NoMemory) (h, same) = lacks same
-    by_wide (Err error.NoSuchEnd) (h, same) = refused_wide error.NoSuchEnd h same
-    by_wide (Err (error.Gone w)) (h, same) = refused_wide (error.Gone w) h same
-    by_wide (Err error.WrongPhase) (h, same) = refused_wide error.WrongPhase h same
-    by_wide (Err (error.Busy e)) (h, same) = refused_wide (error.Busy e) h same
-    by_wide (Err error.Spent) (h, same) = refused_wide error.Spent h same
-    by_wide (Err error.Full) (h, same) = refused_wide error.Full h same
+    by_wide (Err e) (h, same) = refused_wide e h same
 
     by_wide_back : (back : Option (List Name)) (a : Result (Unit {0}) StepError) → back ≡ first.node.setup.allow → IsCall v a (answer_after first.node made_wide) first after → last.node ≡ run_acts (if is_short_of_memory a then xs else three back xs) first.node
     by_wide_back back a is h = subst (λ (l : Option (List Name)). last.node ≡ run_acts (if is_short_of_memory a then xs else three l xs) first.node) (sym is) (by_wide a h)
@@ -92,9 +82,8 @@ module _ (xs : List Act) (first after last : Guest) (ih : last.node ≡ run_acts
 
     by_change : (a : Result (Unit {0}) ChangeError) → IsChange a (change first.node v) first.node after.node → last.node ≡ run_acts (begun_by a (acts.Changes v) xs) first.node
     by_change (Ok u) is = goes (acts.Changes v) (ap (changed_or first.node) is)
-    by_change (Err change_error.InUse) (h, same) = unchanged change_error.InUse h same
-    by_change (Err change_error.Full) (h, same) = unchanged change_error.Full h same
     by_change (Err change_error.NoMemory) (h, same) = ih ∙ ap (run_acts xs) same
+    by_change (Err e) (h, same) = unchanged e h same
 
 made : (c : AnyCall) (xs : List Act) (first last : Guest) → IsMade c first → last.node ≡ run_acts xs (guest_after c).node → last.node ≡ run_acts (if has_lacked c then xs else act_of c ++ xs) first.node
 made (Step_call c) xs first last h ih = by_step xs first c.after last ih c.event c.fresh c.answer h
@@ -110,3 +99,16 @@ made (Renew_call false after) xs first last h ih =
 pub a-run-of-acts : (calls : List AnyCall) (first last : Guest) → IsAnyHistory calls first last → last.node ≡ run_acts (acts_of calls) first.node
 a-run-of-acts [] first last h = ap node_of h
 a-run-of-acts (c ∷ cs) first last (h, rest) = made c (acts_of cs) first last h (a-run-of-acts cs (guest_after c) last rest)
+
+-- steps alone
+steps-run : (cs : List Call) (n : NodeState) → run_acts (acts_of (map Step_call cs)) n ≡ run (events_of cs) n
+steps-run [] n = refl
+steps-run (c ∷ cs) n = by (is_short_of_memory c.answer) (steps-run cs)
+  where
+    by : (b : Bool) → ((m : NodeState) → run_acts (acts_of (map Step_call cs)) m ≡ run (events_of cs) m)
+        → run_acts (if b then acts_of (map Step_call cs) else acts.Steps c.event c.fresh ∷ acts_of (map Step_call cs)) n ≡ run (if b then events_of cs else (c.event, c.fresh) ∷ events_of cs) n
+    by true more = more n
+    by false more = more (node_after n (step n c.event c.fresh))
+
+pub a-run : (calls : List Call) (first last : Guest) → IsHistory calls first last → last.node ≡ run (events_of calls) first.node
+a-run calls first last h = a-run-of-acts (map Step_call calls) first last h ∙ steps-run calls first.node

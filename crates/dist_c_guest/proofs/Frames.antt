@@ -52,9 +52,7 @@ module _ (n : NodeState) (names : Option (List Name)) (id : EndId) (empty body :
   by_end : (o : Option End) → Alike (step_result n v (at_end o (λ e. framed_from n id 0 empty e (sender_to e)))) (step_result m w (at_end o (λ e. framed_from m id fresh body e (sender_to e))))
   by_end None = refl
   by_end (Some (ends.Closed c)) = refl
-  by_end (Some ends.Unnamed) = by_side ends.Unnamed (sender_to ends.Unnamed)
-  by_end (Some (ends.Attempt a)) = by_side (ends.Attempt a) (sender_to (ends.Attempt a))
-  by_end (Some (ends.Up r)) = by_side (ends.Up r) (sender_to (ends.Up r))
+  by_end (Some e) = by_side e (sender_to e)
 
   alike : Alike (step n v 0) (step m w fresh)
   unfolding effect_of
@@ -64,34 +62,18 @@ at_want : (s t : Answer) → IsOk s → Alike s t → IsOk t
 at_want (Ok x) t o a = a
 at_want (Err x) t o a = absurd (false≢true o)
 
-notified : (s t : Answer) (e : StepError) → s ≡ Err e → Alike s t → t ≡ Err e
-notified s t e is a = subst (λ (z : Answer). Alike z t) is a
-
 refuses : (e : StepError) (s t : Answer) → Refuses e s → Alike s t → Refuses e t
 refuses error.NoMemory s t h a = at_want s t h a
-refuses error.NoSuchEnd s t h a = notified s t error.NoSuchEnd h a
-refuses (error.Gone w) s t h a = notified s t (error.Gone w) h a
-refuses error.WrongPhase s t h a = notified s t error.WrongPhase h a
-refuses (error.Busy x) s t h a = notified s t (error.Busy x) h a
-refuses error.Spent s t h a = notified s t error.Spent h a
-refuses error.Full s t h a = notified s t error.Full h a
+refuses e s t h a = subst (λ (z : Answer). Alike z t) h a
 
 -- the answer with the names given back is refused alike
 ok-back : (n : NodeState) (s : Answer) → IsOk s → IsOk (answer_after n s)
 ok-back n (Ok x) o = o
 ok-back n (Err e) o = absurd (false≢true o)
 
-err-back : (n : NodeState) (s : Answer) (e : StepError) → s ≡ Err e → answer_after n s ≡ Err e
-err-back n s e is = ap (answer_after n) is
-
-pub refuses-back : (n : NodeState) (e : StepError) (s : Answer) → Refuses e s → Refuses e (answer_after n s)
+refuses-back : (n : NodeState) (e : StepError) (s : Answer) → Refuses e s → Refuses e (answer_after n s)
 refuses-back n error.NoMemory s h = ok-back n s h
-refuses-back n error.NoSuchEnd s h = err-back n s error.NoSuchEnd h
-refuses-back n (error.Gone w) s h = err-back n s (error.Gone w) h
-refuses-back n error.WrongPhase s h = err-back n s error.WrongPhase h
-refuses-back n (error.Busy x) s h = err-back n s (error.Busy x) h
-refuses-back n error.Spent s h = err-back n s error.Spent h
-refuses-back n error.Full s h = err-back n s error.Full h
+refuses-back n e s h = ap (answer_after n) h
 
 module _ (g : Guest) (id : EndId) (empty body : List ℕ) (fresh : ℕ) where
   abbrev came : List ℕ

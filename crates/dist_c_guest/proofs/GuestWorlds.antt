@@ -34,7 +34,7 @@ run-append : (hs gs : List Happening) (w : World) → run (hs ++ gs) w ≡ run g
 run-append [] gs w = refl
 run-append (h ∷ hs) gs w = run-append hs gs (happens w h)
 
-fit-append : (hs gs : List Happening) → AllByRecursion Fits hs → AllByRecursion Fits gs → AllByRecursion Fits (hs ++ gs)
+pub fit-append : (hs gs : List Happening) → AllByRecursion Fits hs → AllByRecursion Fits gs → AllByRecursion Fits (hs ++ gs)
 fit-append [] gs a b = b
 fit-append (h ∷ hs) gs a b = (a.0, fit-append hs gs a.1 b)
 

@@ -3,7 +3,6 @@ pub mod Frames
 pub mod GivenBack
 pub mod Pending
 pub mod Places
-pub mod Runs
 pub mod Spelled
 pub mod WholeBodies
 pub mod GuestWorlds

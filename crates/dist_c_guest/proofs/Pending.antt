@@ -1,5 +1,6 @@
 -- The end that is given up first is open, so that it can always be lost.
 use Rattle.std.proofs.Common.{◌≡◌, ◌≢◌, ℕ, suc, Bool, true, false, cond, List, [], ◌∷◌, Option, Some, None, option_map, slice_get, Result, Ok, Err, IsOk, refl, sym, ap, subst, ◌∙◌}
+use Rattle.std.specs.Option.{option_or}
 use Rattle.dist_peers.specs.declared.entry.EndId.{EndId}
 use Rattle.dist_core_ends.specs.declared.known.End.{End}
 use Rattle.dist_core_ends.specs.declared.known.End.TheVariants as ends
@@ -17,7 +18,7 @@ use Rattle.dist_core.specs.Effects.{closes}
 use Rattle.dist_core.specs.Step.{step, step_result, at_end, effect_of}
 use Rattle.dist_c_guest.specs.declared.guest.Guest.{Guest}
 use Rattle.dist_c_guest.specs.Calls.{IsCall}
-use Rattle.dist_c_guest.specs.Room.{MakesRoom, first_to_go, gives_way, or_else, room_for}
+use Rattle.dist_c_guest.specs.Room.{MakesRoom, first_to_go, gives_way, room_for}
 
 abbrev Answer : Type 0
 Answer = Result (Reply × NodeState) StepError
@@ -65,18 +66,14 @@ module _ (kind : End → Bool) (opens : (e : End) → kind e ≡ true → is_ope
   oldest-open es x is = numbered es (first_of kind es) x is (first-open es)
 
 pending-open : (e : End) → is_pending e ≡ true → is_open e ≡ true
-pending-open ends.Unnamed h = refl
-pending-open (ends.Attempt a) h = refl
-pending-open (ends.Up r) h = absurd cc
 pending-open (ends.Closed w) h = absurd cc
+pending-open e h = refl
 
 unnamed-open : (e : End) → is_unnamed e ≡ true → is_open e ≡ true
 unnamed-open ends.Unnamed h = refl
-unnamed-open (ends.Attempt a) h = absurd cc
-unnamed-open (ends.Up r) h = absurd cc
-unnamed-open (ends.Closed w) h = absurd cc
+unnamed-open e h = absurd cc
 
-either-open : (es : List End) (o : Option EndId) (x : EndId) → (o ≡ some_id x → IsOpenAt es x.0) → (oldest_pending es ≡ some_id x → IsOpenAt es x.0) → or_else o (oldest_pending es) ≡ some_id x → IsOpenAt es x.0
+either-open : (es : List End) (o : Option EndId) (x : EndId) → (o ≡ some_id x → IsOpenAt es x.0) → (oldest_pending es ≡ some_id x → IsOpenAt es x.0) → option_or o (oldest_pending es) ≡ some_id x → IsOpenAt es x.0
 either-open es None x first second is = second is
 either-open es (Some y) x first second is = first is
 
@@ -86,10 +83,8 @@ first-is-open es x is = either-open es (oldest_unnamed es) x (oldest-open is_unn
 -- ---- its loss
 
 loses-end : (n : NodeState) (x : EndId) (w : Why) (e : End) → is_open e ≡ true → IsOk (step_result n (event.Lost x w) (at_end (Some e) (λ _. Ok (closes x w))))
-loses-end n x w ends.Unnamed h = refl
-loses-end n x w (ends.Attempt a) h = refl
-loses-end n x w (ends.Up r) h = refl
 loses-end n x w (ends.Closed v) h = absurd cc
+loses-end n x w e h = refl
 
 loses : (n : NodeState) (x : EndId) (w : Why) → IsOpenAt n.ends x.0 → IsOk (step n (event.Lost x w) 0)
 unfolding effect_of
@@ -98,12 +93,7 @@ loses n x w h = subst (λ (o : Option End). IsOk (step_result n (event.Lost x w)
 denied : (e : StepError) (s : Answer) → IsOk s → e ≢ error.NoMemory → Refuses e s → ⊥
 denied e (Err x) o other h = absurd cc
 denied error.NoMemory (Ok x) o other h = other refl
-denied error.NoSuchEnd (Ok x) o other h = absurd cc
-denied (error.Gone w) (Ok x) o other h = absurd cc
-denied error.WrongPhase (Ok x) o other h = absurd cc
-denied (error.Busy y) (Ok x) o other h = absurd cc
-denied error.Spent (Ok x) o other h = absurd cc
-denied error.Full (Ok x) o other h = absurd cc
+denied e (Ok x) o other h = absurd cc
 
 abbrev refused : StepError → Result (Unit {0}) StepError
 refused e = Err e
@@ -117,13 +107,8 @@ made v (Err e) s old new o other h = absurd (denied e s o (λ (is : e ≡ error.
 
 first-of : (s : Answer) (o : Option EndId) (x : EndId) → gives_way s o ≡ some_id x → o ≡ Some x
 first-of (Ok y) o x is = absurd cc
-first-of (Err error.NoMemory) o x is = absurd cc
-first-of (Err error.NoSuchEnd) o x is = absurd cc
-first-of (Err (error.Gone w)) o x is = absurd cc
-first-of (Err error.WrongPhase) o x is = absurd cc
-first-of (Err (error.Busy y)) o x is = absurd cc
-first-of (Err error.Spent) o x is = absurd cc
 first-of (Err error.Full) o x is = is
+first-of (Err e) o x is = absurd cc
 
 -- a call that was made on a guest which reads alike
 read-alike : (v : Event) (s : Answer) (old mid new : Guest) → mid.reading ≡ old.reading → IsCall v (Ok tt) s mid new → IsCall v (Ok tt) s old new

@@ -1,9 +1,10 @@
 -- Forms: texts that each let many names connect, as OTP's net_kernel:allow/1 takes them. A text without an `@` is a host, and
 -- stands for every node of that host. One whose last byte is its only `@` is a node's name without its host, and stands for
 -- that node at any host.
-use Rattle.std.specs.Prelude.{ℕ, ◌+◌, Bool, ◌||◌, not, ◌==◌, nat_lt, nat_le, if◌then◌else◌, List, []}
+use Rattle.std.specs.Prelude.{ℕ, ◌+◌, Bool, ◌||◌, not, ◌==◌, nat_lt, nat_le, if◌then◌else◌, List}
 use Rattle.std.specs.Prelude.{length, take, Option, Some, None, option_and_then, Result, Ok, Err}
 use Rattle.std.specs.List.{list_all}
+use Rattle.std.specs.Result.{result_ok}
 use Rattle.dist_names.specs.declared.name_error.NameError.{NameError}
 use Rattle.dist_names.specs.declared.name_error.NameError.TheVariants.{TooShort, TooLong, BadByte}
 use Rattle.dist_names.specs.Bytes.{is_visible}
@@ -12,7 +13,6 @@ use Rattle.dist_names.specs.Order.{Name, is_listed}
 use Rattle.dist_messages.specs.declared.message.Side.TheVariants.{Dialler}
 use Rattle.dist_messages.specs.declared.message.Message.{Message}
 use Rattle.dist_messages.specs.declared.message.Message.TheVariants as message
-use Rattle.dist_messages.specs.declared.message_error.MessageError.{MessageError}
 use Rattle.dist_messages.specs.Reading.{read}
 use Rattle.dist_core_setup.specs.Changing.{with_name}
 
@@ -47,24 +47,11 @@ sent_name (message.NewName f c p) = Some p
 sent_name (message.OldName f p) = Some p
 sent_name _ = None
 
-abbrev pub name_from_message : Result Message MessageError → Option (List ℕ)
-name_from_message (Ok m) = sent_name m
-name_from_message (Err e) = None
-
-abbrev pub good : Result Name NameError → Option Name
-good (Ok p) = Some p
-good (Err e) = None
-
 -- the name that a body brings, where it brings one
 abbrev pub name_in : List ℕ → Option Name
-name_in body = option_and_then (λ p. good (name_of_bytes p)) (name_from_message (read Dialler body))
+name_in body = option_and_then (λ p. result_ok (name_of_bytes p)) (option_and_then sent_name (result_ok (read Dialler body)))
 
 -- ---- the list with which the node is asked
-
--- these names, or others in their place
-abbrev pub instead : Option (List Name) → Option (List Name) → Option (List Name)
-instead None allow = allow
-instead (Some names) allow = Some names
 
 -- the names that may connect, and this one where a form stands for it; where all may, all still may
 abbrev pub letting : List (List ℕ) → Option (List Name) → Option Name → Option (List Name)
@@ -76,8 +63,3 @@ letting forms (Some names) (Some p) = if stand_for forms p then Some (with_name 
 -- stands for it. Without forms those that may
 abbrev pub allowed_names : List (List ℕ) → List ℕ → Option (List Name) → Option (List Name)
 allowed_names forms body allow = if length forms == 0 then allow else letting forms allow (name_in body)
-
--- some names may connect and no other, where it was not so
-abbrev pub or_nobody : Option (List Name) → Option (List Name)
-or_nobody None = Some []
-or_nobody (Some names) = Some names

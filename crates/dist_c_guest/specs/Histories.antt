@@ -1,5 +1,5 @@
 -- Histories of calls on a guest.
-use Rattle.std.specs.Prelude.{◌≡◌, ◌≢◌, ℕ, count_by, Bool, true, false, List, [], ◌∷◌, ◌++◌, Option, Result, Err, if◌then◌else◌}
+use Rattle.std.specs.Prelude.{◌≡◌, ◌≢◌, ℕ, count_by, Bool, true, false, List, [], ◌∷◌, ◌++◌, map, Option, Result, Err, if◌then◌else◌}
 use Rattle.dist_core_ends.specs.Ends.{is_open}
 use Rattle.dist_core.specs.declared.event.Event.{Event}
 use Rattle.dist_core.specs.declared.step_error.StepError.{StepError}
@@ -22,11 +22,6 @@ pub record Call : Type 0 where
   pub fresh : ℕ
   pub answer : Result (Unit {0}) StepError
   pub after : Guest
-
--- these calls were made one after another, from the first guest to the last
-abbrev pub IsHistory : List Call → Guest → Guest → Type 0
-IsHistory [] first last = last ≡ first
-IsHistory (c ∷ cs) first last = IsCall c.event c.answer (step first.node c.event c.fresh) first c.after × IsHistory cs c.after last
 
 -- whether memory ran out
 abbrev pub is_short_of_memory : Result (Unit {0}) StepError → Bool
@@ -88,6 +83,10 @@ abbrev pub IsAnyHistory : List AnyCall → Guest → Guest → Type 0
 IsAnyHistory [] first last = last ≡ first
 IsAnyHistory (c ∷ cs) first last = IsMade c first × IsAnyHistory cs (guest_after c) last
 
+-- the same, where all are steps
+abbrev pub IsHistory : List Call → Guest → Guest → Type 0
+IsHistory calls = IsAnyHistory (map Step_call calls)
+
 -- whether memory ran out for a change
 abbrev pub change_lacked : Result (Unit {0}) ChangeError → Bool
 change_lacked (Err change_error.NoMemory) = true
@@ -98,9 +97,7 @@ abbrev pub has_lacked : AnyCall → Bool
 has_lacked (Step_call c) = is_short_of_memory c.answer
 has_lacked (Change_call v answer after) = change_lacked answer
 has_lacked (Widened_call names back c) = is_short_of_memory c.answer
-has_lacked (Form_call names after) = false
-has_lacked (Forget_call below after) = false
-has_lacked (Renew_call answer after) = false
+has_lacked _ = false
 
 -- what a call asks for
 abbrev pub act_of : AnyCall → List Act

@@ -1,12 +1,12 @@
 -- What the calls that change the setup of a guest's node do, between two calls.
-use Rattle.std.specs.Prelude.{◌≡◌, ℕ, List, Result}
+use Rattle.std.specs.Prelude.{◌≡◌, ℕ, List, [], Some, Result}
+use Rattle.std.specs.Option.{option_or}
 use Rattle.dist_names.specs.Order.{Name}
 use Rattle.dist_core_setup.specs.Changing.{allowing, disallowing, with_name, without_name}
 use Rattle.dist_core.specs.declared.changing.ChangeError.{ChangeError}
 use Rattle.dist_core.specs.declared.changing.Change.{Change}
 use Rattle.dist_core.specs.declared.changing.Change.TheVariants.{Allow}
 use Rattle.dist_core.specs.Changing.{IsChange, after_change, change}
-use Rattle.dist_c_guest.specs.Forms.{or_nobody}
 use Rattle.dist_c_guest.specs.declared.guest.Guest.{Guest}
 
 -- The call made the node's change, or was refused as the node refuses it. What the newest step returned and received stays.
@@ -20,7 +20,8 @@ lets_in g p = Allow (allowing g.node.setup.allow p)
 -- every peer may connect for which this form stands, beside those that might; where all might, they alone
 abbrev pub with_form : Guest → List ℕ → Guest
 with_form g form =
-    record g { node = after_change g.node (Allow (or_nobody g.node.setup.allow)); reading = record g.reading { forms = with_name g.reading.forms form } }
+    let names = option_or g.node.setup.allow (Some []) in
+    record g { node = after_change g.node (Allow names); reading = record g.reading { forms = with_name g.reading.forms form } }
 
 -- this form is kept no more
 abbrev pub without_form : Guest → List ℕ → Guest

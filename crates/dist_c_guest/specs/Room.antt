@@ -1,5 +1,6 @@
 -- Which end makes room for a newcomer.
 use Rattle.std.specs.Prelude.{◌≡◌, List, Option, Some, None, Result, Ok, Err}
+use Rattle.std.specs.Option.{option_or}
 use Rattle.dist_peers.specs.declared.entry.EndId.{EndId}
 use Rattle.dist_core_ends.specs.Ends.{oldest_pending, oldest_unnamed}
 use Rattle.dist_core_ends.specs.declared.known.End.{End}
@@ -14,14 +15,9 @@ use Rattle.dist_core.specs.Step.{step}
 use Rattle.dist_c_guest.specs.declared.guest.Guest.{Guest}
 use Rattle.dist_c_guest.specs.Calls.{IsCall}
 
--- the first of two, where it is there
-abbrev pub or_else : Option EndId → Option EndId → Option EndId
-or_else None other = other
-or_else (Some x) other = Some x
-
 -- THE END THAT IS GIVEN UP FIRST: the oldest on which no name came, and where there is none the oldest that is not up
 abbrev pub first_to_go : List End → Option EndId
-first_to_go es = or_else (oldest_unnamed es) (oldest_pending es)
+first_to_go es = option_or (oldest_unnamed es) (oldest_pending es)
 
 -- this end, where the definition refuses an event as full
 abbrev pub gives_way : Result (Reply × NodeState) StepError → Option EndId → Option EndId

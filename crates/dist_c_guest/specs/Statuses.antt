@@ -1,6 +1,7 @@
 -- The statuses that a step received and sent.
 use Rattle.std.specs.Prelude.{ℕ, List, Option, Some, None, Result, Ok, option_and_then}
 use Rattle.std.specs.Int.{w16}
+use Rattle.std.specs.Option.{option_or}
 use Rattle.dist_frames.specs.Stream.{first_body}
 use Rattle.dist_messages.specs.declared.message.Side.TheVariants.{Dialler, Acceptor}
 use Rattle.dist_messages.specs.declared.message.Status.{Status}
@@ -17,14 +18,9 @@ abbrev pub status_in : Result Message MessageError → Option Status
 status_in (Ok (message.Status s)) = Some s
 status_in _ = None
 
--- what the accepting side sends, or else what the dialling side does
-abbrev pub either : Option Status → Option Status → Option Status
-either (Some s) o = Some s
-either None o = o
-
 -- THE STATUS THAT A BODY SPELLS, sent by either side: no text is that of a status of both
 abbrev pub status_of : List ℕ → Option Status
-status_of body = either (status_in (read Acceptor body)) (status_in (read Dialler body))
+status_of body = option_or (status_in (read Acceptor body)) (status_in (read Dialler body))
 
 -- the status that a step receives: that of the frame which it takes
 abbrev pub status_received : Event → Option Status

@@ -1,9 +1,10 @@
 //! How a node is asked of a name for which a form stands: with that name in its list, which is given back afterwards.
-ghost use Rattle.std.specs.Prelude.{◌≡◌, IfOk, Some};
+ghost use Rattle.std.specs.Prelude.{◌≡◌, IfOk};
+ghost use Rattle.std.specs.Option.{option_or};
 ghost use Rattle.dist_core.specs.Answers.{GivesReply};
 ghost use Rattle.dist_core.specs.Step.{step};
 ghost use Rattle.dist_c_guest.specs.Calls.{IsCall, node_letting, answer_after};
-ghost use Rattle.dist_c_guest.specs.Forms.{instead, name_in, sent_name, allowed_names};
+ghost use Rattle.dist_c_guest.specs.Forms.{name_in, sent_name, allowed_names};
 
 use crate::forms::Forms;
 use crate::guest::Guest;
@@ -53,7 +54,7 @@ pub fn wider(
     allow: &Option<NameList>,
     body: &[u8],
 ) -> Result<Option<NameList>, AllocError>
-    ensures { IfOk result (λ names. instead names allow.now ≡ allowed_names forms.now body.now allow.now) }
+    ensures { IfOk result (λ names. option_or names allow.now ≡ allowed_names forms.now body.now allow.now) }
 {
     let Some(names) = allow else {
         return Ok(None);
@@ -83,12 +84,17 @@ impl Guest {
         fresh: u32,
     ) -> Result<(), StepError>
         ensures { IsCall event.now result
-            (answer_after self.old.node (step (node_letting self.old.node (instead names self.old.node.setup.allow)) event.now fresh))
+            (answer_after self.old.node (step (node_letting self.old.node (option_or names self.old.node.setup.allow)) event.now fresh))
             self.old self.new }
     {
         match names {
-            Some(names) => self.step_letting(alloc, names, event, fresh),
             None => self.step(alloc, event, fresh),
+            Some(names) => {
+                let before = self.node.set_allow(Some(names));
+                let result = self.step(alloc, event, fresh);
+                let _ = self.node.set_allow(before);
+                result
+            }
         }
     }
 
@@ -101,45 +107,17 @@ impl Guest {
         fresh: u32,
     ) -> Result<Reply, StepError>
         ensures reply { GivesReply result
-            (answer_after self.old.node (step (node_letting self.old.node (instead names self.old.node.setup.allow)) event.now fresh)) }
+            (answer_after self.old.node (step (node_letting self.old.node (option_or names self.old.node.setup.allow)) event.now fresh)) }
         ensures same { self.new ≡ self.old }
     {
         match names {
-            Some(names) => self.answer_letting(alloc, names, event, fresh),
             None => self.node.answer(alloc, event, fresh),
+            Some(names) => {
+                let before = self.node.set_allow(Some(names));
+                let result = self.node.answer(alloc, event, fresh);
+                let _ = self.node.set_allow(before);
+                result
+            }
         }
-    }
-
-    // Makes the step while these names may connect in place of those that may otherwise.
-    fn step_letting(
-        &mut self,
-        alloc: Global,
-        names: NameList,
-        event: &Event,
-        fresh: u32,
-    ) -> Result<(), StepError>
-        ensures { IsCall event.now result (answer_after self.old.node (step (node_letting self.old.node (Some names)) event.now fresh)) self.old self.new }
-    {
-        let before = self.node.set_allow(Some(names));
-        let result = self.step(alloc, event, fresh);
-        let _ = self.node.set_allow(before);
-        result
-    }
-
-    // What `step_letting` would return, which changes nothing.
-    fn answer_letting(
-        &mut self,
-        alloc: Global,
-        names: NameList,
-        event: &Event,
-        fresh: u32,
-    ) -> Result<Reply, StepError>
-        ensures reply { GivesReply result (answer_after self.old.node (step (node_letting self.old.node (Some names)) event.now fresh)) }
-        ensures same { self.new ≡ self.old }
-    {
-        let before = self.node.set_allow(Some(names));
-        let result = self.node.answer(alloc, event, fresh);
-        let _ = self.node.set_allow(before);
-        result
     }
 }

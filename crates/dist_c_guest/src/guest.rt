@@ -2,10 +2,11 @@
 ghost use Rattle.std.specs.Prelude.{◌≡◌, ◌≢◌, ℕ, List, None, Err, IfOk, IsTrue};
 ghost use Rattle.dist_core.specs.Answers.{GivesReply, Refuses};
 ghost use Rattle.dist_core.specs.Losses.{is_loss};
+ghost use Rattle.std.specs.Option.{option_or};
 ghost use Rattle.std.specs.Int.{w16};
 ghost use Rattle.dist_core.specs.Step.{step};
 ghost use Rattle.dist_frames.specs.Stream.{first_body};
-ghost use Rattle.dist_c_guest.specs.Forms.{instead, allowed_names};
+ghost use Rattle.dist_c_guest.specs.Forms.{allowed_names};
 ghost use Rattle.dist_c_guest.specs.Reading.{expansion};
 ghost use Rattle.dist_c_guest.specs.Calls.{IsCall, IsForeseen, IsReceived, answer_to, first_guest, frame_to};
 
@@ -71,7 +72,7 @@ impl Guest {
     // The body as it is read, and the names that may connect where they aren't the node's own.
     fn read(&self, alloc: Global, body: &[u8]) -> Result<(ByteString, Option<NameList>), AllocError>
         ensures { IfOk result (λ x. (x.0 ≡ expansion self.now.reading.mandatory.0 body.now)
-            × (instead x.1 self.now.node.setup.allow ≡ allowed_names self.now.reading.forms x.0 self.now.node.setup.allow)) }
+            × (option_or x.1 self.now.node.setup.allow ≡ allowed_names self.now.reading.forms x.0 self.now.node.setup.allow)) }
     {
         let body = expand(alloc, self.reading.mandatory, body)?;
         let names = wider(

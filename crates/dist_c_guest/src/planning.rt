@@ -2,7 +2,6 @@
 ghost use Rattle.std.specs.Prelude.{◌≡◌, OnOk, OnErr, IfErr, Ok};
 ghost use Rattle.dist_core_setup.specs.Changing.{allowing};
 ghost use Rattle.dist_core.specs.declared.changing.Change.TheVariants as changes;
-ghost use Rattle.dist_c_guest.specs.Forms.{or_nobody};
 ghost use Rattle.dist_c_guest.specs.Planning.{Changes, lets_in, shuts_out, with_form, without_form};
 
 use crate::guest::Guest;
@@ -24,16 +23,6 @@ fn let_in(alloc: Global, allow: &mut Option<NameList>, peer: NodeName) -> Result
             *allow = Some(names);
             Ok(())
         }
-    }
-}
-
-// The names that may connect, of which there are none where all might.
-fn limit_names(alloc: Global, allow: Option<NameList>) -> Option<NameList>
-    ensures { result ≡ or_nobody allow }
-{
-    match allow {
-        Some(names) => Some(names),
-        None => Some(NameList::from_vec(Vec::new(alloc))),
     }
 }
 
@@ -82,7 +71,8 @@ impl Guest {
         if self.reading.forms.add(form).is_err() {
             return Err(ChangeError::NoMemory);
         }
-        let names = limit_names(alloc, self.node.set_allow(None));
+        let nobody = NameList::from_vec(Vec::new(alloc));
+        let names = self.node.set_allow(None).or(Some(nobody));
         let _ = self.node.set_allow(names);
         Ok(())
     }

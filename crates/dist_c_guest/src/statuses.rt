@@ -21,7 +21,6 @@ fn status_by(alloc: Global, side: Side, body: &[u8]) -> Option<Status>
 }
 
 /// The status that a body spells, sent by either side.
-
 pub fn status_of(alloc: Global, body: &[u8]) -> Option<Status>
     ensures { result ≡ status_of body.now }
 {

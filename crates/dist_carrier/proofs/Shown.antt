@@ -1,6 +1,6 @@
 -- Every shown end is up, and a guard's node is a run.
-use Rattle.std.proofs.Common.{◌≡◌, ℕ, zero, suc, Bool, true, false, eqb, List, [], ◌∷◌, ◌++◌, Option, Some, None, is_some, Result, Ok, Err, refl, sym, ap, ◌∙◌, subst, slice_get, if◌then◌else◌, ◌==◌, ◌<◌, arith}
-use Rattle.std.proofs.lemmas.Bool.{false≢true, eqb-true}
+use Rattle.std.proofs.Common.{◌≡◌, ℕ, zero, suc, Bool, true, false, not, ◌&&◌, eqb, inl, inr, List, [], ◌∷◌, ◌++◌, Option, Some, None, is_some, Result, Ok, Err, refl, sym, ap, ◌∙◌, subst, slice_get, if◌then◌else◌, ◌==◌, ◌<◌, arith}
+use Rattle.std.proofs.lemmas.Bool.{and_parts, eqb-true, false≢true, not-true, or_cases}
 use Rattle.std.proofs.lemmas.Option.{some_pair_parts}
 use Rattle.std.specs.List.{count_by}
 use Rattle.dist_names.specs.Order.{Name}
@@ -30,24 +30,19 @@ use Rattle.dist_core.specs.Node.{NodeState}
 use Rattle.dist_core.specs.Runs.{node_after, opening}
 use Rattle.dist_core.specs.Step.{after, at_end, effect_of, step, step_result}
 use Rattle.dist_core_laws.proofs.Succeeding.{has-effect, lost-closed}
-use Rattle.dist_carrier.specs.Guard.{Guard, Told, Asks, Shows, Gone, AreUp, acts_asked, acts_guarded, acts_run, closes_up_end, first_guard, guarded, held_reply, is_up_end, let_by, node_asked, run_guard, with_end}
+use Rattle.dist_carrier.specs.Guard.{Guard, Told, Asks, Shows, Gone, AreUp, acts_asked, acts_guarded, acts_run, closes_up_end, first_guard, guarded, held_reply, is_up_end, run_guard}
 use Rattle.dist_carrier.proofs.UpStays.{Shuts, up-stays}
 
 pub up-record : (o : Option End) → is_up_end o ≡ true → (r : UpRecord) × (o ≡ Some (ends.Up r))
-up-record None h = absurd (false≢true h)
-up-record (Some ends.Unnamed) h = absurd (false≢true h)
-up-record (Some (ends.Attempt a)) h = absurd (false≢true h)
 up-record (Some (ends.Up r)) h = (r, refl)
-up-record (Some (ends.Closed w)) h = absurd (false≢true h)
+up-record o h = absurd (false≢true h)
 
 -- ---- a loss closes its own end alone
 
 closed-by : (x : EndId) (w : Why) (o : Option End) (f : Effect) → at_end o (λ e. Ok (closes x w)) ≡ Ok f → closes x w ≡ f
 closed-by x w None f is = absurd cc
-closed-by x w (Some ends.Unnamed) f is = cc
-closed-by x w (Some (ends.Attempt a)) f is = cc
-closed-by x w (Some (ends.Up r)) f is = cc
 closed-by x w (Some (ends.Closed c)) f is = absurd cc
+closed-by x w (Some e) f is = cc
 
 loss-closes : (n : NodeState) (x : EndId) (w : Why) (f : Effect) → effect_of n (event.Lost x w) 0 ≡ Ok f → closes x w ≡ f
 unfolding effect_of
@@ -94,13 +89,15 @@ module _ (n : NodeState) (legal : AreLegal n.ends) (i : ℕ) (k : UpRecord) (up 
       by (Err e) is = up
       by (Ok (r, m)) is = by-step (event.Lost x w) 0 r m is (other r m is)
 
-  by-rule : (v : Event) (fresh : ℕ) (s : Result (Reply × NodeState) StepError) → step n v fresh ≡ s → slice_get (let m = let_by n s in m.ends) i ≡ Some (ends.Up k)
-  by-rule v fresh (Err e) is = up
+  by-rule : (v : Event) (fresh : ℕ) (s : Result (Reply × NodeState) StepError) → step n v fresh ≡ s → slice_get (let m = run_acts (if is_some (held_reply n s) then [] else Steps v fresh ∷ []) n in m.ends) i ≡ Some (ends.Up k)
+  by-rule v fresh (Err e) is = ap (λ (s : Result (Reply × NodeState) StepError). slice_get (let m = node_after n s in m.ends) i) is ∙ up
   by-rule v fresh (Ok (r, m)) is = by (closes_up_end n r.closed) refl
     where
-      by : (b : Bool) → closes_up_end n r.closed ≡ b → slice_get (let q = (if is_some (if b then Some r else None) then n else m) in q.ends) i ≡ Some (ends.Up k)
+      by : (b : Bool) → closes_up_end n r.closed ≡ b → slice_get (let q = run_acts (if is_some (if b then Some r else None) then [] else Steps v fresh ∷ []) n in q.ends) i ≡ Some (ends.Up k)
       by true held = up
-      by false free = by-step v fresh r m is (λ shut. false≢true (sym free ∙ shut-up r.closed shut))
+      by false free =
+          ap (λ (s : Result (Reply × NodeState) StepError). slice_get (let q = node_after n s in q.ends) i) is
+          ∙ by-step v fresh r m is (λ shut. false≢true (sym free ∙ shut-up r.closed shut))
 
   renewed : (b : Bool) → (count_by is_open n.ends == 0) ≡ b → slice_get (let m = (if b then opening n.setup else n) in m.ends) i ≡ Some (ends.Up k)
   renewed true none =
@@ -108,7 +105,7 @@ module _ (n : NodeState) (legal : AreLegal n.ends) (i : ℕ) (k : UpRecord) (up 
       absurd (omega (arith, some, eqb-true (count_by is_open n.ends) 0 none))
   renewed false some = up
 
-  asked-up : Lasting → (a : Act) → slice_get (let m = node_asked n a in m.ends) i ≡ Some (ends.Up k)
+  asked-up : Lasting → (a : Act) → slice_get (let m = run_acts (acts_asked n a) n in m.ends) i ≡ Some (ends.Up k)
   asked-up lasting (Steps v fresh) = by-rule v fresh (step n v fresh) refl
   asked-up lasting (Changes v) = ap (λ (es : List End). slice_get es i) (lasting n v) ∙ up
   asked-up lasting (Forgets below) = forgotten-up k below n.ends i up
@@ -117,28 +114,16 @@ module _ (n : NodeState) (legal : AreLegal n.ends) (i : ℕ) (k : UpRecord) (up 
 -- ---- what a guard is told
 
 module _ (lasting : Lasting) (g : Guard) (legal : AreLegal g.node.ends) (all : AreUp g) where
-  one-more : (x : EndId) → is_up_end (slice_get g.node.ends x.0) ≡ true → AreUp (record g { shown = with_end g.shown x })
-  one-more x is i s = by (x.0 == i) refl s
-    where
-      by : (b : Bool) → (x.0 == i) ≡ b → (if b then true else g.shown i) ≡ true → (r : UpRecord) × (slice_get g.node.ends i ≡ Some (ends.Up r))
-      by true one t = let u = up-record (slice_get g.node.ends x.0) is in (u.0, ap (slice_get g.node.ends) (sym (eqb-true x.0 i one)) ∙ u.1)
-      by false apart t = all i t
-
-  shows-up : (x : EndId) (b : Bool) → is_up_end (slice_get g.node.ends x.0) ≡ b → AreUp (if b then record g { shown = with_end g.shown x } else g)
-  shows-up x true is = one-more x is
-  shows-up x false is = all
-
-  gone-up : (x : EndId) (w : Why) → AreUp (guarded g (Gone x w))
-  gone-up x w i s = by (x.0 == i) refl s
-    where
-      by : (b : Bool) → (x.0 == i) ≡ b → (if b then false else g.shown i) ≡ true → (r : UpRecord) × (slice_get (let m = act g.node (Steps (event.Lost x w) 0) in m.ends) i ≡ Some (ends.Up r))
-      by true one t = absurd (false≢true t)
-      by false apart t = let u = all i t in (u.0, by-loss g.node legal i u.0 u.1 x w apart)
-
   told-up : (t : Told) → AreUp (guarded g t)
-  told-up (Asks a) = λ i s. let u = all i s in (u.0, asked-up g.node legal i u.0 u.1 lasting a)
-  told-up (Shows x) = shows-up x (is_up_end (slice_get g.node.ends x.0)) refl
-  told-up (Gone x w) = gone-up x w
+  told-up (Asks a) i s = let u = all i s in (u.0, asked-up g.node legal i u.0 u.1 lasting a)
+  told-up (Shows x) i s = elim (or_cases (x.0 == i && is_up_end (slice_get g.node.ends i)) (g.shown i) s) [
+    | inl new ↦ up-record (slice_get g.node.ends i) (and_parts (x.0 == i) (is_up_end (slice_get g.node.ends i)) new).1
+    | inr old ↦ all i old
+  ]
+  told-up (Gone x w) i s =
+      let p = and_parts (not (x.0 == i)) (g.shown i) s in
+      let u = all i p.1 in
+      (u.0, by-loss g.node legal i u.0 u.1 x w (not-true (x.0 == i) p.0))
 
 -- ---- its node is the run of what was not held
 
@@ -146,28 +131,9 @@ append : (xs ys : List Act) (n : NodeState) → run_acts (xs ++ ys) n ≡ run_ac
 append [] ys n = refl
 append (x ∷ xs) ys n = append xs ys (act n x)
 
-asked-run : (n : NodeState) (a : Act) → node_asked n a ≡ run_acts (acts_asked n a) n
-asked-run n (Steps v fresh) = by (is_some (held_reply n (step n v fresh)))
-  where
-    by : (b : Bool) → (if b then n else node_after n (step n v fresh)) ≡ run_acts (if b then [] else Steps v fresh ∷ []) n
-    by true = refl
-    by false = refl
-asked-run n (Changes v) = refl
-asked-run n (Forgets below) = refl
-asked-run n Renews = refl
-
-guarded-run : (g : Guard) (t : Told) → (let k = guarded g t in k.node) ≡ run_acts (acts_guarded g t) g.node
-guarded-run g (Asks a) = asked-run g.node a
-guarded-run g (Shows x) = by (is_up_end (slice_get g.node.ends x.0))
-  where
-    by : (b : Bool) → (let k = (if b then record g { shown = with_end g.shown x } else g) in k.node) ≡ g.node
-    by true = refl
-    by false = refl
-guarded-run g (Gone x w) = refl
-
 pub run-is-run : (ts : List Told) (g : Guard) → (let k = run_guard ts g in k.node) ≡ run_acts (acts_run ts g) g.node
 run-is-run [] g = refl
-run-is-run (t ∷ ts) g = run-is-run ts (guarded g t) ∙ ap (run_acts (acts_run ts (guarded g t))) (guarded-run g t) ∙ sym (append (acts_guarded g t) (acts_run ts (guarded g t)) g.node)
+run-is-run (t ∷ ts) g = run-is-run ts (guarded g t) ∙ sym (append (acts_guarded g t) (acts_run ts (guarded g t)) g.node)
 
 -- ---- all that a guard is told
 
@@ -179,7 +145,7 @@ shown-from legals lasting s [] xs g is all = all
 shown-from legals lasting s (t ∷ ts) xs g is all =
     let legal : AreLegal g.node.ends = subst (λ (n : NodeState). AreLegal n.ends) (sym is) (legals s xs) in
     let more : (let k = guarded g t in k.node) ≡ run_acts (xs ++ acts_guarded g t) (opening s) =
-    guarded-run g t ∙ ap (run_acts (acts_guarded g t)) is ∙ sym (append xs (acts_guarded g t) (opening s)) in
+    ap (run_acts (acts_guarded g t)) is ∙ sym (append xs (acts_guarded g t) (opening s)) in
     shown-from legals lasting s ts (xs ++ acts_guarded g t) (guarded g t) more (told-up lasting g legal all t)
 
 pub shown-up : Legals → Lasting → (s : Setup) (ts : List Told) → AreUp (run_guard ts (first_guard s))
@@ -188,11 +154,9 @@ shown-up legals lasting s ts = shown-from legals lasting s ts [] (first_guard s)
 -- ---- one of a peer
 
 one-up : (o : Option Entry) (i j : ℕ) → names Up i o ≡ true → names Up j o ≡ true → i ≡ j
-one-up None i j h k = absurd (false≢true h)
-one-up (Some (entry.Out x)) i j h k = absurd (false≢true h)
-one-up (Some (entry.In x)) i j h k = absurd (false≢true h)
 one-up (Some (entry.Up x)) i j h k = sym (eqb-true x.0 i h) ∙ eqb-true x.0 j k
 one-up (Some (entry.Challenged x y)) i j h k = sym (eqb-true x.0 i h) ∙ eqb-true x.0 j k
+one-up o i j h k = absurd (false≢true h)
 
 named-up : (n : NodeState) → AreLegal n.ends → (i : ℕ) (r : UpRecord) → slice_get n.ends i ≡ Some (ends.Up r) → names Up i (entry_in n.ends r.peer) ≡ true
 named-up n legal i r up = sym (legal r.peer Up i) ∙ ap (is_held r.peer Up) up ∙ self-same r.peer
@@ -213,4 +177,4 @@ gone-closed g x w r up =
     ∙ lost-closed g.node x w 0 (let f = closes x w in f.reply) (after g.node (event.Lost x w) (closes x w)) made
 
 pub gone-hidden : (g : Guard) (x : EndId) (w : Why) → (let k = guarded g (Gone x w) in k.shown x.0) ≡ false
-gone-hidden g x w = ap (λ (b : Bool). if b then false else g.shown x.0) (same x.0)
+gone-hidden g x w = ap (λ (b : Bool). not b && g.shown x.0) (same x.0)

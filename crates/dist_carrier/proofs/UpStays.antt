@@ -108,7 +108,7 @@ module _ (n : NodeState) (legal : AreLegal n.ends) (x : EndId) (kept : UpRecord)
     by-row v fresh f (Fails id body d side y is at to sp says k) e = absurd (nothing f x s (ap other_in k) e)
     by-row v fresh f (Hears id body d side m is at to sp says h) e = by-heard id fresh d m f h e
 
-  -- ---- its own end: it is as it was, or it is reported as closed
+  -- ---- its own end: it is as it was, where it is not reported as closed
 
   -- what stood at this place
   stood : (id : EndId) (d : End) → id ≡ x → slice_get n.ends id.0 ≡ Some d → d ≡ ends.Up kept
@@ -121,31 +121,27 @@ module _ (n : NodeState) (legal : AreLegal n.ends) (x : EndId) (kept : UpRecord)
       let bad : None ≡ Some (ends.Up kept) = sym none ∙ ap (λ (z : EndId). slice_get n.ends z.0) same ∙ up in
       absurd cc
 
-  data OwnEnd (f : Effect) : Type 0 where
-    Stays : f.this ≡ ends.Up kept → OwnEnd f
-    Shut : Shuts f.reply.closed x → OwnEnd f
-
-  own-end : (v : Event) (fresh : ℕ) (f : Effect) → f.reply.end_ ≡ x → StepRow n v fresh f → OwnEnd f
-  own-end v fresh f same (Dials p o is idle sp full cr k) =
+  own-end : (v : Event) (fresh : ℕ) (f : Effect) → (Shuts f.reply.closed x → ⊥) → f.reply.end_ ≡ x → StepRow n v fresh f → f.this ≡ ends.Up kept
+  own-end v fresh f unshut same (Dials p o is idle sp full cr k) =
       let at : f.reply.end_.0 ≡ length n.ends = ap (λ (g : Effect). g.reply.end_.0) k in
       absurd (past f.reply.end_ at same)
-  own-end v fresh f same (Comes_in link is sp cr k) =
+  own-end v fresh f unshut same (Comes_in link is sp cr k) =
       let at : f.reply.end_.0 ≡ length n.ends = ap (λ (g : Effect). g.reply.end_.0) k in
       absurd (past f.reply.end_ at same)
-  own-end v fresh f same (Begins id link b is at ph sp k) =
+  own-end v fresh f unshut same (Begins id link b is at ph sp k) =
       let bad : ends.Attempt b ≡ ends.Up kept = stood id (ends.Attempt b) (sym (ap (λ (g : Effect). g.reply.end_) k) ∙ same) at in absurd cc
-  own-end v fresh f same (Ceases id link b is at ph sp k) =
+  own-end v fresh f unshut same (Ceases id link b is at ph sp k) =
       let bad : ends.Attempt b ≡ ends.Up kept = stood id (ends.Attempt b) (sym (ap (λ (g : Effect). g.reply.end_) k) ∙ same) at in absurd cc
-  own-end v fresh f same (Loses id w d is at opened k) =
+  own-end v fresh f unshut same (Loses id w d is at opened k) =
       let own : id ≡ x = sym (ap (λ (g : Effect). g.reply.end_) k) ∙ same in
-      Shut (w, ap closed_in k ∙ ap (λ (z : EndId). Some (z, w)) own)
-  own-end v fresh f same (Ticks id r is at sp k) =
+      absurd (unshut (w, ap closed_in k ∙ ap (λ (z : EndId). Some (z, w)) own))
+  own-end v fresh f unshut same (Ticks id r is at sp k) =
       let own : ends.Up r ≡ ends.Up kept = stood id (ends.Up r) (sym (ap (λ (g : Effect). g.reply.end_) k) ∙ same) at in
-      Stays (ap (λ (g : Effect). g.this) k ∙ own)
-  own-end v fresh f same (Fails id body d side y is at to sp says k) =
+      ap (λ (g : Effect). g.this) k ∙ own
+  own-end v fresh f unshut same (Fails id body d side y is at to sp says k) =
       let own : d ≡ ends.Up kept = stood id d (sym (ap (λ (g : Effect). g.reply.end_) k) ∙ same) at in
       let bad : None ≡ Some side = sym (ap sender_to own) ∙ to in absurd cc
-  own-end v fresh f same (Hears id body d side m is at to sp says h) =
+  own-end v fresh f unshut same (Hears id body d side m is at to sp says h) =
       let own : d ≡ ends.Up kept = stood id d (sym (heard-end n id fresh d m f h) ∙ same) at in
       let bad : None ≡ Some side = sym (ap sender_to own) ∙ to in absurd cc
 
@@ -155,18 +151,8 @@ module _ (n : NodeState) (legal : AreLegal n.ends) (x : EndId) (kept : UpRecord)
     row : StepRow n v fresh f
     row = of_ok (StepRow n v fresh) (effect_of n v fresh) f is (row_of n v fresh)
 
-    this-one : f.reply.end_ ≡ x → f.this ≡ ends.Up kept
-    this-one same = by (own-end v fresh f same row)
-      where
-        by : OwnEnd f → f.this ≡ ends.Up kept
-        by (Stays k) = k
-        by (Shut h) = absurd (unshut h)
-
-    whole : (y : EndId) → y.0 ≡ x.0 → y ≡ x
-    whole y e = ap end_id e
-
     by-own : (b : Bool) → (f.reply.end_.0 == x.0) ≡ b → (if b then Some f.this else slice_get n.ends x.0) ≡ Some (ends.Up kept)
-    by-own true same = ap (λ (d : End). Some d) (this-one (whole f.reply.end_ (eqb-true f.reply.end_.0 x.0 same)))
+    by-own true same = ap (λ (d : End). Some d) (own-end v fresh f unshut (ap end_id (eqb-true f.reply.end_.0 x.0 same)) row)
     by-own false apart = up
 
     by-other : (o : Option (EndId × End)) → f.other ≡ o → other_view o (λ i. if f.reply.end_.0 == i then Some f.this else slice_get n.ends i) x.0 ≡ Some (ends.Up kept)
@@ -174,7 +160,7 @@ module _ (n : NodeState) (legal : AreLegal n.ends) (x : EndId) (kept : UpRecord)
     by-other (Some (y, s)) there = by (y.0 == x.0) refl
       where
         by : (b : Bool) → (y.0 == x.0) ≡ b → (if b then Some s else (if f.reply.end_.0 == x.0 then Some f.this else slice_get n.ends x.0)) ≡ Some (ends.Up kept)
-        by true same = absurd (unshut (by-row s v fresh f row (there ∙ ap (λ (z : EndId). Some (z, s)) (whole y (eqb-true y.0 x.0 same)))))
+        by true same = absurd (unshut (by-row s v fresh f row (there ∙ ap (λ (z : EndId). Some (z, s)) (ap end_id (eqb-true y.0 x.0 same)))))
         by false apart = by-own (f.reply.end_.0 == x.0) refl
 
     pub up-stays : slice_get (ends_after n.ends f) x.0 ≡ Some (ends.Up kept)

@@ -1,6 +1,7 @@
 -- THE GUARD of a carrier. A host shows ends that are up to its users, as an Erlang emulator lists a peer among its nodes while the
 -- connection is there. So its node makes no step that would close an end that is up, until the host reports that connection as gone.
-use Rattle.std.specs.Prelude.{◌≡◌, ℕ, ◌==◌, Bool, true, false, if◌then◌else◌, List, [], ◌∷◌, ◌++◌, Option, Some, None, is_some, Result, Ok, Err, slice_get}
+use Rattle.std.specs.Prelude.{◌≡◌, ℕ, ◌==◌, Bool, true, false, not, ◌&&◌, ◌||◌, if◌then◌else◌, List, [], ◌∷◌, ◌++◌}
+use Rattle.std.specs.Prelude.{Option, Some, None, is_some, Result, Ok, Err, slice_get}
 use Rattle.dist_peers.specs.declared.entry.EndId.{EndId}
 use Rattle.dist_core_setup.specs.declared.setup.Setup.{Setup}
 use Rattle.dist_core_ends.specs.declared.why.Why.{Why}
@@ -14,10 +15,10 @@ use Rattle.dist_core.specs.declared.changing.Change.TheVariants.{Allow}
 use Rattle.dist_core.specs.declared.event.Event.TheVariants as event
 use Rattle.dist_core.specs.declared.reply.Reply.{Reply}
 use Rattle.dist_core.specs.declared.step_error.StepError.{StepError}
-use Rattle.dist_core.specs.Acts.{Act, act, Steps, Changes}
+use Rattle.dist_core.specs.Acts.{Act, run_acts, Steps, Changes}
 use Rattle.dist_core.specs.Answers.{Refuses}
 use Rattle.dist_core.specs.Node.{NodeState}
-use Rattle.dist_core.specs.Runs.{node_after, opening}
+use Rattle.dist_core.specs.Runs.{opening}
 use Rattle.dist_core.specs.Step.{step}
 use Rattle.dist_c_guest.specs.Calls.{IsCall, answer_to, frame_to}
 use Rattle.dist_c_guest.specs.Forms.{allowed_names}
@@ -44,10 +45,6 @@ abbrev pub held_reply : NodeState → Result (Reply × NodeState) StepError → 
 held_reply n (Err e) = None
 held_reply n (Ok x) = let r = x.0 in if closes_up_end n r.closed then Some r else None
 
--- the node after a step, which is not made where it is held
-abbrev pub let_by : NodeState → Result (Reply × NodeState) StepError → NodeState
-let_by n s = if is_some (held_reply n s) then n else node_after n s
-
 -- A FRAME AT A GUEST, under the rule: it was held, and nothing changed; or its step was made, or refused as ever
 abbrev pub IsGuarded : Result (Option Reply) StepError → EndId → List ℕ → ℕ → Guest → Guest → Type 0
 IsGuarded (Ok None) id body fresh old new =
@@ -70,35 +67,7 @@ pub data Told : Type 0 where
   -- the host shows this end no more, its connection is gone, and that is reported to the node
   Gone : (id : EndId) → (cause : Why) → Told
 
-abbrev pub with_end : (ℕ → Bool) → EndId → ℕ → Bool
-with_end shown x i = if x.0 == i then true else shown i
-
-abbrev pub without_end : (ℕ → Bool) → EndId → ℕ → Bool
-without_end shown x i = if x.0 == i then false else shown i
-
-abbrev pub node_asked : NodeState → Act → NodeState
-node_asked n (Steps v fresh) = let_by n (step n v fresh)
-node_asked n a = act n a
-
--- the guard once it is told this: an end is shown where it is up
-abbrev pub guarded : Guard → Told → Guard
-guarded g (Asks a) = record g { node = node_asked g.node a }
-guarded g (Shows x) = if is_up_end (slice_get g.node.ends x.0) then record g { shown = with_end g.shown x } else g
-guarded g (Gone x w) = record { node = act g.node (Steps (event.Lost x w) 0); shown = without_end g.shown x }
-
-abbrev pub run_guard : List Told → Guard → Guard
-run_guard [] g = g
-run_guard (t ∷ ts) g = run_guard ts (guarded g t)
-
--- nothing is shown of a node without ends
-abbrev pub first_guard : Setup → Guard
-first_guard s = record { node = opening s; shown = λ i. false }
-
--- EVERY SHOWN END IS UP in the node
-abbrev pub AreUp : Guard → Type 0
-AreUp g = (i : ℕ) → g.shown i ≡ true → (r : UpRecord) × (slice_get (let n = g.node in n.ends) i ≡ Some (ends.Up r))
-
--- what it makes the node do: what is held is not done
+-- WHAT A GUARD MAKES ITS NODE DO: what is held is not done
 abbrev pub acts_asked : NodeState → Act → List Act
 acts_asked n (Steps v fresh) = if is_some (held_reply n (step n v fresh)) then [] else Steps v fresh ∷ []
 acts_asked n a = a ∷ []
@@ -108,9 +77,31 @@ acts_guarded g (Asks a) = acts_asked g.node a
 acts_guarded g (Shows x) = []
 acts_guarded g (Gone x w) = Steps (event.Lost x w) 0 ∷ []
 
+-- which ends are shown then: one that is up, until it is gone
+abbrev pub shown_by : Guard → Told → ℕ → Bool
+shown_by g (Asks a) i = g.shown i
+shown_by g (Shows x) i = (x.0 == i && is_up_end (slice_get g.node.ends i)) || g.shown i
+shown_by g (Gone x w) i = not (x.0 == i) && g.shown i
+
+-- the guard once it is told this
+abbrev pub guarded : Guard → Told → Guard
+guarded g t = record { node = run_acts (acts_guarded g t) g.node; shown = shown_by g t }
+
+abbrev pub run_guard : List Told → Guard → Guard
+run_guard [] g = g
+run_guard (t ∷ ts) g = run_guard ts (guarded g t)
+
 abbrev pub acts_run : List Told → Guard → List Act
 acts_run [] g = []
 acts_run (t ∷ ts) g = acts_guarded g t ++ acts_run ts (guarded g t)
+
+-- nothing is shown of a node without ends
+abbrev pub first_guard : Setup → Guard
+first_guard s = record { node = opening s; shown = λ i. false }
+
+-- EVERY SHOWN END IS UP in the node
+abbrev pub AreUp : Guard → Type 0
+AreUp g = (i : ℕ) → g.shown i ≡ true → (r : UpRecord) × (slice_get g.node.ends i ≡ Some (ends.Up r))
 
 -- what the guard of a guest is told of a frame: the names for which the guest keeps a form may connect while it is taken
 abbrev pub told_of_frame : Guest → EndId → List ℕ → ℕ → List Told

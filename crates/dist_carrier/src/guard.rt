@@ -29,7 +29,7 @@ fn closes_up_end(node: &Node, closed: &Option<(EndId, Why)>) -> bool
 /// Makes the step of a frame with this body, as [`Guest::take`] does, unless it would close an end that is up: the old connection of a
 /// peer that has connected anew. Then the frame is held: nothing changes, and the reply that the step would have is returned, whose
 /// `closed` names that end. Once it was lost, the same frame is given again.
-#[tactic(auto, using(crate::proofs::Held::held_some, crate::proofs::Held::held_none))]
+#[tactic(auto, using(crate::proofs::Held::held_some))]
 pub fn take_guarded(
     guest: &mut Guest,
     alloc: Global,

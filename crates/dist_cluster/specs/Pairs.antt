@@ -1,5 +1,5 @@
 -- What can be said of two nodes from outside.
-use Rattle.std.specs.Prelude.{ℕ, ◌==◌, ◌&&◌, Bool, true, false, List, Option, Some, codes, if◌then◌else◌}
+use Rattle.std.specs.Prelude.{ℕ, ◌==◌, ◌&&◌, Bool, true, false, not, List, Option, Some, codes, if◌then◌else◌}
 use Rattle.dist_names.specs.Order.{same_name}
 use Rattle.dist_names.specs.declared.flags.Flags.{Flags}
 use Rattle.dist_flags.specs.Releases.{missing, release_of, required_by}
@@ -61,19 +61,14 @@ pair_cause pairing.OtherCookies = codes "they have different cookies: one takes 
 pair_cause pairing.Unsure = codes "names and flags agree; not both took our cookie, so theirs are not compared"
 pair_cause pairing.Agree = codes "names, flags and cookie agree"
 
--- something is wrong with the pair, so that it has a status of its own
-abbrev pub is_bad : Pairing → Bool
-is_bad pairing.NotReached = false
-is_bad pairing.Unsure = false
-is_bad pairing.Agree = false
-is_bad other = true
-
 -- the exit status: the place to look at
 abbrev pub pair_status : Pairing → ℕ
 pair_status pairing.SameName = 8
 pair_status pairing.LongAndShort = 9
-pair_status pairing.NotReached = 0
 pair_status (pairing.LacksFlags first second) = 8
 pair_status pairing.OtherCookies = 10
-pair_status pairing.Unsure = 0
-pair_status pairing.Agree = 0
+pair_status other = 0
+
+-- something is wrong with the pair, so that it has a status of its own
+abbrev pub is_bad : Pairing → Bool
+is_bad p = not (pair_status p == 0)

@@ -1,4 +1,5 @@
--- How many nodes came to each verdict, and how many pairs of nodes to each word.
+-- A summary of many probed nodes: how many have each verdict, and how many pairs have each word. A `Half` is what a probe found
+-- out about one node.
 use Rattle.std.specs.Prelude.{◌≡◌, ℕ, ◌+◌, ◌-◌, ◌*◌, ◌/◌, ◌^◌, ◌==◌, Bool, List, [], ◌∷◌, codes, count_by, length, map, min, if◌then◌else◌}
 use Rattle.dist_names.specs.Order.{same_name}
 use Rattle.dist_probe.specs.Words.{verdict_word}
@@ -56,7 +57,7 @@ verdict_counts halves = tallied (λ word. count_by (comes_to word) halves) verdi
 abbrev pub pair_counts : List Half → List (List ℕ × ℕ)
 pair_counts halves = tallied (how_many halves) pair_words
 
--- WHAT ALL NODES CAME TO: how many they are, and how many pairs they make (of at most 2^32 nodes), each with the words that occur
+-- THE SUMMARY: the number of nodes, and of their pairs (exact up to 2^32 nodes), each with the words that occur
 pub record Summarizes (halves : List Half) (s : Summary) : Type 0 where
   pub nodes : s.nodes ≡ length halves
   pub verdicts : shown_counts s.verdicts.items ≡ verdict_counts halves

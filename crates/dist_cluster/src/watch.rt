@@ -59,8 +59,8 @@ impl Watch {
             .is_some_and(|last| last.is_same(&seen.verdict))
     }
 
-    /// Takes an observation, and returns the change that it is. `None` where the target showed the same verdict last, and
-    /// then nothing changes.
+    /// Takes an observation and returns the change of verdict, or `None` if the target showed the same verdict last. Refuses a
+    /// target that the watch does not have first, then reports that memory ran out; a refusal changes nothing.
     pub fn observe(&mut self, seen: Observation) -> Result<Option<VerdictChange>, WatchError>
         ensures change { IfOk result (λ change. change ≡ report (verdict_of self.old seen.target) seen) }
         ensures after { OnOk result (self.new ≡ after_one self.old seen) }

@@ -7,7 +7,7 @@ use Rattle.clap.specs.Words.{Row, Text, fault_of, first_of, first_value, rows_of
 use Rattle.clap.specs.declared.parser.matches.Found.{Found}
 use Rattle.clap.proofs.WalkLemmas.{first_value-rows}
 use Rattle.dist_commands.specs.declared.order_of_words.Order.{Order}
-use Rattle.dist_commands.specs.declared.order_of_words.Order.TheVariants.{Enact, Cookie, Names, Run}
+use Rattle.dist_commands.specs.declared.order_of_words.Order.TheVariants.{Cookie, Run}
 use Rattle.dist_commands.specs.declared.order_of_words.OrderError.{OrderError}
 use Rattle.dist_commands.specs.declared.order_of_words.OrderError.TheVariants.{Bad, NoMemory}
 use Rattle.dist_commands.specs.CommandLine.{AsksWith, FoundBy, HasNumber, IsOrderOf, program_app}
@@ -31,9 +31,7 @@ number_left bits other o e = subst (λ v. HasNumber bits other v other) (sym e) 
 -- of four settings that are off or on, the third is off
 pub third_off : (a b c d : Bool) → (a && (b && (not c && d))) ≡ true → c ≡ false
 third_off true true false d e = refl
-third_off true true true d e = absurd cc
-third_off true false c d e = absurd cc
-third_off false b c d e = absurd cc
+third_off a b c d e = absurd cc
 
 -- the words are refused since memory ran out
 pub not_bad : (why : OrderError) → why ≡ NoMemory → why ≡ Bad → ⊥
@@ -54,13 +52,9 @@ apart o t a b = absurd cc
 
 -- without a file no order is that of the command `cookie`, and none is that of `run`
 pub no_cookie : (usual : ℕ) (rows : List Row) → first_of (codes "file") rows ≡ None → (order : Order) → IsOrderOf usual order (codes "cookie", rows) → ⊥
-no_cookie usual rows none Enact p = absurd cc
 no_cookie usual rows none (Cookie file challenge) p = apart _ _ none p.1
-no_cookie usual rows none (Names port) p = absurd cc
-no_cookie usual rows none (Run file) p = absurd cc
+no_cookie usual rows none other p = absurd cc
 
 pub no_run : (usual : ℕ) (rows : List Row) → first_of (codes "file") rows ≡ None → (order : Order) → IsOrderOf usual order (codes "run", rows) → ⊥
-no_run usual rows none Enact p = absurd cc
-no_run usual rows none (Cookie file challenge) p = absurd cc
-no_run usual rows none (Names port) p = absurd cc
 no_run usual rows none (Run file) p = apart _ _ none p.1
+no_run usual rows none other p = absurd cc

@@ -20,14 +20,7 @@ use Rattle.dist_commands.specs.declared.fault.Fault.TheVariants.{OpenFailed, NoC
 abbrev pub status_of : Fault → ℕ
 status_of BadCommandLine = 2
 status_of BadNodesFile = 2
-status_of (RunEnded error) = 1
-status_of ReadFailed = 1
-status_of WriteFailed = 1
-status_of OpenFailed = 1
-status_of (NoCookie error) = 1
-status_of ConnectFailed = 1
-status_of (NoAnswer error) = 1
-status_of NoMemory = 1
+status_of other = 1
 
 -- the text of a fault: its name, or that of the error in it
 abbrev pub fault_text : Fault → List ℕ
@@ -56,13 +49,10 @@ port_line error = line_of (port_error_text error)
 
 -- the fault of reading a nodes file, by that of reading a script: a text at fault is a bad nodes file
 abbrev pub fault_of : ScriptFault → Fault
-fault_of script.TooLong = BadNodesFile
-fault_of (script.BadLine number) = BadNodesFile
-fault_of script.NoNode = BadNodesFile
-fault_of script.SameName = BadNodesFile
 fault_of script.ReadFailed = ReadFailed
 fault_of script.WriteFailed = WriteFailed
 fault_of script.NoMemory = NoMemory
+fault_of other = BadNodesFile
 
 -- the fault of words that are not UTF-8: no command, unless memory ran out
 abbrev pub fault_of_text : TextError → Fault

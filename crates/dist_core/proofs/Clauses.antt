@@ -92,10 +92,8 @@ module _ (n : NodeState) where
   gone v fresh r h x w is at = refusal r (step n v fresh) (error.Gone w) h (ap (step_result n v) (stopped v fresh x (Some (ends.Closed w)) (error.Gone w) is at (λ f. refl)))
 
   open-end : (f : End → Result Effect StepError) (e : End) → is_open e ≡ true → at_end (Some e) f ≡ f e
-  open-end f ends.Unnamed h = refl
-  open-end f (ends.Attempt b) h = refl
-  open-end f (ends.Up r) h = refl
   open-end f (ends.Closed w) h = absurd cc
+  open-end f e h = refl
 
   loss-effect : (x : EndId) (w : Why) (fresh : ℕ) (e : End) → slice_get n.ends x.0 ≡ Some e → is_open e ≡ true → effect_of n (event.Lost x w) fresh ≡ Ok (closes x w)
   unfolding effect_of
@@ -113,10 +111,8 @@ module _ (n : NodeState) where
     where
       by : (o : Option End) → IfOk (at_end o (λ e. Ok (closes x w))) (λ (f : Effect). f ≡ closes x w)
       by None = tt
-      by (Some ends.Unnamed) = refl
-      by (Some (ends.Attempt b)) = refl
-      by (Some (ends.Up r)) = refl
       by (Some (ends.Closed y)) = tt
+      by (Some e) = refl
 
   from-effect : (v : Event) (q : Result Effect StepError) (P : Effect → Type 0) (r : Reply) → IfOk q P → reply_of (step_result n v q) ≡ Ok r → (f : Effect) × P f × (f.reply ≡ r)
   from-effect v (Ok f) P r h is = (f, h, let same : Ok f.reply ≡ Ok r = is in cc)

@@ -20,9 +20,7 @@ use Rattle.dist_core.proofs.Steps.{fits}
 -- what is done to an attempt is done at its end
 pub end-by : (es : List End) (id : EndId) (a : Attempt) (p : Progress) → (let f = effect_by es id a p in f.reply.end_) ≡ id
 end-by es id a (progress.Goes say to) = refl
-end-by es id a (progress.Replies say to) = refl
-end-by es id a (progress.Rises say r) = refl
-end-by es id a (progress.Shuts say w) = refl
+end-by es id a p = refl
 
 -- what an event does at the end that it names
 pub opened-effect : (n : NodeState) (id : EndId) (link fresh : ℕ) → effect_of n (event.Opened id link) fresh ≡ at_end (slice_get n.ends id.0) (opening_effect n id)

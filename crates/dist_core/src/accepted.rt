@@ -43,21 +43,19 @@ fn superseded_end(alloc: Global, ends: &Ends, id: EndId) -> Result<End, AllocErr
     }
 }
 
-// What is sent to a name that crossed an own dial, the attempt that it begins, and the name once more, for the note.
-#[derive(Drop)]
-struct NameAnswer {
+// The attempt that a name begins supersedes another end. The name is given once more, for the note.
+fn supersedes(
+    id: EndId,
     say: ByteString,
     attempt: Attempt,
     peer: NodeName,
-}
-
-// The attempt that a name begins supersedes another end.
-fn supersedes(id: EndId, answer: NameAnswer, x: EndId, crossed: End) -> Effect
-    ensures { answer.peer ≡ answer.attempt.peer → result ≡ supersedes id answer.say answer.attempt x crossed }
+    crossed: (EndId, End),
+) -> Effect
+    ensures { peer ≡ attempt.peer → result ≡ supersedes id say attempt crossed.0 crossed.1 }
 {
-    let NameAnswer { say, attempt, peer } = answer;
     let this = End::Attempt(attempt);
-    match crossed {
+    let (x, end) = crossed;
+    match end {
         End::Closed(why) => shuts_other(id, say, this, (x, why), note_of_name(peer)),
         doomed => {
             let dooms = Some(x);
@@ -66,21 +64,6 @@ fn supersedes(id: EndId, answer: NameAnswer, x: EndId, crossed: End) -> Effect
             effect
         }
     }
-}
-
-// The attempt that a name begins crossed an own dial, which is given up.
-fn crosses(
-    alloc: Global,
-    ends: &Ends,
-    id: EndId,
-    answer: NameAnswer,
-    x: EndId,
-) -> Result<Effect, AllocError>
-    ensures { answer.peer ≡ answer.attempt.peer
-        → IfOk result (λ f. f ≡ supersedes id answer.say answer.attempt x (superseded_end (slice_get ends.now x.0))) }
-{
-    let crossed = superseded_end(alloc, ends, x)?;
-    Ok(supersedes(id, answer, x, crossed))
 }
 
 // The attempt, waiting for `true` before it sends the challenge.
@@ -140,13 +123,8 @@ impl Node {
         match verdict {
             Verdict::Ok => Ok(goes_on(id, say, End::Attempt(attempt), note_of_name(peer))),
             Verdict::OkSimultaneous { drops } => {
-                crosses(
-                    alloc,
-                    &self.ends,
-                    id,
-                    NameAnswer { say, attempt, peer },
-                    drops,
-                )
+                let crossed = superseded_end(alloc, &self.ends, drops)?;
+                Ok(supersedes(id, say, attempt, peer, (drops, crossed)))
             }
             Verdict::Nok => Ok(shuts(id, say, Why::Crossed, note_of_name(peer))),
             Verdict::Alive => Ok(goes_on(

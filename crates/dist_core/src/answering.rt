@@ -1,5 +1,6 @@
 //! The reply that a step would have, without making the step.
-ghost use Rattle.std.specs.Prelude.{◌≡◌, ◌≢◌, ℕ, ◌+◌, ◌^◌, ◌<◌, IfOk, IfErr, OnOk, Ok, Err, IsTrue, slice_get};
+ghost use Rattle.std.specs.Prelude.{◌≡◌, ◌≢◌, ℕ, ◌+◌, ◌^◌, ◌<◌, IfOk, IfErr, OnOk, Ok, Err, IsTrue, Some, None, slice_get};
+ghost use Rattle.std.specs.Option.{option_map};
 ghost use Rattle.dist_core_ends.specs.declared.known.Attempt.{Attempt};
 ghost use Rattle.dist_core_ends.specs.Ends.{entry_in};
 ghost use Rattle.dist_core.specs.Answers.{GivesReply, Refuses};
@@ -9,19 +10,39 @@ ghost use Rattle.dist_core.specs.Losses.{is_loss};
 ghost use Rattle.dist_core.specs.Progress.{effect_by};
 ghost use Rattle.dist_core.specs.Step.{step, step_result, at_end, came_in, dial_effect, framed_from, opening_effect, sender_to, tick_effect};
 
-use crate::attempts::{reply_of_end, reply_of_rise};
 use crate::event::Event;
 use crate::finding::open_end;
 use crate::node::{Node, reply_that_says};
 use crate::progress::Progress;
 use crate::reply::{Note, Reply};
 use crate::step_error::StepError;
-use dist_core_ends::{End, Ends, Why};
+use dist_core_ends::{End, Ends, UpRecord, Why};
 use dist_frames::tick;
 use dist_messages::Opening;
 use dist_names::{ByteString, NodeName};
 use dist_peers::{EndId, replaced_end};
 use std::alloc::Global;
+
+// The reply of a step that brings its end up.
+pub fn reply_of_rise(id: EndId, say: ByteString, came: UpRecord, replaced: Option<EndId>) -> Reply
+    ensures { result ≡ record { end_ = id; say = say; closed = option_map (λ x. (x, Why.Replaced)) replaced; up = Some came; note = Note.Nothing } }
+{
+    let mut reply = reply_that_says(id, say);
+    reply.up = Some(came);
+    if let Some(x) = replaced {
+        reply.closed = Some((x, Why::Replaced));
+    }
+    reply
+}
+
+// The reply of a step that closes its end.
+pub fn reply_of_end(id: EndId, say: ByteString, why: Why) -> Reply
+    ensures { result ≡ record { end_ = id; say = say; closed = Some (id, why); up = None; note = Note.Nothing } }
+{
+    let mut reply = reply_that_says(id, say);
+    reply.closed = Some((id, why));
+    reply
+}
 
 // The reply of a step whose progress of its attempt is known.
 fn reply_of_progress(ends: &Ends, id: EndId, progress: Progress) -> Reply

@@ -8,8 +8,8 @@ use dist_messages::Opening;
 use dist_names::{ByteString, NodeName};
 use dist_peers::EndId;
 
-/// An event that a node gets. A `link` is a number by which whoever carries a connection knows it; the node does not keep it. Our
-/// own choice: an Erlang node has no events, but a process for each connection, and messages between them.
+/// What can happen to a node. An end is what the node keeps of one connection. A `link` is the caller's number for a connection;
+/// the node does not keep it. Our own choice: an Erlang node has a process for each connection, and messages between them.
 #[derive(Debug, Drop, PartialEq, Eq)]
 pub enum Event {
     /// The node is to connect to this peer. A new end is given out.

@@ -11,7 +11,7 @@ ghost use Rattle.dist_core.specs.Node.{ends_after, limits_of};
 ghost use Rattle.dist_core.specs.Progress.{CanProgress, effect_by, node_by};
 ghost use Rattle.dist_core.specs.Step.{at_end, came_in, dial_effect, framed_from, opening_effect, sender_to, step, step_result, tick_effect};
 
-use crate::attempts::{reply_of_end, reply_of_rise};
+use crate::answering::{reply_of_end, reply_of_rise};
 use crate::effect::Effect;
 use crate::event::Event;
 use crate::finding::open_end;

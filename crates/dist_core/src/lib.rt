@@ -12,7 +12,6 @@
 mod accepted;
 mod answering;
 mod arrival;
-mod attempts;
 mod changing;
 mod comparing;
 mod copying;

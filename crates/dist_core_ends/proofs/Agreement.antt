@@ -28,15 +28,15 @@ pub held-passes : (p : Name) (k : Kind) (o : Option End) → passes (holds p k) 
 held-passes p k None = refl
 held-passes p k (Some e) = refl
 
+pub no-names : (k : Kind) (i : ℕ) → names k i None ≡ false
+no-names Out i = refl
+no-names In i = refl
+no-names Up i = refl
+
 pub entry-from_agree : (es : List End) (p : Name) (o : Option Entry) → ((k : Kind) (i : ℕ) → holds_at es p k i ≡ names k i o) → entry_in es p ≡ o
 entry-from_agree es p None h =
-    let at : (k : Kind) → first_of (holds p k) es ≡ None = λ k. none-first (holds p k) es (λ i. held-passes p k (slice_get es i) ∙ h k i ∙ none k i) in
+    let at : (k : Kind) → first_of (holds p k) es ≡ None = λ k. none-first (holds p k) es (λ i. held-passes p k (slice_get es i) ∙ h k i ∙ no-names k i) in
     λ j. entry_from (at Up j) (at In j) (at Out j)
-  where
-    none : (k : Kind) (i : ℕ) → names k i None ≡ false
-    none Out i = refl
-    none In i = refl
-    none Up i = refl
 entry-from_agree es p (Some (entry.Out x)) h =
     λ j. entry_from (none-first (holds p Up) es (λ i. held-passes p Up (slice_get es i) ∙ h Up i) j) (none-first (holds p In) es (λ i. held-passes p In (slice_get es i) ∙ h In i) j) (some-first (holds p Out) es x.0 (λ i. held-passes p Out (slice_get es i) ∙ h Out i) j)
 entry-from_agree es p (Some (entry.In x)) h =

@@ -8,11 +8,11 @@ use Rattle.dist_peers.specs.declared.entry.EndId.{EndId}
 use Rattle.dist_peers.specs.declared.entry.Entry.{Entry}
 use Rattle.dist_core_ends.specs.declared.known.End.{End}
 use Rattle.dist_core_ends.specs.declared.phase.Kind.{Kind}
-use Rattle.dist_core_ends.specs.Ends.{Claim, claim_of, is_claim, same_kind, is_held, names}
+use Rattle.dist_core_ends.specs.Ends.{claim_of, is_claim, is_held, names}
 use Rattle.dist_core_ends.specs.Change.{put_end, put_other, with_change, other_view, view_after, IsThere}
 use Rattle.dist_core_ends.proofs.Tables.{same-name}
 
-get-set : (es : List End) (x : ℕ) (e : End) (i : ℕ) → x < length es → slice_get (set es x e) i ≡ cond (eqb x i) (Some e) (slice_get es i)
+pub get-set : {A : Type 0} (es : List A) (x : ℕ) (e : A) (i : ℕ) → x < length es → slice_get (set es x e) i ≡ cond (eqb x i) (Some e) (slice_get es i)
 get-set [] x e i h = absurd (omega arith)
 get-set (d ∷ es) zero e zero h = refl
 get-set (d ∷ es) zero e (suc i) h = sym (ap (λ b. cond b (Some e) (slice_get es i)) (eqb-zero-suc i))
@@ -82,13 +82,6 @@ stays u g x e a same q k i =
 
 pub claimless : (e : End) → claim_of e ≡ None → (q : Name) (k : Kind) → is_held q k (Some e) ≡ false
 claimless e h q k = ap (is_claim q k) h
-
-and_false : (b : Bool) → (b && false) ≡ false
-and_false true = refl
-and_false false = refl
-
-pub others : (e : End) (c : Claim) → claim_of e ≡ Some c → (q : Name) (k : Kind) → same_name q c.peer ≡ false → is_held q k (Some e) ≡ false
-others e c h q k s = ap (is_claim q k) h ∙ ap (λ b. same_kind k c.kind && b) s ∙ and_false (same_kind k c.kind)
 
 -- two ends change, and with them the entry of p; the other end holds nothing afterwards
 pub changes-two : (u : Name → Option Entry) (g : ℕ → Option End) (p : Name) (x : ℕ) (s : End) (id : ℕ) (e : End) (o : Option Entry) → Agrees u g

@@ -21,7 +21,7 @@ use Rattle.dist_core_ends.specs.declared.phase.Kind.TheVariants.{Out, In, Up}
 use Rattle.dist_core_ends.specs.Ends.{Claim, claim_of, is_claim, same_kind, is_held, is_open, is_pending, is_unnamed, kind_in, holds_at, names, Agree}
 use Rattle.dist_core_ends.specs.Change.{StaysClosed, OtherStaysClosed, put_end, IsThere, Fits, claim_at, table_after_shift, AsksShift, table_after_rise, AsksRaise, view_after}
 use Rattle.dist_peers.specs.Verdicts.{ruling, is_greater}
-use Rattle.dist_core_ends.proofs.Tables.{order, same-name}
+use Rattle.dist_core_ends.proofs.Tables.{order, same-name, and_false}
 use Rattle.std.proofs.lemmas.Bool.{false≢true}
 use Rattle.dist_core_ends.proofs.Changes.{Agrees, get-put, get-after, changes-one, changes-two, stays, claimless}
 
@@ -45,10 +45,6 @@ get-with t p (Some e) q = get-insert order t p e q
 abbrev pub IsOn : Name → Option Claim → Type 0
 IsOn p None = Unit {0}
 IsOn p (Some c) = c.peer ≡ p
-
-and_false : (b : Bool) → (b && false) ≡ false
-and_false true = refl
-and_false false = refl
 
 pub only : (p : Name) (c : Option Claim) → IsOn p c → (q : Name) (k : Kind) → same_name q p ≡ false → is_claim q k c ≡ false
 only p None h q k s = refl
@@ -99,9 +95,7 @@ stays-held p k (Some (ends.Closed w)) s g h u = absurd (false≢true h)
 
 pub named-settled : (s : End) → is_pending s ≡ false → is_unnamed s ≡ false
 named-settled ends.Unnamed h = absurd (false≢true (sym h))
-named-settled (ends.Attempt b) h = refl
-named-settled (ends.Up r) h = refl
-named-settled (ends.Closed w) h = refl
+named-settled s h = refl
 
 stays-claimed : (o : Option End) (c : Claim) (s : End) → claim_at o ≡ Some c → is_pending s ≡ false → StaysClosed o s
 stays-claimed None c s h u = tt
@@ -116,8 +110,7 @@ stays-past o s e = let P : Option End → Type 0 = λ x. StaysClosed x s in subs
 shut-settled : (s : End) → is_open s ≡ false → is_pending s ≡ false
 shut-settled ends.Unnamed h = absurd (false≢true (sym h))
 shut-settled (ends.Attempt b) h = absurd (false≢true (sym h))
-shut-settled (ends.Up r) h = refl
-shut-settled (ends.Closed w) h = refl
+shut-settled s h = refl
 
 -- an open end may be closed
 pub stays-closing : (o : Option End) (d : End) (w : Why) → o ≡ Some d → is_open d ≡ true → StaysClosed o (ends.Closed w)
@@ -139,9 +132,8 @@ stays-shut p k (Some (ends.Closed w)) s h u = absurd (false≢true h)
 
 shut-claim : (s : End) → is_open s ≡ false → claim_of s ≡ None
 shut-claim ends.Unnamed h = refl
-shut-claim (ends.Attempt b) h = absurd (false≢true (sym h))
-shut-claim (ends.Up r) h = absurd (false≢true (sym h))
 shut-claim (ends.Closed w) h = refl
+shut-claim s h = absurd (false≢true (sym h))
 
 -- ---- how an end holds its peer shows whether it is up
 
@@ -151,14 +143,7 @@ is_up (Some c) = same_kind c.kind Up
 
 attempt-not-up : (p : Name) (h : Phase) → is_up (option_map (λ k. record { peer = p; kind = k }) (kind_in h)) ≡ false
 attempt-not-up p phase.Dialing = refl
-attempt-not-up p phase.DoomedDialing = refl
-attempt-not-up p phase.AwaitStatus = refl
-attempt-not-up p phase.Doomed = refl
-attempt-not-up p phase.AwaitChallenge = refl
-attempt-not-up p phase.AwaitAck = refl
-attempt-not-up p phase.AwaitTrue = refl
-attempt-not-up p phase.AwaitComplement = refl
-attempt-not-up p phase.AwaitReply = refl
+attempt-not-up p h = refl
 
 up-settled : (e : End) → is_up (claim_of e) ≡ true → is_pending e ≡ false
 up-settled ends.Unnamed h = absurd (false≢true h)
@@ -276,31 +261,19 @@ no h = absurd (false≢true h)
 
 -- what an entry is once an end is removed from it
 left-here : (id : EndId) (k0 : Kind) (o : Option Entry) → ((k : Kind) → names k id.0 o ≡ same_kind k k0) → (k : Kind) (i : ℕ) → cond (eqb id.0 i) false (names k i o) ≡ names k i (left_by id o)
-left-here id Out None h k i = no (h Out)
-left-here id In None h k i = no (h In)
-left-here id Up None h k i = no (h Up)
 left-here id Out (Some (entry.Out x)) h Out i = off id.0 x.0 i (h Out) ∙ sym (ap (names Out i) (ap (λ b. cond b None (Some (entry.Out x))) (h Out)))
-left-here id Out (Some (entry.Out x)) h In i = same_false (eqb id.0 i) ∙ sym (ap (names In i) (ap (λ b. cond b None (Some (entry.Out x))) (h Out)))
-left-here id Out (Some (entry.Out x)) h Up i = same_false (eqb id.0 i) ∙ sym (ap (names Up i) (ap (λ b. cond b None (Some (entry.Out x))) (h Out)))
-left-here id In (Some (entry.Out x)) h k i = no (h In)
-left-here id Up (Some (entry.Out x)) h k i = no (h Up)
-left-here id Out (Some (entry.In x)) h k i = no (h Out)
-left-here id In (Some (entry.In x)) h Out i = same_false (eqb id.0 i) ∙ sym (ap (names Out i) (ap (λ b. cond b None (Some (entry.In x))) (h In)))
+left-here id Out (Some (entry.Out x)) h k i = same_false (eqb id.0 i) ∙ sym (ap (names k i) (ap (λ b. cond b None (Some (entry.Out x))) (h Out)))
 left-here id In (Some (entry.In x)) h In i = off id.0 x.0 i (h In) ∙ sym (ap (names In i) (ap (λ b. cond b None (Some (entry.In x))) (h In)))
-left-here id In (Some (entry.In x)) h Up i = same_false (eqb id.0 i) ∙ sym (ap (names Up i) (ap (λ b. cond b None (Some (entry.In x))) (h In)))
-left-here id Up (Some (entry.In x)) h k i = no (h Up)
-left-here id Out (Some (entry.Up x)) h k i = no (h Out)
-left-here id In (Some (entry.Up x)) h k i = no (h In)
-left-here id Up (Some (entry.Up x)) h Out i = same_false (eqb id.0 i) ∙ sym (ap (names Out i) (ap (λ b. cond b None (Some (entry.Up x))) (h Up)))
-left-here id Up (Some (entry.Up x)) h In i = same_false (eqb id.0 i) ∙ sym (ap (names In i) (ap (λ b. cond b None (Some (entry.Up x))) (h Up)))
+left-here id In (Some (entry.In x)) h k i = same_false (eqb id.0 i) ∙ sym (ap (names k i) (ap (λ b. cond b None (Some (entry.In x))) (h In)))
 left-here id Up (Some (entry.Up x)) h Up i = off id.0 x.0 i (h Up) ∙ sym (ap (names Up i) (ap (λ b. cond b None (Some (entry.Up x))) (h Up)))
-left-here id Out (Some (entry.Challenged up x)) h k i = no (h Out)
+left-here id Up (Some (entry.Up x)) h k i = same_false (eqb id.0 i) ∙ sym (ap (names k i) (ap (λ b. cond b None (Some (entry.Up x))) (h Up)))
 left-here id Up (Some (entry.Challenged up x)) h Out i = same_false (eqb id.0 i) ∙ sym (ap (names Out i) (ap (λ b. cond b (Some (entry.In x)) (cond (eqb x.0 id.0) (Some (entry.Up up)) (Some (entry.Challenged up x)))) (h Up)))
 left-here id Up (Some (entry.Challenged up x)) h In i = kept id.0 x.0 i (h In) ∙ sym (ap (names In i) (ap (λ b. cond b (Some (entry.In x)) (cond (eqb x.0 id.0) (Some (entry.Up up)) (Some (entry.Challenged up x)))) (h Up)))
 left-here id Up (Some (entry.Challenged up x)) h Up i = off id.0 up.0 i (h Up) ∙ sym (ap (names Up i) (ap (λ b. cond b (Some (entry.In x)) (cond (eqb x.0 id.0) (Some (entry.Up up)) (Some (entry.Challenged up x)))) (h Up)))
 left-here id In (Some (entry.Challenged up x)) h Out i = same_false (eqb id.0 i) ∙ sym (ap (names Out i) (ap (λ b. cond b (Some (entry.In x)) (cond (eqb x.0 id.0) (Some (entry.Up up)) (Some (entry.Challenged up x)))) (h Up) ∙ ap (λ b. cond b (Some (entry.Up up)) (Some (entry.Challenged up x))) (h In)))
 left-here id In (Some (entry.Challenged up x)) h In i = off id.0 x.0 i (h In) ∙ sym (ap (names In i) (ap (λ b. cond b (Some (entry.In x)) (cond (eqb x.0 id.0) (Some (entry.Up up)) (Some (entry.Challenged up x)))) (h Up) ∙ ap (λ b. cond b (Some (entry.Up up)) (Some (entry.Challenged up x))) (h In)))
 left-here id In (Some (entry.Challenged up x)) h Up i = kept id.0 up.0 i (h Up) ∙ sym (ap (names Up i) (ap (λ b. cond b (Some (entry.In x)) (cond (eqb x.0 id.0) (Some (entry.Up up)) (Some (entry.Challenged up x)))) (h Up) ∙ ap (λ b. cond b (Some (entry.Up up)) (Some (entry.Challenged up x))) (h In)))
+left-here id k0 o h k i = no (h k0)
 
 pub and_true : (b : Bool) → (b && true) ≡ b
 and_true true = refl
@@ -316,13 +289,10 @@ claims p k = Some (record { peer = p; kind = k })
 -- an end that is put aside for a name that comes wasn't up
 not-held-up : (id x : EndId) (l : Kind) (o : Option Entry) (g : Bool) → names l x.0 o ≡ true
     → ((k : Kind) (i : ℕ) → cond (eqb x.0 i) false (cond (eqb id.0 i) (same_kind k In) (names k i o)) ≡ names k i (Some (let x = ruling g id o in x.entry))) → same_kind l Up ≡ false
-not-held-up id x Out o g named here = refl
-not-held-up id x In o g named here = refl
-not-held-up id x Up None g named here = no named
-not-held-up id x Up (Some (entry.Out y)) g named here = no named
-not-held-up id x Up (Some (entry.In y)) g named here = no named
 not-held-up id x Up (Some (entry.Up y)) g named here = no (sym (ap (λ b. cond b false (cond (eqb id.0 x.0) false (eqb y.0 x.0))) (same x.0)) ∙ here Up x.0 ∙ named)
 not-held-up id x Up (Some (entry.Challenged y z)) g named here = no (sym (ap (λ b. cond b false (cond (eqb id.0 x.0) false (eqb y.0 x.0))) (same x.0)) ∙ here Up x.0 ∙ named)
+not-held-up id x Up o g named here = no named
+not-held-up id x l o g named here = refl
 
 module _ (me : Name) (es : List End) (t : Table) (a : Agree (map.get t) es) where
   -- what the entry of p says of an end whose claim is known

@@ -1,7 +1,5 @@
 -- Ends and rows whose causes of closing are forgotten.
-use Rattle.std.proofs.Common.{◌≡◌, ℕ, zero, suc, ◌+◌, ◌<◌, ◌≤◌, true, List, [], ◌∷◌, length, set, Option, Some, refl, sym, ap, ◌∙◌, arith, slice_get, inl, inr}
-use Rattle.std.specs.Prelude.{min}
-use Rattle.std.proofs.lemmas.Bool.Decides.{leb_tells}
+use Rattle.std.proofs.Common.{◌≡◌, ℕ, zero, suc, ◌+◌, true, List, [], ◌∷◌, length, Option, Some, refl, sym, ap, ◌∙◌, slice_get}
 use Rattle.std.specs.List.{count_by}
 use Rattle.std.specs.FinMap as entries
 use Rattle.dist_names.specs.Order.{Name}
@@ -20,23 +18,17 @@ use Rattle.dist_core_ends.proofs.Opens.{count-cons}
 -- ---- what an end still is once its cause is forgotten
 
 pub same-open : (e : End) → is_open (without_cause e) ≡ is_open e
-same-open ends.Unnamed = refl
-same-open (ends.Attempt a) = refl
-same-open (ends.Up r) = refl
 same-open (ends.Closed w) = refl
+same-open e = refl
 
 same-holds : (p : Name) (k : Kind) (e : End) → holds p k (without_cause e) ≡ holds p k e
-same-holds p k ends.Unnamed = refl
-same-holds p k (ends.Attempt a) = refl
-same-holds p k (ends.Up r) = refl
 same-holds p k (ends.Closed w) = refl
+same-holds p k e = refl
 
 -- an open end stays as it is
 same-end : (e : End) → is_open e ≡ true → without_cause e ≡ e
-same-end ends.Unnamed h = refl
-same-end (ends.Attempt a) h = refl
-same-end (ends.Up r) h = refl
 same-end (ends.Closed w) h = absurd cc
+same-end e h = refl
 
 -- ---- the list of ends
 
@@ -98,39 +90,3 @@ kept-forgotten b rows slots a = record {
   apart = λ i j k h g. a.apart i j k (rows-slot b rows i k h) (rows-slot b rows j k g);
   counted = a.counted ∙ sym (ap (count_by is_open) (kept-shown b rows slots a) ∙ forgotten-count b (ends_of_rows rows slots));
 }
-
--- ---- a row at a time
-
-pub rows-here : (i : ℕ) (rows : List EndPlace) → slice_get (rows_forgotten i rows) i ≡ slice_get rows i
-rows-here i [] = refl
-rows-here zero (r ∷ rows) = refl
-rows-here (suc i) (r ∷ rows) = rows-here i rows
-
-pub rows-length : (b : ℕ) (rows : List EndPlace) → length (rows_forgotten b rows) ≡ length rows
-rows-length b [] = refl
-rows-length zero (r ∷ rows) = refl
-rows-length (suc b) (r ∷ rows) = ap suc (rows-length b rows)
-
-pub rows-none : (rows : List EndPlace) → rows_forgotten 0 rows ≡ rows
-rows-none [] = refl
-rows-none (r ∷ rows) = refl
-
-pub rows-next : (i : ℕ) (rows : List EndPlace) (r : EndPlace) → slice_get rows i ≡ Some r → set (rows_forgotten i rows) i (without_row_cause r) ≡ rows_forgotten (suc i) rows
-rows-next i [] r h = refl
-rows-next zero (x ∷ rows) r h = let same : r ≡ x = cc in (λ j. without_row_cause (same j) ∷ sym (rows-none rows) j)
-rows-next (suc i) (x ∷ rows) r h = ap (λ rs. without_row_cause x ∷ rs) (rows-next i rows r h)
-
-pub row-there : (rows : List EndPlace) (i : ℕ) → i < length rows → (r : EndPlace) × (slice_get rows i ≡ Some r)
-row-there [] i h = absurd (omega (arith, h))
-row-there (r ∷ rows) zero h = (r, refl)
-row-there (r ∷ rows) (suc i) h = row-there rows i (omega (arith, h))
-
-rows-past : (b c : ℕ) (rows : List EndPlace) → length rows ≤ b → length rows ≤ c → rows_forgotten b rows ≡ rows_forgotten c rows
-rows-past b c [] h g = refl
-rows-past zero c (r ∷ rows) h g = absurd (omega (arith, h))
-rows-past (suc b) zero (r ∷ rows) h g = absurd (omega (arith, g))
-rows-past (suc b) (suc c) (r ∷ rows) h g = ap (λ rs. without_row_cause r ∷ rs) (rows-past b c rows (omega (arith, h)) (omega (arith, g)))
-
--- up to a number, or to the last row
-pub rows-upto : (i b : ℕ) (rows : List EndPlace) → i ≡ min b (length rows) → rows_forgotten i rows ≡ rows_forgotten b rows
-rows-upto i b rows h = elim (leb_tells b (length rows)) [ inl f ↦ (let same : i ≡ b = omega (arith, h, f.1) in ap (λ n. rows_forgotten n rows) same) | inr f ↦ rows-past i b rows (omega (arith, h, f.1)) (omega (arith, f.1)) ]

@@ -1,10 +1,10 @@
 -- Ends in slots, when one of them changes.
-use Rattle.std.proofs.Common.{◌≡◌, ◌≢◌, ◌⊎◌, ℕ, zero, suc, ◌+◌, ◌<◌, ◌≤◌, true, false, cond, eqb, List, [], ◌∷◌, ◌++◌, length, set, Option, Some, None, is_some, IsSome, ltb, refl, sym, ap, ◌∙◌, subst, arith, slice_get, inl, inr, eq-eqb}
+use Rattle.std.proofs.Common.{◌≡◌, ◌≢◌, ◌⊎◌, ℕ, zero, suc, ◌+◌, ◌<◌, true, false, cond, eqb, List, [], ◌∷◌, ◌++◌, length, set, Option, Some, None, is_some, IsSome, ltb, refl, sym, ap, ◌∙◌, subst, arith, slice_get, inl, inr, eq-eqb}
 use Rattle.std.specs.List.{count_by}
 use Rattle.std.proofs.lemmas.Bool.{cases_eq, false≢true}
-use Rattle.std.proofs.Math.Dec.{eqb-suc-suc, eqb-suc-zero, eqb-zero-suc}
-use Rattle.std.proofs.lemmas.Option.{slice_get_within, slice_get_past}
+use Rattle.std.proofs.lemmas.Option.{slice_get_within}
 use Rattle.std.proofs.lemmas.Bool.Decides.{nat_tests}
+use Rattle.dist_core_ends.specs.declared.known.Attempt.{Attempt}
 use Rattle.dist_core_ends.specs.declared.known.End.{End}
 use Rattle.dist_core_ends.specs.declared.known.End.TheVariants as ends
 use Rattle.dist_core_ends.specs.declared.why.Why.{Why}
@@ -12,10 +12,9 @@ use Rattle.dist_core_ends.specs.declared.slots.EndPlace.{EndPlace}
 use Rattle.dist_core_ends.specs.declared.slots.EndPlace.TheVariants as row
 use Rattle.dist_core_ends.specs.Ends.{is_open}
 use Rattle.slab.specs.Slab.{Slab, ContainsKey}
-use Rattle.dist_core_ends.specs.Change.{one_if, put_end, claim_at, IsThere, StaysClosed}
-use Rattle.dist_peers.specs.declared.entry.EndId.{EndId}
-use Rattle.dist_core_ends.proofs.Changes.{length-put}
-use Rattle.dist_core_ends.specs.Keeping.{Slots, in_slot, found_end, end_of_row, ends_of_rows, IsFull, AreKept, Puts, GivesRow}
+use Rattle.dist_core_ends.specs.Change.{one_if, put_end, StaysClosed}
+use Rattle.dist_core_ends.proofs.Changes.{get-set}
+use Rattle.dist_core_ends.specs.Keeping.{Slots, RoomyEnds, in_slot, found_end, end_of_row, ends_of_rows, IsFull, AreKept, Puts, GivesRow}
 use Rattle.dist_core_ends.proofs.Opens.{count-set, count-push}
 
 -- ---- the ends that rows show
@@ -28,11 +27,6 @@ row-get (x ∷ rows) slots (suc i) r h = row-get rows slots i r h
 pub shown-length : (rows : List EndPlace) (slots : Slots) → length (ends_of_rows rows slots) ≡ length rows
 shown-length [] slots = refl
 shown-length (x ∷ rows) slots = ap suc (shown-length rows slots)
-
-pub shown-put : (rows : List EndPlace) (slots : Slots) (i : ℕ) (r : EndPlace) → ends_of_rows (set rows i r) slots ≡ set (ends_of_rows rows slots) i (end_of_row slots r)
-shown-put [] slots i r = refl
-shown-put (x ∷ rows) slots zero r = refl
-shown-put (x ∷ rows) slots (suc i) r = ap (λ es. end_of_row slots x ∷ es) (shown-put rows slots i r)
 
 pub shown-push : (rows : List EndPlace) (slots : Slots) (r : EndPlace) → ends_of_rows (rows ++ r ∷ []) slots ≡ ends_of_rows rows slots ++ end_of_row slots r ∷ []
 shown-push [] slots r = refl
@@ -66,18 +60,6 @@ shown-set (x ∷ rows) old new (suc i) k o r p at only =
     λ j. here j ∷ rest j
 
 -- ---- rows
-
-pub set-here : (rows : List EndPlace) (i : ℕ) (r : EndPlace) → slice_get rows i ≡ Some r → set rows i r ≡ rows
-set-here [] i r h = refl
-set-here (x ∷ rows) zero r h = let same : r ≡ x = cc in ap (λ y. y ∷ rows) same
-set-here (x ∷ rows) (suc i) r h = ap (λ xs. x ∷ xs) (set-here rows i r h)
-
-get-set : (rows : List EndPlace) (x : ℕ) (r : EndPlace) (i : ℕ) → x < length rows → slice_get (set rows x r) i ≡ cond (eqb x i) (Some r) (slice_get rows i)
-get-set [] x r i h = absurd (omega arith)
-get-set (d ∷ rows) zero r zero h = refl
-get-set (d ∷ rows) zero r (suc i) h = sym (ap (λ b. cond b (Some r) (slice_get rows i)) (eqb-zero-suc i))
-get-set (d ∷ rows) (suc x) r zero h = sym (ap (λ b. cond b (Some r) (Some d)) (eqb-suc-zero x))
-get-set (d ∷ rows) (suc x) r (suc i) h = get-set rows x r i (omega arith) ∙ sym (ap (λ b. cond b (Some r) (slice_get rows i)) (eqb-suc-suc x i))
 
 -- a row that has a slot, once row i is that of a closed end
 pub kept-row : (rows : List EndPlace) (i : ℕ) (w : Why) (j m : ℕ) → i < length rows → slice_get (set rows i (row.Closed w)) j ≡ Some (row.Slot m) → (slice_get rows j ≡ Some (row.Slot m)) × (eqb i j ≡ false)
@@ -117,13 +99,10 @@ finds-slot rows slots i k r e a at is there =
 pub finds-closed : (rows : List EndPlace) (slots : Slots) (i : ℕ) (w : Why) (r : EndPlace) → slice_get rows i ≡ Some r → r ≡ row.Closed w → slice_get (ends_of_rows rows slots) i ≡ Some (ends.Closed w)
 finds-closed rows slots i w r at is = row-get rows slots i r at ∙ ap (λ (x : EndPlace). Some (end_of_row slots x)) is
 
-pub stays-shut : (es : List End) (i : ℕ) (w : Why) (e : End) → slice_get es i ≡ Some (ends.Closed w) → StaysClosed (slice_get es i) e → is_open e ≡ true → ⊥
-stays-shut es i w e at s h = let P : Option End → Type 0 = λ o. StaysClosed o e in false≢true (sym (ap is_open (subst P at s)) ∙ h)
-
 pub same-cause : (es : List End) (i : ℕ) (w : Why) (e : End) → slice_get es i ≡ Some (ends.Closed w) → StaysClosed (slice_get es i) e → e ≡ ends.Closed w
 same-cause es i w e at s = let P : Option End → Type 0 = λ o. StaysClosed o e in subst P at s
 
-pub set-same : (es : List End) (i : ℕ) (e : End) → slice_get es i ≡ Some e → set es i e ≡ es
+pub set-same : {A : Type 0} (es : List A) (i : ℕ) (e : A) → slice_get es i ≡ Some e → set es i e ≡ es
 set-same [] i e h = refl
 set-same (x ∷ es) zero e h = let same : e ≡ x = cc in ap (λ y. y ∷ es) same
 set-same (x ∷ es) (suc i) e h = ap (λ xs. x ∷ xs) (set-same es i e h)
@@ -131,11 +110,31 @@ set-same (x ∷ es) (suc i) e h = ap (λ xs. x ∷ xs) (set-same es i e h)
 pub kept-end : (rows : List EndPlace) (slots : Slots) (i k : ℕ) → slice_get rows i ≡ Some (row.Slot k) → (f : IsFull slots k) → slice_get (ends_of_rows rows slots) i ≡ Some f.kept
 kept-end rows slots i k at f = row-get rows slots i (row.Slot k) at ∙ ap (λ (o : Option End). Some (found_end o)) f.there
 
+-- the end in the slot of a row is the end of the row's number
+pub slot-shown : (rows : List EndPlace) (slots : Slots) (i k : ℕ) (r : EndPlace) → AreKept rows slots → slice_get rows i ≡ Some r → r ≡ row.Slot k → in_slot slots k ≡ slice_get (ends_of_rows rows slots) i
+slot-shown rows slots i k r a at is =
+    let there = at ∙ ap Some is in
+    let f = a.full i k there in
+    f.there ∙ sym (kept-end rows slots i k there f)
+
+-- an end that is closed already stays so
+pub closed-stays : (rows : List EndPlace) (slots : Slots) (i : ℕ) (v w : Why) (r : EndPlace) → slice_get rows i ≡ Some r → r ≡ row.Closed v
+    → StaysClosed (slice_get (ends_of_rows rows slots) i) (ends.Closed w) → ends_of_rows rows slots ≡ set (ends_of_rows rows slots) i (ends.Closed w)
+closed-stays rows slots i v w r at is s =
+    let es = ends_of_rows rows slots in
+    let there = finds-closed rows slots i v r at is in
+    sym (ap (set es i) (same-cause es i v (ends.Closed w) there s) ∙ set-same es i (ends.Closed v) there)
+
+pub not-closed : (rows : List EndPlace) (slots : Slots) (i : ℕ) (b : Attempt) (w : Why) (r : EndPlace) → slice_get (ends_of_rows rows slots) i ≡ Some (ends.Attempt b)
+    → slice_get rows i ≡ Some r → r ≡ row.Closed w → ⊥
+not-closed rows slots i b w r at there is =
+    let bad : ◌≡◌ {A = Option End} (Some (ends.Attempt b)) (Some (ends.Closed w)) = sym at ∙ finds-closed rows slots i w r there is in absurd cc
+
 module _ (rows : List EndPlace) (old new : Slots) (a : AreKept rows old) where
   -- an open end becomes another
   pub refilled-shown : (i k : ℕ) (e : End) → slice_get rows i ≡ Some (row.Slot k) → Puts old new k (Some e) → ends_of_rows rows new ≡ set (ends_of_rows rows old) i e
   refilled-shown i k e at p =
-      ap (λ rs. ends_of_rows rs new) (sym (set-here rows i (row.Slot k) at))
+      ap (λ rs. ends_of_rows rs new) (sym (set-same rows i (row.Slot k) at))
       ∙ shown-set rows old new i k (Some e) (row.Slot k) p at (λ j h. a.apart j i k h at)
       ∙ ap (λ (o : Option End). set (ends_of_rows rows old) i (found_end o)) p.here
 
@@ -221,28 +220,10 @@ none-kept rows slots e f =
       counted = ap (count_by is_some) f ∙ ap (λ (xs : List EndPlace). count_by is_open (ends_of_rows xs slots)) (sym e);
     }
 
+-- as many rows as ends
+pub long : (rows : List EndPlace) (slots : Slots) (room : ℕ) (l : RoomyEnds) → ◌≡◌ {A = RoomyEnds} (record { items = ends_of_rows rows slots; room = room }) l → length l.items ≡ length rows
+long rows slots room l is = ap (λ (x : RoomyEnds). length x.items) (sym is) ∙ shown-length rows slots
+
 -- an end is put in a place that is there
 pub put-within : (es : List End) (i : ℕ) (e : End) → i < length es → set es i e ≡ put_end es i e
 put-within es i e h = elim (ltb i (length es)) as (λ b. ltb i (length es) ≡ b → set es i e ≡ cond b (set es i e) (es ++ e ∷ [])) [ true ↦ λ b. refl | false ↦ λ b. absurd (grind (arith, nat_tests)) ] refl
-
-pub put-behind : (es : List End) (i : ℕ) (e : End) → i ≡ length es → es ++ e ∷ [] ≡ put_end es i e
-put-behind es i e h = elim (ltb i (length es)) as (λ b. ltb i (length es) ≡ b → es ++ e ∷ [] ≡ cond b (set es i e) (es ++ e ∷ [])) [ true ↦ λ b. absurd (grind (arith, nat_tests)) | false ↦ λ b. refl ] refl
-
--- a further end, where the slots have room
-pub behind-shown : (rows more : List EndPlace) (old mid new : Slots) (i : ℕ) (e : End) (r : EndPlace) → i ≡ length rows → more ≡ rows ++ r ∷ [] → mid ≡ old → AreKept rows old → GivesRow mid new e r → ends_of_rows more new ≡ put_end (ends_of_rows rows old) i e
-behind-shown rows more old mid new i e r at is same a g =
-    let P : Slots → Type 0 = λ s. GivesRow s new e r in
-    ap (λ rs. ends_of_rows rs new) is ∙ pushed-shown rows old new e r a (subst P same g) ∙ put-behind (ends_of_rows rows old) i e (at ∙ sym (shown-length rows old))
-
-pub behind : (rows more : List EndPlace) (old mid new : Slots) (e : End) (r : EndPlace) → more ≡ rows ++ r ∷ [] → mid ≡ old → AreKept rows old → GivesRow mid new e r → AreKept more new
-behind rows more old mid new e r is same a g =
-    let P : Slots → Type 0 = λ s. GivesRow s new e r in
-    let Q : List EndPlace → Type 0 = λ rs. AreKept rs new in
-    subst Q (sym is) (pushed rows old new e r a (subst P same g))
-
-pub there-put : (es : List End) (i : ℕ) (e : End) (o : Option (EndId × End)) → IsThere es o → IsThere (put_end es i e) o
-there-put es i e None h = tt
-there-put es i e (Some x) h = omega (arith, h, length-put es i e)
-
-pub past-claim : (rows : List EndPlace) (slots : Slots) (i : ℕ) → length rows ≤ i → claim_at (slice_get (ends_of_rows rows slots) i) ≡ None
-past-claim rows slots i h = ap claim_at (slice_get_past (ends_of_rows rows slots) i (omega (arith, h, shown-length rows slots)))

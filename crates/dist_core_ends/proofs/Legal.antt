@@ -1,20 +1,12 @@
 -- The ends that hold a peer are those that make an entry.
-use Rattle.std.proofs.Common.{◌≡◌, List, [], Option, refl, sym, ap, ◌∙◌, subst}
+use Rattle.std.proofs.Common.{List, [], Option, refl, sym, ap, ◌∙◌}
 use Rattle.std.specs.FinMap as map
 use Rattle.dist_names.specs.Order.{Name}
 use Rattle.dist_peers.specs.declared.entry.Entry.{Entry}
-use Rattle.dist_peers.specs.Table.{Table}
 use Rattle.dist_core_ends.specs.declared.known.End.{End}
 use Rattle.dist_core_ends.specs.Ends.{Agree, AreLegal, table_of, names}
 use Rattle.dist_core_ends.proofs.Agreement.{entry-agreed}
 use Rattle.dist_core_ends.proofs.Tables.{get-table, agree-empty}
-
--- entries and ends equal to those that agree
-pub agreed : (t u : Table) (es fs : List End) → t ≡ u → es ≡ fs → Agree (map.get u) fs → Agree (map.get t) es
-agreed t u es fs e f h =
-    let P : List End → Type 0 = λ xs. Agree (map.get t) xs in
-    let Q : Table → Type 0 = λ x. Agree (map.get x) fs in
-    subst P (sym f) (subst Q (sym e) h)
 
 -- ends with which entries agree are legal
 pub legal : (t : Name → Option Entry) (es : List End) → Agree t es → AreLegal es

@@ -13,20 +13,7 @@ found word = naming.found why_word all_whys word
 own : (w : Why) → why_of (why_word w) ≡ Some w
 unfolding why_of
 own why.Ended = refl
-own why.ReadFailed = refl
-own why.WriteFailed = refl
-own why.GaveUp = refl
-own why.DialFailed = refl
-own why.Malformed = refl
-own why.Unexpected = refl
-own why.WrongName = refl
-own why.WrongFlags = refl
-own why.WrongDigest = refl
-own why.StatusRefused = refl
-own why.Refused = refl
-own why.Crossed = refl
-own why.Replaced = refl
-own why.NoMemory = refl
+own w = refl
 
 pub every : (word : List ℕ) (w : Why) → why_word w ≡ word → why_of word ≡ Some w
 every word w e = subst (λ (x : List ℕ). why_of x ≡ Some w) e (own w)

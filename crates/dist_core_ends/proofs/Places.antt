@@ -1,11 +1,13 @@
 -- Rows as one byte for each number, and the rows of open ends beside them.
-use Rattle.std.proofs.Common.{◌≡◌, ◌≢◌, ℕ, zero, suc, ◌+◌, ◌-◌, ◌<◌, ◌≤◌, ◌^◌, Bool, true, false, cond, eqb, leb, ◌||◌, List, [], ◌∷◌, ◌++◌, length, set, drop, filter, Option, Some, None, Result, Ok, Err, OnOk, OnErr, IsOk, refl, sym, ap, ◌∙◌, subst, arith, slice_get, inl, inr, length-append}
+use Rattle.std.proofs.Common.{◌≡◌, ◌≢◌, ℕ, zero, suc, ◌+◌, ◌-◌, ◌<◌, ◌≤◌, ◌^◌, Bool, true, false, cond, eqb, leb, ◌||◌, List, [], ◌∷◌, ◌++◌, length, set, drop, replicate, filter, Option, Some, None, Result, Ok, Err, OnOk, OnErr, IsOk, refl, sym, ap, ◌∙◌, subst, arith, slice_get, inl, inr, length-append}
 use Rattle.std.specs.Prelude.{min}
 use Rattle.std.specs.Cmp.{nat_eq_equiv}
 use Rattle.std.specs.List.{IsDistinct}
 use Rattle.std.specs.Map.{lookup, keys_of}
 use Rattle.std.proofs.lemmas.Bool.{cases_eq, eqb-true}
 use Rattle.std.proofs.lemmas.Bool.Decides.{nat_tests, leb_tells}
+use Rattle.std.proofs.lemmas.List.{append_assoc, length-replicate, set-append_right}
+use Rattle.std.proofs.lemmas.Option.{slice_get-get_or}
 use Rattle.std.proofs.lemmas.Map.Entries.{option_filter, lookup-filter-values}
 use Rattle.dist_core_ends.specs.declared.why.Why.{Why}
 use Rattle.dist_core_ends.specs.declared.why.Why.TheVariants as why
@@ -55,9 +57,7 @@ rows-push f g b (x ∷ ws) w r n h =
     λ j. row_by (here j) x ∷ rest j
 
 within-some : (ws : List Why) (i : ℕ) → i < length ws → (w : Why) × (slice_get ws i ≡ Some w)
-within-some [] i h = absurd (omega (arith, h))
-within-some (x ∷ ws) zero h = (x, refl)
-within-some (x ∷ ws) (suc i) h = within-some ws i (omega (arith, h))
+within-some ws i h = (_, slice_get-get_or ws i why.Ended h)
 
 -- a number that has a row of its own
 pub rows-row : (f : ℕ → Option EndPlace) (ws : List Why) (i : ℕ) (r : EndPlace) → i < length ws → f i ≡ Some r → slice_get (rows_from f 0 ws) i ≡ Some r
@@ -113,8 +113,7 @@ causes-none [] = refl
 causes-none (w ∷ ws) = refl
 
 pub all-length : (b : ℕ) (ws : List Why) → length (all_causes b ws) ≡ b + length ws
-all-length zero ws = omega arith
-all-length (suc b) ws = omega (arith, all-length b ws)
+all-length b ws = omega (arith, length-append {A = Why}, length-replicate {A = Why})
 
 pub all-below : (b : ℕ) (ws : List Why) (i : ℕ) → i < b → slice_get (all_causes b ws) i ≡ Some why.Ended
 all-below zero ws i h = absurd (omega (arith, h))
@@ -126,20 +125,11 @@ all-get zero ws j i e = let same : i ≡ j = omega (arith, e) in ap (slice_get w
 all-get (suc b) ws j zero e = absurd (omega (arith, e))
 all-get (suc b) ws j (suc i) e = all-get b ws j i (omega (arith, e))
 
-pub all-from : (b : ℕ) (ws : List Why) (i : ℕ) → b ≤ i → slice_get (all_causes b ws) i ≡ slice_get ws (i - b)
-all-from b ws i h = all-get b ws (i - b) i (omega (arith, h))
-
-all-set-at : (b : ℕ) (ws : List Why) (j i : ℕ) (w : Why) → i ≡ b + j → all_causes b (set ws j w) ≡ set (all_causes b ws) i w
-all-set-at zero ws j i w e = let same : j ≡ i = omega (arith, e) in ap (λ k. set ws k w) same
-all-set-at (suc b) ws j zero w e = absurd (omega (arith, e))
-all-set-at (suc b) ws j (suc i) w e = ap (λ xs. why.Ended ∷ xs) (all-set-at b ws j i w (omega (arith, e)))
-
 pub all-set : (b : ℕ) (ws : List Why) (i : ℕ) (w : Why) → b ≤ i → all_causes b (set ws (i - b) w) ≡ set (all_causes b ws) i w
-all-set b ws i w h = all-set-at b ws (i - b) i w (omega (arith, h))
+all-set b ws i w h = sym (set-append_right (replicate b why.Ended) ws b i w (length-replicate b why.Ended) h)
 
 pub all-more : (b : ℕ) (ws : List Why) (w : Why) → all_causes b (ws ++ w ∷ []) ≡ all_causes b ws ++ w ∷ []
-all-more zero ws w = refl
-all-more (suc b) ws w = ap (λ xs. why.Ended ∷ xs) (all-more b ws w)
+all-more b ws w = sym (append_assoc (replicate b why.Ended) ws (w ∷ []))
 
 -- ---- forgotten causes
 

@@ -18,35 +18,22 @@ use Rattle.dist_core_ends.specs.declared.phase.Phase.{Phase}
 use Rattle.dist_core_ends.specs.declared.phase.Phase.TheVariants as phase
 use Rattle.dist_core_ends.specs.declared.phase.Kind.{Kind}
 use Rattle.dist_core_ends.specs.declared.phase.Kind.TheVariants.{Out, In, Up}
-use Rattle.dist_core_ends.specs.declared.slots.EndPlace.{EndPlace}
-use Rattle.dist_core_ends.specs.declared.slots.EndPlace.TheVariants as row
 use Rattle.dist_core_ends.specs.Ends.{Claim, claim_of, kind_in, names, same_kind, entry_in, table_of, Agree, AreLegal}
 use Rattle.dist_core_ends.specs.Change.{Fits, HasEntry, AsksShift, table_after_shift, claim_at, put_end}
-use Rattle.dist_core_ends.specs.Keeping.{Slots, in_slot, ends_of_rows, AreKept}
 use Rattle.dist_core_ends.specs.Progress.{at_stage, replaced_end, CanRise}
 use Rattle.dist_core_ends.proofs.Agreement.{entry-agreed}
 use Rattle.dist_core_ends.proofs.Tables.{table-agreed}
 use Rattle.dist_core_ends.proofs.Legal.{legal}
-use Rattle.dist_core_ends.proofs.Keeping.{kept-end, put-within}
+use Rattle.dist_core_ends.proofs.Keeping.{put-within}
 use Rattle.dist_core_ends.proofs.Fitting.{claims, named-at, own-claim, same-shift, stays-open, fit-keeps}
-
--- the end in the slot of a row is the end of the row's number
-pub slot-shown : (rows : List EndPlace) (slots : Slots) (i k : ℕ) (r : EndPlace) → AreKept rows slots → slice_get rows i ≡ Some r → r ≡ row.Slot k → in_slot slots k ≡ slice_get (ends_of_rows rows slots) i
-slot-shown rows slots i k r a at is =
-    let there = at ∙ ap Some is in
-    let f = a.full i k there in
-    f.there ∙ sym (kept-end rows slots i k there f)
 
 -- an end took the place of another
 pub put-there : (es new : List End) (i : ℕ) (d e : End) → slice_get es i ≡ Some d → new ≡ set es i e → new ≡ put_end es i e
 put-there es new i d e at is = is ∙ put-within es i e (slice_get_within es i d at)
 
--- the requirement on ends and a table holds of equal ones too
-pub fit-kept : (me : Name) (fs es : List End) (t : Table) (id : EndId) (this : End) (other : Option (EndId × End)) → es ≡ fs → (AreLegal fs → Fits me fs (table_of fs) id this other) → Agree (map.get t) es → Fits me es t id this other
-fit-kept me fs es t id this other e h a =
-    let P : List End → Type 0 = λ xs. AreLegal xs → Fits me xs (table_of xs) id this other in
-    let Q : Table → Type 0 = λ u. Fits me es u id this other in
-    subst Q (sym (table-agreed t es a)) (subst P (sym e) h (legal (map.get t) es a))
+-- what holds with the table that the ends make holds with one that agrees with them
+pub fit-kept : (me : Name) (es : List End) (t : Table) (id : EndId) (this : End) (other : Option (EndId × End)) → (AreLegal es → Fits me es (table_of es) id this other) → Agree (map.get t) es → Fits me es t id this other
+fit-kept me es t id this other h a = rw (table-agreed t es a) (h (legal (map.get t) es a))
 
 -- ---- an end that holds a peer makes its entry
 
@@ -88,26 +75,14 @@ module _ (t : Table) (me : Name) (id : EndId) (r : UpRecord) where
   held-in p h = option_map (λ k. record { peer = p; kind = k }) (kind_in h)
 
   waits-in : (p : Name) (h : Phase) → IsSome (kind_in h) → AsksShift t me id (held-in p h) (claims r.peer Up) → is_waiting id (entry_of t r.peer) ≡ true
-  waits-in p phase.Dialing held asks = asks
   waits-in p phase.DoomedDialing held asks = absurd cc
-  waits-in p phase.AwaitStatus held asks = asks
   waits-in p phase.Doomed held asks = absurd cc
-  waits-in p phase.AwaitChallenge held asks = asks
-  waits-in p phase.AwaitAck held asks = asks
-  waits-in p phase.AwaitTrue held asks = asks
-  waits-in p phase.AwaitComplement held asks = asks
-  waits-in p phase.AwaitReply held asks = asks
+  waits-in p h held asks = asks
 
   rises-in : (p : Name) (h : Phase) → IsSome (kind_in h) → table_after_shift t me id (held-in p h) (claims r.peer Up) ≡ map.insert t r.peer (entry.Up id)
-  rises-in p phase.Dialing held = refl
   rises-in p phase.DoomedDialing held = absurd cc
-  rises-in p phase.AwaitStatus held = refl
   rises-in p phase.Doomed held = absurd cc
-  rises-in p phase.AwaitChallenge held = refl
-  rises-in p phase.AwaitAck held = refl
-  rises-in p phase.AwaitTrue held = refl
-  rises-in p phase.AwaitComplement held = refl
-  rises-in p phase.AwaitReply held = refl
+  rises-in p h held = refl
 
   pub rise-waits : (o : Option End) → CanRise o r.peer → AsksShift t me id (claim_at o) (claim_of (ends.Up r)) → is_waiting id (entry_of t r.peer) ≡ true
   rise-waits o h asks =
@@ -120,12 +95,7 @@ module _ (t : Table) (me : Name) (id : EndId) (r : UpRecord) where
       let b = h.0 in
       sym (ap (λ (x : Option End). table_after_shift t me id (claim_at x) (claim_of (ends.Up r))) h.1 ∙ rises-in b.peer b.phase h.3)
 
--- the entry of a peer is the one that the ends make
-pub entry-kept : (fs es : List End) (t : Table) (p : Name) → es ≡ fs → Agree (map.get t) es → entry_of t p ≡ entry_in fs p
-entry-kept fs es t p e a = sym (entry-agreed (map.get t) es a p) ∙ ap (λ (xs : List End). entry_in xs p) e
-
-pub rise-fits : (me : Name) (fs es : List End) (t : Table) (id : EndId) (r : UpRecord) → es ≡ fs → (AreLegal fs → Fits me fs (table_of fs) id (ends.Up r) (replaced_end (replaced_by (entry_in fs r.peer)))) → Agree (map.get t) es
+pub rise-fits : (me : Name) (es : List End) (t : Table) (id : EndId) (r : UpRecord)
+    → (AreLegal es → Fits me es (table_of es) id (ends.Up r) (replaced_end (replaced_by (entry_in es r.peer)))) → Agree (map.get t) es
     → Fits me es t id (ends.Up r) (replaced_end (replaced_by (entry_of t r.peer)))
-rise-fits me fs es t id r e h a =
-    let P : Option Entry → Type 0 = λ o. Fits me es t id (ends.Up r) (replaced_end (replaced_by o)) in
-    subst P (sym (entry-kept fs es t r.peer e a)) (fit-kept me fs es t id (ends.Up r) (replaced_end (replaced_by (entry_in fs r.peer))) e h a)
+rise-fits me es t id r h a = rw (sym (entry-agreed (map.get t) es a r.peer)) (fit-kept me es t id (ends.Up r) (replaced_end (replaced_by (entry_in es r.peer))) h a)

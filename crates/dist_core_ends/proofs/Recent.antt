@@ -6,23 +6,6 @@ use Rattle.std.proofs.lemmas.Option.{slice_get_read}
 use Rattle.dist_core_ends.specs.declared.slots.EndPlace.{EndPlace}
 use Rattle.dist_core_ends.specs.Keeping.{without_row_cause, rows_forgotten}
 
--- ---- one row changes
-
-pub set-left : (xs ys : List EndPlace) (i : ℕ) (r : EndPlace) → i < length xs → set xs i r ++ ys ≡ set (xs ++ ys) i r
-set-left [] ys i r h = absurd (omega (arith, h))
-set-left (x ∷ xs) ys zero r h = refl
-set-left (x ∷ xs) ys (suc i) r h = ap (λ zs. x ∷ zs) (set-left xs ys i r (omega (arith, h)))
-
-set-from : (xs ys : List EndPlace) (j i : ℕ) (r : EndPlace) → i ≡ length xs + j → xs ++ set ys j r ≡ set (xs ++ ys) i r
-set-from [] ys j i r e = let same : j ≡ i = omega (arith, e) in ap (λ k. set ys k r) same
-set-from (x ∷ xs) ys j zero r e = absurd (omega (arith, e))
-set-from (x ∷ xs) ys j (suc i) r e = ap (λ zs. x ∷ zs) (set-from xs ys j i r (omega (arith, e)))
-
-pub set-right : (xs ys : List EndPlace) (i n : ℕ) (r : EndPlace) → n ≡ length xs → n ≤ i → xs ++ set ys (i - n) r ≡ set (xs ++ ys) i r
-set-right xs ys i n r e h = set-from xs ys (i - n) i r (omega (arith, e, h))
-
--- ---- forgotten causes
-
 pub forgotten-length : (b : ℕ) (xs : List EndPlace) → length (rows_forgotten b xs) ≡ length xs
 forgotten-length b [] = refl
 forgotten-length zero (x ∷ xs) = refl

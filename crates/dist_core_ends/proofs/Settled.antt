@@ -1,52 +1,44 @@
 -- The numbers below which no end is of a kind, when ends change: an end that is up or closed is never pending again, and one that
 -- has a name is never nameless again.
-use Rattle.std.proofs.Common.{◌≡◌, ℕ, zero, suc, ◌<◌, ◌≤◌, true, false, cond, eqb, List, [], ◌∷◌, length, Option, Some, None, Result, Ok, Err, OnOk, OnErr, refl, sym, ap, ◌∙◌, subst, arith, slice_get}
+use Rattle.std.proofs.Common.{◌≡◌, ℕ, zero, suc, ◌<◌, ◌≤◌, true, false, cond, eqb, List, [], ◌∷◌, length, Option, Some, None, refl, sym, ap, ◌∙◌, subst, arith, slice_get}
 use Rattle.std.proofs.lemmas.Bool.{false≢true, eqb-true}
+use Rattle.std.proofs.lemmas.Option.{slice_get-get_or}
 use Rattle.dist_names.specs.Order.{Name}
 use Rattle.dist_peers.specs.declared.entry.EndId.{EndId}
 use Rattle.dist_peers.specs.Table.{Table}
 use Rattle.dist_core_ends.specs.declared.known.End.{End}
 use Rattle.dist_core_ends.specs.declared.known.End.TheVariants as ends
-use Rattle.dist_core_ends.specs.declared.slots.EndPlace.{EndPlace}
 use Rattle.dist_core_ends.specs.declared.slots.Sought.{Sought}
 use Rattle.dist_core_ends.specs.declared.slots.Sought.TheVariants as sought
 use Rattle.dist_core_ends.specs.Ends.{is_pending, is_unnamed}
-use Rattle.dist_core_ends.specs.Change.{Fits, put_end, with_change, StaysClosed, OtherStaysClosed, IsThere}
+use Rattle.dist_core_ends.specs.Change.{Fits, put_end, with_change, table_after, StaysClosed, OtherStaysClosed, IsThere}
 use Rattle.dist_core_ends.specs.Forgetting.{without_cause, without_causes_below}
-use Rattle.dist_core_ends.specs.Keeping.{Slots, ends_of_rows, is_sought, finds_sought, AreSettled, IsPast}
+use Rattle.dist_core_ends.specs.Keeping.{is_sought, finds_sought, AreSettled, IsPast, KeepsEnds}
 use Rattle.dist_core_ends.proofs.Changes.{get-put, length-put}
 use Rattle.dist_core_ends.proofs.Fitting.{named-settled}
-use Rattle.dist_core_ends.proofs.Keeping.{put-within, shown-length}
+use Rattle.dist_core_ends.proofs.Keeping.{put-within}
+use Rattle.dist_core_ends.proofs.Forgotten.{forgotten-length, agree-forgotten}
 use Rattle.std.proofs.Math.ListN.{length-set}
 
 still-settled : (k : Sought) (d e : End) → is_sought k d ≡ false → StaysClosed (Some d) e → is_sought k e ≡ false
-still-settled sought.Pending ends.Unnamed e h s = absurd (false≢true (sym h))
-still-settled sought.Pending (ends.Attempt a) e h s = absurd (false≢true (sym h))
 still-settled sought.Pending (ends.Up r) e h s = s
 still-settled sought.Pending (ends.Closed w) e h s = ap is_pending s
-still-settled sought.Nameless ends.Unnamed e h s = absurd (false≢true (sym h))
 still-settled sought.Nameless (ends.Attempt a) e h s = s
 still-settled sought.Nameless (ends.Up r) e h s = named-settled e s
 still-settled sought.Nameless (ends.Closed w) e h s = ap is_unnamed s
+still-settled k d e h s = absurd (false≢true (sym h))
 
 end-there : (es : List End) (i : ℕ) → i < length es → (d : End) × (slice_get es i ≡ Some d)
-end-there [] i h = absurd (omega (arith, h))
-end-there (e ∷ es) zero h = (e, refl)
-end-there (e ∷ es) (suc i) h = end-there es i (omega (arith, h))
+end-there es i h = (_, slice_get-get_or es i ends.Unnamed h)
 
 changed-longer : (es : List End) (id : EndId) (this : End) (other : Option (EndId × End)) → length es ≤ length (with_change es id this other)
 changed-longer es id this None = length-put es id.0 this
 changed-longer es id this (Some x) = omega (arith, length-put es id.0 this, length-set {A = End})
 
 same-sought : (k : Sought) (e : End) → is_sought k (without_cause e) ≡ is_sought k e
-same-sought sought.Pending ends.Unnamed = refl
-same-sought sought.Pending (ends.Attempt a) = refl
-same-sought sought.Pending (ends.Up r) = refl
 same-sought sought.Pending (ends.Closed w) = refl
-same-sought sought.Nameless ends.Unnamed = refl
-same-sought sought.Nameless (ends.Attempt a) = refl
-same-sought sought.Nameless (ends.Up r) = refl
 same-sought sought.Nameless (ends.Closed w) = refl
+same-sought k e = refl
 
 module _ (k : Sought) where
   -- an end that exists
@@ -74,32 +66,12 @@ module _ (k : Sought) where
       let P : List End → Type 0 = λ gs. AreSettled k gs n in
       subst P (sym (put-within fs y x.1 (omega (arith, there, longer)))) (put-settled fs n y x.1 (put-settled es n id.0 this a within place s) (omega (arith, within, longer)) (omega (arith, there, longer)) o)
 
-  -- the ends after a change
-  pub past-changed : (me : Name) (t : Table) (rows new : List EndPlace) (old slots : Slots) (n : ℕ) (id : EndId) (this : End) (other : Option (EndId × End))
-      → IsPast k rows old n → Fits me (ends_of_rows rows old) t id this other → ends_of_rows new slots ≡ with_change (ends_of_rows rows old) id this other → IsPast k new slots n
-  past-changed me t rows new old slots n id this other p f is =
-      let es = ends_of_rows rows old in
-      let P : List End → Type 0 = λ gs. AreSettled k gs n in
-      record {
-        within = omega (arith, p.within, ap length is, changed-longer es id this other, shown-length new slots, shown-length rows old);
-        settled = subst P (sym is) (changed-settled es n id this other p.settled (omega (arith, p.within, shown-length rows old)) f.place f.stays f.other_there f.other_stays);
-      }
-
-  -- ends that stay as they were
-  past-kept : (rows new : List EndPlace) (old slots : Slots) (n : ℕ) → IsPast k rows old n → ends_of_rows new slots ≡ ends_of_rows rows old → IsPast k new slots n
-  past-kept rows new old slots n p is =
-      let P : List End → Type 0 = λ gs. AreSettled k gs n in
-      record {
-        within = omega (arith, p.within, ap length is, shown-length new slots, shown-length rows old);
-        settled = subst P (sym is) p.settled;
-      }
-
-  -- the ends after a change, also where memory may have run out
-  pub past-either : {X E : Type 0} (r : Result X E) (me : Name) (t : Table) (rows new : List EndPlace) (old slots : Slots) (n : ℕ) (id : EndId) (this : End) (other : Option (EndId × End))
-      → IsPast k rows old n → Fits me (ends_of_rows rows old) t id this other
-      → OnOk r (ends_of_rows new slots ≡ with_change (ends_of_rows rows old) id this other) → OnErr r (ends_of_rows new slots ≡ ends_of_rows rows old) → IsPast k new slots n
-  past-either (Ok x) me t rows new old slots n id this other p f h g = past-changed me t rows new old slots n id this other p f h
-  past-either (Err x) me t rows new old slots n id this other p f h g = past-kept rows new old slots n p g
+  pub past-changed : (me : Name) (t : Table) (es : List End) (n : ℕ) (id : EndId) (this : End) (other : Option (EndId × End)) → IsPast k es n → Fits me es t id this other
+      → IsPast k (with_change es id this other) n
+  past-changed me t es n id this other p f = record {
+    within = omega (arith, p.within, changed-longer es id this other);
+    settled = changed-settled es n id this other p.settled p.within f.place f.stays f.other_there f.other_stays;
+  }
 
   sought-forgotten : (b : ℕ) (es : List End) (i : ℕ) → finds_sought k (slice_get (without_causes_below b es) i) ≡ finds_sought k (slice_get es i)
   sought-forgotten zero [] i = refl
@@ -108,10 +80,21 @@ module _ (k : Sought) where
   sought-forgotten (suc b) (e ∷ es) zero = same-sought k e
   sought-forgotten (suc b) (e ∷ es) (suc i) = sought-forgotten b es i
 
-  pub past-forgotten : (b : ℕ) (rows new : List EndPlace) (slots : Slots) (n : ℕ) → IsPast k rows slots n → length new ≡ length rows → ends_of_rows new slots ≡ without_causes_below b (ends_of_rows rows slots) → IsPast k new slots n
-  past-forgotten b rows new slots n p len is =
-      let P : List End → Type 0 = λ gs. AreSettled k gs n in
-      record {
-        within = omega (arith, p.within, len);
-        settled = subst P (sym is) (λ i h. sought-forgotten b (ends_of_rows rows slots) i ∙ p.settled i h);
-      }
+  pub past-forgotten : (b : ℕ) (es : List End) (n : ℕ) → IsPast k es n → IsPast k (without_causes_below b es) n
+  past-forgotten b es n p = record { within = omega (arith, p.within, forgotten-length b es); settled = λ i h. sought-forgotten b es i ∙ p.settled i h }
+
+-- what always holds still does after a change
+pub keeps-changed : (me : Name) (t : Table) (es : List End) (passed named : ℕ) (id : EndId) (this : End) (other : Option (EndId × End)) → KeepsEnds t es passed named
+    → Fits me es t id this other → KeepsEnds (table_after me es t id this) (with_change es id this other) passed named
+keeps-changed me t es passed named id this other h f = record {
+  agree = f.agree;
+  pending = past-changed sought.Pending me t es passed id this other h.pending f;
+  nameless = past-changed sought.Nameless me t es named id this other h.nameless f;
+}
+
+pub keeps-forgotten : (b : ℕ) (t : Table) (es : List End) (passed named : ℕ) → KeepsEnds t es passed named → KeepsEnds t (without_causes_below b es) passed named
+keeps-forgotten b t es passed named h = record {
+  agree = agree-forgotten t b es h.agree;
+  pending = past-forgotten sought.Pending b es passed h.pending;
+  nameless = past-forgotten sought.Nameless b es named h.nameless;
+}

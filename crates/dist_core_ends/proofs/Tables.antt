@@ -17,7 +17,7 @@ use Rattle.dist_core_ends.specs.declared.known.End.{End}
 use Rattle.dist_core_ends.specs.declared.phase.Kind.{Kind}
 use Rattle.dist_core_ends.specs.declared.phase.Kind.TheVariants.{Out, In, Up}
 use Rattle.dist_core_ends.specs.Ends.{Claim, claim_of, is_claim, same_kind, holds, holds_at, names, entry_in, entry_from, row_in, table_of, Agree, first_of}
-use Rattle.dist_core_ends.proofs.Agreement.{none-first, passes, entry-agreed}
+use Rattle.dist_core_ends.proofs.Agreement.{none-first, no-names, passes, entry-agreed}
 
 pub order : IsTotalOrder name_cmp
 order = nat_list_cmp_total
@@ -66,13 +66,13 @@ find-rows : (es : List End) (q : Name) (xs : List End) → find name_cmp q (filt
 find-rows es q [] = refl
 find-rows es q (e ∷ xs) = one-row es q (claim_of e) (filter_map (λ e. row_in es (claim_of e)) xs) (claimed q xs) (find-rows es q xs)
 
+pub and_false : (b : Bool) → (b && false) ≡ false
+and_false true = refl
+and_false false = refl
+
 not-held : (q : Name) (k : Kind) (c : Option Claim) → is_of q c ≡ false → is_claim q k c ≡ false
 not-held q k None h = refl
-not-held q k (Some c) h = ap (λ b. same_kind k c.kind && b) h ∙ both (same_kind k c.kind)
-  where
-    both : (b : Bool) → (b && false) ≡ false
-    both true = refl
-    both false = refl
+not-held q k (Some c) h = ap (λ b. same_kind k c.kind && b) h ∙ and_false (same_kind k c.kind)
 
 no-first : (a b : Bool) → (a || b) ≡ false → (a ≡ false) × (b ≡ false)
 no-first true b h = cc
@@ -98,11 +98,6 @@ get-table es q = get-from_entries order _ q ∙ find-rows es q es ∙ whole q es
 -- a table that agrees with the ends is the one that they make
 pub table-agreed : (t : Table) (es : List End) → Agree (map.get t) es → t ≡ table_of es
 table-agreed t es h = same_map order exact t (table_of es) (λ q. sym (entry-agreed (map.get t) es h q) ∙ sym (get-table es q))
-
-no-names : (k : Kind) (i : ℕ) → names k i None ≡ false
-no-names Out i = refl
-no-names In i = refl
-no-names Up i = refl
 
 pub agree-empty : (t : Table) (es : List End) → t ≡ map.empty → es ≡ [] → Agree (map.get t) es
 agree-empty t es e f p k i = ap (λ xs. holds_at xs p k i) f ∙ sym (ap (names k i) (ap (λ m. map.get m p) e ∙ get-empty name_cmp p) ∙ no-names k i)

@@ -1,5 +1,5 @@
 -- The up end of a peer is that of its entry.
-use Rattle.std.proofs.Common.{◌≡◌, ℕ, true, ◌==◌, eq-eqb, List, Option, Some, None, refl, sym, ap, ◌∙◌, slice_get}
+use Rattle.std.proofs.Common.{◌≡◌, ℕ, true, ◌==◌, eq-eqb, List, Option, Some, refl, sym, ap, ◌∙◌, slice_get}
 use Rattle.std.proofs.lemmas.Bool.{eqb-true}
 use Rattle.std.specs.Option.{option_and_then}
 use Rattle.dist_names.specs.Order.{Name, same_name}
@@ -24,21 +24,16 @@ module _ (es : List End) (p : Name) (o : Option Entry) (agree : (i : ℕ) → ho
       ap (λ (y : EndId). record_in y (slice_get es y.0)) same ∙ ap (record_in (end_id i)) at
 
   by-entry : (i : ℕ) (kept : UpRecord) → slice_get es i ≡ Some (ends.Up kept) → (q : Option Entry) → names Up i q ≡ true → up_from es (option_and_then up_id q) ≡ up_pair i kept
-  by-entry i kept at None e = absurd cc
-  by-entry i kept at (Some (entry.Out x)) e = absurd cc
-  by-entry i kept at (Some (entry.In x)) e = absurd cc
   by-entry i kept at (Some (entry.Up x)) e = at-own i x kept at e
   by-entry i kept at (Some (entry.Challenged up x)) e = at-own i up kept at e
+  by-entry i kept at q e = absurd cc
 
   pub up-only : (i : ℕ) (kept : UpRecord) → slice_get es i ≡ Some (ends.Up kept) → kept.peer ≡ p → up_from es (option_and_then up_id o) ≡ up_pair i kept
   up-only i kept at same = by-entry i kept at o (sym (agree i) ∙ (ap (is_held p Up) at ∙ itself p kept.peer same))
 
   at-end : (x : EndId) (s : Option End) → slice_get es x.0 ≡ s → is_held p Up s ≡ true → FindsUp es p (record_in x s)
-  at-end x None at e = tt
-  at-end x (Some ends.Unnamed) at e = tt
-  at-end x (Some (ends.Attempt a)) at e = tt
   at-end x (Some (ends.Up r)) at e = (at, sym (same-name p r.peer e))
-  at-end x (Some (ends.Closed w)) at e = tt
+  at-end x s at e = tt
 
   named-own : (x : EndId) → names Up x.0 o ≡ true → FindsUp es p (record_in x (slice_get es x.0))
   named-own x e = at-end x (slice_get es x.0) refl (agree x.0 ∙ e)
@@ -47,8 +42,6 @@ module _ (es : List End) (p : Name) (o : Option Entry) (agree : (i : ℕ) → ho
   up-found = by o refl
     where
       by : (q : Option Entry) → o ≡ q → FindsUp es p (up_from es (option_and_then up_id q))
-      by None e = tt
-      by (Some (entry.Out x)) e = tt
-      by (Some (entry.In x)) e = tt
       by (Some (entry.Up x)) e = named-own x (ap (names Up x.0) e ∙ eq-eqb x.0 x.0 refl)
       by (Some (entry.Challenged up x)) e = named-own up (ap (names Up up.0) e ∙ eq-eqb up.0 up.0 refl)
+      by q e = tt

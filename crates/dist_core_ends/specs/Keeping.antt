@@ -1,7 +1,9 @@
 -- Where ends are kept: open ends in slots; of a closed end only its cause. No public contract speaks of it.
 use Rattle.std.specs.Prelude.{◌≡◌, ◌≢◌, ℕ, zero, suc, ◌+◌, ◌<◌, ◌≤◌, Bool, true, false, List, [], ◌∷◌, length, Option, Some, None}
 use Rattle.std.specs.Prelude.{is_some, slice_get, slice_index_or, count_by}
+use Rattle.std.specs.FinMap as map
 use Rattle.slab.specs.Slab.{Slab, slab_len}
+use Rattle.dist_peers.specs.Table.{Table}
 use Rattle.dist_core_ends.specs.declared.why.Why.TheVariants as why
 use Rattle.dist_core_ends.specs.declared.known.End.{End}
 use Rattle.dist_core_ends.specs.declared.known.End.TheVariants as ends
@@ -9,7 +11,12 @@ use Rattle.dist_core_ends.specs.declared.slots.EndPlace.{EndPlace}
 use Rattle.dist_core_ends.specs.declared.slots.EndPlace.TheVariants as row
 use Rattle.dist_core_ends.specs.declared.slots.Sought.{Sought}
 use Rattle.dist_core_ends.specs.declared.slots.Sought.TheVariants as sought
-use Rattle.dist_core_ends.specs.Ends.{is_open, is_pending, is_unnamed}
+use Rattle.dist_core_ends.specs.Ends.{is_open, is_pending, is_unnamed, Agree}
+
+-- all ends, by their numbers, and how many more fit without taking memory
+pub record RoomyEnds : Type 0 where
+  pub items : List End
+  pub room : ℕ
 
 abbrev pub Slots : Type 0
 Slots = List (Option End)
@@ -89,6 +96,12 @@ abbrev pub AreSettled : Sought → List End → ℕ → Type 0
 AreSettled k es n = (i : ℕ) → i < n → finds_sought k (slice_get es i) ≡ false
 
 -- the same, for a number that was given out or is the next one
-pub record IsPast (k : Sought) (rows : List EndPlace) (slots : Slots) (n : ℕ) : Type 0 where
-  pub within : n ≤ length rows
-  pub settled : AreSettled k (ends_of_rows rows slots) n
+pub record IsPast (k : Sought) (es : List End) (n : ℕ) : Type 0 where
+  pub within : n ≤ length es
+  pub settled : AreSettled k es n
+
+-- what always holds of the fields of `Ends`
+pub record KeepsEnds (peers : Table) (es : List End) (passed named : ℕ) : Type 0 where
+  pub agree : Agree (map.get peers) es
+  pub pending : IsPast sought.Pending es passed
+  pub nameless : IsPast sought.Nameless es named

@@ -2,7 +2,6 @@ pub mod Ends
 pub mod Forgetting
 pub mod Change
 pub mod Keeping
-pub mod Kept
 pub mod Places
 pub mod Words
 pub mod Progress

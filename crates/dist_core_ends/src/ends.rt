@@ -1,9 +1,9 @@
 //! All ends of a node, and who holds whom.
-ghost use Rattle.std.specs.Prelude.{◌≡◌, ℕ, ◌<◌, ◌+◌, ◌^◌, [], length, IsOk, OnOk, OnErr, Ok, Err, Some, None, option_copied, slice_get, count_by};
+ghost use Rattle.std.specs.Prelude.{◌≡◌, ℕ, ◌<◌, ◌^◌, [], length, IsOk, OnOk, OnErr, Some, None, option_copied, slice_get, count_by};
 ghost use Rattle.std.specs.Option.{option_map, option_and_then};
 ghost use Rattle.std.specs.FinMap as map;
 ghost use Rattle.dist_names.specs.Order.{Name};
-ghost use Rattle.dist_peers.specs.Table.{replaced_by, up_behind};
+ghost use Rattle.dist_peers.specs.Table.{entry_of, replaced_by, up_behind};
 ghost use Rattle.dist_peers.specs.Verdicts.{is_full};
 ghost use Rattle.dist_core_ends.specs.Ends.{AreLegal, FindsUp, Finds, entry_in, table_of, is_open, is_dialing, claim_of, end_id};
 ghost use Rattle.dist_core_ends.specs.Ends.{record_in, up_from, up_pair, up_id, up_ids, oldest_pending, oldest_unnamed, still_of, awaited_of, verdict_of};
@@ -13,13 +13,11 @@ ghost use Rattle.dist_core_ends.specs.Progress.{at_stage, replaced_end, CanAdvan
 
 use crate::known::{Attempt, End, Stage, UpRecord};
 use crate::phase::{Absent, Awaited, Phase, Still};
-use crate::rows::Rows;
-use crate::slots::{Sought, change_attempt, find, first_sought};
-use crate::table::{add, apply, close_end, connect_end};
+use crate::slots::{EndList, Sought};
+use crate::table::{leave, shift_by_number};
 use crate::why::Why;
 use dist_names::NodeName;
 use dist_peers::{EndId, Entry, Peers, Verdict};
-use slab::Slab;
 use std::alloc::{AllocError, Global};
 use std::marker::Model;
 
@@ -28,10 +26,8 @@ use std::marker::Model;
 pub struct Ends {
     /// The entries that the ends make: from a peer to its ends.
     peers: Peers,
-    /// For each number that was given out, the slot of its end or the cause of its closing.
-    rows: Rows,
-    /// The open ends.
-    slots: Slab<End>,
+    /// The ends, by their numbers.
+    list: EndList,
     /// No end below this number is pending, or ever will be: the number only rises.
     passed: usize,
     /// The same for ends on which no name came.
@@ -41,14 +37,13 @@ pub struct Ends {
 impl Model for Ends {
     ghost use Rattle.std.specs.Prelude.{List};
     ghost use Rattle.dist_core_ends.specs.declared.known.End.{End};
-    ghost use Rattle.dist_core_ends.specs.Kept.{KeepsEnds};
-    ghost use Rattle.dist_core_ends.specs.Keeping.{ends_of_rows};
+    ghost use Rattle.dist_core_ends.specs.Keeping.{KeepsEnds};
 
     ghost Value = { List End };
 
-    ghost view = { λ b. ends_of_rows b.rows.items b.slots.slots };
+    ghost view = { λ b. b.list.items };
 
-    ghost invariant = { λ b. KeepsEnds b.peers b.rows.items b.slots.slots b.passed b.named };
+    ghost invariant = { λ b. KeepsEnds b.peers b.list.items b.passed b.named };
 }
 
 impl Ends {
@@ -58,8 +53,7 @@ impl Ends {
     {
         Ends {
             peers: Peers::new(alloc),
-            rows: Rows::new(alloc),
-            slots: Slab::new(alloc),
+            list: EndList::new(alloc),
             passed: 0,
             named: 0,
         }
@@ -69,7 +63,7 @@ impl Ends {
     pub fn len(&self) -> usize
         ensures { result ≡ length self.now }
     {
-        self.rows.len()
+        self.list.len()
     }
 
     /// The number of the next end that is given out.
@@ -77,7 +71,7 @@ impl Ends {
         requires { length self.now < 2 ^ 32 }
         ensures { result ≡ end_id (length self.now) }
     {
-        EndId(self.rows.len() as u32)
+        EndId(self.list.len() as u32)
     }
 
     /// How many ends are open.
@@ -85,7 +79,7 @@ impl Ends {
         ensures count { result ≡ count_by is_open self.now }
         ensures legal { AreLegal self.now }
     {
-        self.slots.len()
+        self.list.open_ends()
     }
 
     /// How an end stands.
@@ -129,56 +123,65 @@ impl Ends {
     pub fn open_end(&self, id: EndId) -> Result<&End, Absent>
         ensures { Finds result (slice_get self.now id.0) }
     {
-        find(&self.rows, &self.slots, id)
+        self.list.at(id)
+    }
+
+    // The entries that the ends make.
+    #[inline(always)]
+    fn table(&self) -> &Peers
+        ensures table { result.now ≡ table_of self.now }
+        ensures entries { (p : Name) → entry_of result.now p ≡ entry_in self.now p }
+    {
+        &self.peers
     }
 
     /// The entry of a peer, where the peer isn't idle.
     pub fn entry_of(&self, peer: &NodeName) -> Option<Entry>
         ensures { result ≡ entry_in self.now peer.now }
     {
-        self.peers.entry(peer)
+        self.table().entry(peer)
     }
 
     /// How many peers have an entry.
     pub fn entries(&self) -> usize
         ensures { result ≡ map.len (table_of self.now) }
     {
-        self.peers.len()
+        self.table().len()
     }
 
     /// The entry at this place, in the order of the peers' names.
     pub fn entry_at(&self, i: usize) -> Option<(&NodeName, Entry)>
         ensures { option_map (λ r. (r.0.now, r.1)) result ≡ slice_get (map.entries (table_of self.now)) i }
     {
-        self.peers.at(i)
+        self.table().at(i)
     }
 
     /// Whether there are `most` entries or more, and none is this peer's.
     pub fn is_full_for(&self, peer: &NodeName, most: u32) -> bool
         ensures { result ≡ is_full most (table_of self.now) (entry_in self.now peer.now) }
     {
-        self.peers.is_full_for(peer, most)
+        self.table().is_full_for(peer, most)
     }
 
     /// The verdict on a peer's name that comes on this end, at a node of name `me`.
     pub fn verdict(&self, me: &NodeName, peer: &NodeName, id: EndId) -> Verdict
         ensures { result ≡ verdict_of me.now self.now id peer.now }
     {
-        self.peers.verdict(me, peer, id)
+        self.table().verdict(me, peer, id)
     }
 
     /// How many ends are up.
     pub fn ups(&self) -> usize
         ensures { result ≡ length (up_ids (map.entries (table_of self.now))) }
     {
-        self.peers.ups()
+        self.table().ups()
     }
 
     /// The up end at this place, in the order of the peers' names. It walks the entries once.
     pub fn up_at(&self, i: usize) -> Option<(EndId, &UpRecord)>
         ensures { option_map (λ r. (r.0, r.1.now)) result ≡ up_from self.now (slice_get (up_ids (map.entries (table_of self.now))) i) }
     {
-        self.with_record(self.up_id_at(i))
+        self.with_record(self.table().up_at(i))
     }
 
     /// The first up end of the peers whose names come after this one, in their order; of all peers where there is no name. Called
@@ -186,21 +189,7 @@ impl Ends {
     pub fn up_behind(&self, name: Option<&NodeName>) -> Option<(EndId, &UpRecord)>
         ensures { option_map (λ r. (r.0, r.1.now)) result ≡ up_from self.now (up_behind (option_copied name.entry) (map.entries (table_of self.now))) }
     {
-        self.with_record(self.up_id_behind(name))
-    }
-
-    // The number of the end that `up_behind` returns.
-    fn up_id_behind(&self, name: Option<&NodeName>) -> Option<EndId>
-        ensures { result ≡ up_behind (option_copied name.entry) (map.entries (table_of self.now)) }
-    {
-        self.peers.up_behind(name)
-    }
-
-    // The number of the up end at this place.
-    fn up_id_at(&self, i: usize) -> Option<EndId>
-        ensures { result ≡ slice_get (up_ids (map.entries (table_of self.now))) i }
-    {
-        self.peers.up_at(i)
+        self.with_record(self.table().up_behind(name))
     }
 
     /// The up end whose peer has this name, and its record. There is at most one.
@@ -248,12 +237,7 @@ impl Ends {
         ensures oldest { result ≡ oldest_pending self.old }
         ensures same { self.new ≡ self.old }
     {
-        self.passed = first_sought(&self.rows, &self.slots, self.passed, Sought::Pending);
-        if self.passed < self.rows.len() {
-            Some(EndId(self.passed as u32))
-        } else {
-            None
-        }
+        self.list.first(&mut self.passed, Sought::Pending)
     }
 
     /// Of the ends on which no name came yet, the one that has been open for the longest. `None` where there is none. As with
@@ -262,12 +246,7 @@ impl Ends {
         ensures oldest { result ≡ oldest_unnamed self.old }
         ensures same { self.new ≡ self.old }
     {
-        self.named = first_sought(&self.rows, &self.slots, self.named, Sought::Nameless);
-        if self.named < self.rows.len() {
-            Some(EndId(self.named as u32))
-        } else {
-            None
-        }
+        self.list.first(&mut self.named, Sought::Nameless)
     }
 
     /// Forgets why the ends below this number were closed: from then on they answer as if the other side had ended each
@@ -276,7 +255,7 @@ impl Ends {
     pub fn forget(&mut self, below: EndId)
         ensures { self.new ≡ without_causes_below below.0 self.old }
     {
-        self.rows.forget(below.0 as usize);
+        self.list.forget(below);
     }
 
     /// Closes an end that is open. It takes no memory.
@@ -289,7 +268,8 @@ impl Ends {
         requires stays { StaysClosed (slice_get self.old id.0) (End.Closed why) }
         ensures { self.new ≡ with_change self.old id (End.Closed why) None }
     {
-        close_end(&mut self.peers, &mut self.rows, &mut self.slots, id, why);
+        let closed = self.list.close(id, why);
+        leave(&mut self.peers, id, closed);
     }
 
     /// An attempt goes on to another stage, at which it holds its peer as before. It is changed in place, and no memory is taken.
@@ -300,7 +280,7 @@ impl Ends {
         ensures { (a : Attempt) → slice_get self.old id.0 ≡ Some (End.Attempt a)
             → self.new ≡ with_change self.old id (End.Attempt (at_stage a to)) None }
     {
-        change_attempt(&self.rows, &mut self.slots, id, to);
+        self.list.advance(id, to);
     }
 
     /// An attempt comes up with this record. The end that it replaces, if any, is closed and returned. No memory is taken,
@@ -315,7 +295,9 @@ impl Ends {
         ensures replaced { result ≡ replaced_by (entry_in self.old kept.now.peer) }
         ensures ends { self.new ≡ with_change self.old id (End.Up kept.now) (replaced_end (replaced_by (entry_in self.old kept.now.peer))) }
     {
-        connect_end(&mut self.peers, &mut self.rows, &mut self.slots, id, kept)
+        let replaced = self.peers.came_up(&kept.peer, id);
+        self.list.rise(id, kept, replaced);
+        replaced
     }
 
     /// Gives out the next end, of which nothing is known yet.
@@ -325,7 +307,9 @@ impl Ends {
         ensures ok { OnOk result (self.new ≡ with_change self.old (end_id (length self.old)) End.Unnamed None) }
         ensures err { OnErr result (self.new ≡ self.old) }
     {
-        add(&mut self.rows, &mut self.slots)
+        self.list.reserve()?;
+        self.list.push(End::Unnamed);
+        Ok(())
     }
 
     /// Changes an end, or gives out the next one, and at most one other with it, at a node of name `me`.
@@ -344,14 +328,9 @@ impl Ends {
         // A change after which the end holds no peer takes no memory.
         ensures loss { claim_of this ≡ None → id.0 < length self.old → IsOk result }
     {
-        apply(
-            &mut self.peers,
-            &mut self.rows,
-            &mut self.slots,
-            me,
-            id,
-            this,
-            other,
-        )
+        self.list.reserve_for(id)?;
+        shift_by_number(&mut self.peers, &self.list, me, id, &this)?;
+        self.list.change(id, this, other);
+        Ok(())
     }
 }

@@ -5,7 +5,7 @@ ghost use Rattle.dist_core_ends.specs.declared.known.End.{End};
 ghost use Rattle.dist_core_ends.specs.Ends.{AreLegal};
 ghost use Rattle.dist_core_ends.specs.Change.{IsThere, with_change, view_after};
 
-/// What stands at each number after a change of an end, or of the next one, and perhaps of another with it.
+/// After a change of one end (or of a new one behind the last), and perhaps of one other: these are changed, all else stays.
 pub fn ends_after_a_change()
     ensures { (es : List End) (id : EndId) (this : End) (other : Option (EndId × End)) (i : ℕ)
         → id.0 ≤ length es → IsThere es other → slice_get (with_change es id this other) i ≡ view_after es id this other i }

@@ -36,9 +36,7 @@ noted f = f.reply.note
 
 superseding : (id : EndId) (say : List ℕ) (b : Attempt) (y : EndId) (s : End) → noted (supersedes id say b y s) ≡ note.ReplySaid → ⊥
 superseding id say b y (ends.Closed w) e = absurd cc
-superseding id say b y ends.Unnamed e = absurd cc
-superseding id say b y (ends.Attempt c) e = absurd cc
-superseding id say b y (ends.Up r) e = absurd cc
+superseding id say b y s e = absurd cc
 
 nothing : (f : Effect) → noted f ≡ note.Nothing → noted f ≡ note.ReplySaid → ⊥
 nothing f is e = let bad : note.Nothing ≡ note.ReplySaid = sym is ∙ e in absurd cc
@@ -56,11 +54,8 @@ by-taken n id b f (Asks_again y z is k) e = taken f b.peer None (ap noted k) e
 
 -- an entry that names this end as dialled
 named-out : (id : EndId) (o : Option Entry) → names Out id.0 o ≡ true → o ≡ Some (entry.Out id)
-named-out id None h = absurd (false≢true h)
 named-out id (Some (entry.Out x)) h = let place : x.0 ≡ id.0 = eqb-true x.0 id.0 h in λ i. Some (entry.Out (record { 0 = place i }))
-named-out id (Some (entry.In x)) h = absurd (false≢true h)
-named-out id (Some (entry.Up x)) h = absurd (false≢true h)
-named-out id (Some (entry.Challenged u x)) h = absurd (false≢true h)
+named-out id o h = absurd (false≢true h)
 
 module _ (n : NodeState) (legal : AreLegal n.ends) where
   held : (id : EndId) (b : Attempt) → slice_get n.ends id.0 ≡ Some (ends.Attempt b) → b.phase ≡ phase.AwaitChallenge → entry_in n.ends b.peer ≡ Some (entry.Out id)

@@ -20,29 +20,20 @@ use Rattle.dist_core.specs.Effects.{superseded_end}
 
 -- to forget a cause twice is to forget it once
 cause-once : (e : End) → without_cause (without_cause e) ≡ without_cause e
-cause-once ends.Unnamed = refl
-cause-once (ends.Attempt a) = refl
-cause-once (ends.Up r) = refl
 cause-once (ends.Closed w) = refl
+cause-once e = refl
 
 claim-same : (e : End) → claim_of (without_cause e) ≡ claim_of e
-claim-same ends.Unnamed = refl
-claim-same (ends.Attempt a) = refl
-claim-same (ends.Up r) = refl
 claim-same (ends.Closed w) = refl
+claim-same e = refl
 
 open-same : (e : End) → is_open (without_cause e) ≡ is_open e
-open-same ends.Unnamed = refl
-open-same (ends.Attempt a) = refl
-open-same (ends.Up r) = refl
 open-same (ends.Closed w) = refl
+open-same e = refl
 
 superseded-same : (o : Option End) → superseded_end (option_map without_cause o) ≡ superseded_end o
-superseded-same None = refl
-superseded-same (Some ends.Unnamed) = refl
-superseded-same (Some (ends.Attempt a)) = refl
-superseded-same (Some (ends.Up r)) = refl
 superseded-same (Some (ends.Closed w)) = refl
+superseded-same o = refl
 
 -- ---- all ends
 

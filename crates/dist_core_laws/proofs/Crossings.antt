@@ -1,5 +1,5 @@
 -- What becomes of a dialled end that a crossing name supersedes, by how far its handshake has come.
-use Rattle.std.proofs.Common.{◌≡◌, ℕ, true, List, Option, Some, None, refl, ap, ◌∙◌, slice_get}
+use Rattle.std.proofs.Common.{◌≡◌, ℕ, true, List, Option, Some, refl, ap, ◌∙◌, slice_get}
 use Rattle.std.proofs.lemmas.Bool.{false≢true, eq-eqb}
 use Rattle.std.specs.Option.{option_map}
 use Rattle.dist_peers.specs.declared.entry.EndId.{EndId}
@@ -24,18 +24,11 @@ module _ (n : NodeState) (id : EndId) (say : List ℕ) (b : Attempt) (x : EndId)
   by-phase d phase.AwaitStatus at ph held k = Dooms d phase.Doomed at (ap (λ (q : Phase). doomed_as q) ph) k
   by-phase d phase.AwaitChallenge at ph held k = Drops d at (ap (λ (q : Phase). was_let_on q) ph) k
   by-phase d phase.AwaitAck at ph held k = Drops d at (ap (λ (q : Phase). was_let_on q) ph) k
-  by-phase d phase.DoomedDialing at ph held k = absurd (false≢true held)
-  by-phase d phase.Doomed at ph held k = absurd (false≢true held)
-  by-phase d phase.AwaitTrue at ph held k = absurd (false≢true held)
-  by-phase d phase.AwaitComplement at ph held k = absurd (false≢true held)
-  by-phase d phase.AwaitReply at ph held k = absurd (false≢true held)
+  by-phase d q at ph held k = absurd (false≢true held)
 
   by-end : (o : Option End) → slice_get n.ends x.0 ≡ o → is_held b.peer Out o ≡ true → f ≡ supersedes id say b x (superseded_end o) → Supersedes n id say b x f
-  by-end None at held k = absurd (false≢true held)
-  by-end (Some ends.Unnamed) at held k = absurd (false≢true held)
   by-end (Some (ends.Attempt d)) at held k = by-phase d d.phase at refl held k
-  by-end (Some (ends.Up r)) at held k = absurd (false≢true held)
-  by-end (Some (ends.Closed w)) at held k = absurd (false≢true held)
+  by-end o at held k = absurd (false≢true held)
 
 pub dooms-or-closes : (n : NodeState) (id : EndId) (say : List ℕ) (b : Attempt) (x : EndId) (f : Effect) → AreLegal n.ends → entry_in n.ends b.peer ≡ Some (entry.Out x)
     → f ≡ supersedes id say b x (superseded_end (slice_get n.ends x.0)) → Supersedes n id say b x f

@@ -79,21 +79,13 @@ module _ (n : NodeState) where
 
 -- a doomed end holds no peer
 holds-none : (p : Name) (k : Kind) (e : End) → is_doomed e ≡ true → holds p k e ≡ true → ⊥
-holds-none p k ends.Unnamed d h = false≢true d
-holds-none p k (ends.Up r) d h = false≢true d
-holds-none p k (ends.Closed w) d h = false≢true d
 holds-none p k (ends.Attempt a) d h = by a.phase d h
   where
     by : (ph : Phase) → doomed_in ph ≡ true → is_claim p k (option_map (λ l. record { peer = a.peer; kind = l }) (kind_in ph)) ≡ true → ⊥
     by phase.DoomedDialing d h = false≢true h
     by phase.Doomed d h = false≢true h
-    by phase.Dialing d h = false≢true d
-    by phase.AwaitStatus d h = false≢true d
-    by phase.AwaitChallenge d h = false≢true d
-    by phase.AwaitAck d h = false≢true d
-    by phase.AwaitTrue d h = false≢true d
-    by phase.AwaitComplement d h = false≢true d
-    by phase.AwaitReply d h = false≢true d
+    by ph d h = false≢true d
+holds-none p k e d h = false≢true d
 
 -- what stands in the place of a doomed end afterwards
 abbrev Becomes : End → Option End → Type 0

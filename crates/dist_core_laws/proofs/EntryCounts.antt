@@ -111,13 +111,7 @@ len-shifted most t me id (Some d) (Some q) asks room h = rises d.kind q.kind ask
     rises : (k l : Kind) → AsksRaise t id q.peer k l → map.len (table_after_rise t id q.peer k l) ≤ most
     rises Out Up w = omega (arith, h, len-waiting t id q.peer (entry.Up id) w)
     rises In Up w = omega (arith, h, len-waiting t id q.peer (entry.Up id) w)
-    rises Out Out w = h
-    rises Out In w = h
-    rises In Out w = h
-    rises In In w = h
-    rises Up Out w = h
-    rises Up In w = h
-    rises Up Up w = h
+    rises k l w = h
 
 -- ---- the rows
 
@@ -140,9 +134,7 @@ claims-peer b q h = by (kind_in b.phase) h
 
 superseding : (id : EndId) (say : List ℕ) (b : Attempt) (x : EndId) (s : End) → (let f = supersedes id say b x s in f.this) ≡ ends.Attempt b
 superseding id say b x (ends.Closed w) = refl
-superseding id say b x ends.Unnamed = refl
-superseding id say b x (ends.Attempt a) = refl
-superseding id say b x (ends.Up r) = refl
+superseding id say b x s = refl
 
 module _ (n : NodeState) where
   -- where an end begins to hold a peer, there is room for its entry

@@ -66,11 +66,8 @@ seen (Err e) = Err (reported e)
 
 -- a closed end refuses an event, whatever its cause
 at-forgotten : (o : Option End) (f : End → Result Effect StepError) → seen (at_end (option_map without_cause o) f) ≡ seen (at_end o f)
-at-forgotten None f = refl
-at-forgotten (Some ends.Unnamed) f = refl
-at-forgotten (Some (ends.Attempt a)) f = refl
-at-forgotten (Some (ends.Up r)) f = refl
 at-forgotten (Some (ends.Closed w)) f = refl
+at-forgotten o f = refl
 
 at-alike : (o q : Option End) (f g : End → Result Effect StepError) → option_map without_cause o ≡ option_map without_cause q → ((e : End) → f e ≡ g e) → seen (at_end o f) ≡ seen (at_end q g)
 at-alike o q f g same each =
@@ -102,11 +99,8 @@ module _ (s : Setup) (k : ℕ) (es ds : List End) (alike : map without_cause es 
   -- ---- a name
 
   taken-as : (id : EndId) (b : Attempt) (v : Verdict) → name_taken s es id b v ≡ name_taken s ds id b v
-  taken-as id b verdict.Ok = refl
   taken-as id b (verdict.OkSimultaneous x) = ap (supersedes id (greeting_text s status.OkSimultaneous b.form b.challenge) b x) (superseded-alike es ds alike x.0)
-  taken-as id b verdict.Nok = refl
-  taken-as id b verdict.Alive = refl
-  taken-as id b (verdict.Replaces x again) = refl
+  taken-as id b v = refl
 
   taken : (id : EndId) (b : Attempt) (p : Name) → name_taken s es id b (verdict_in m id p) ≡ name_taken s ds id b (verdict_in n id p)
   taken id b p =
@@ -135,8 +129,7 @@ module _ (s : Setup) (k : ℕ) (es ds : List End) (alike : map without_cause es 
   hears id fresh e (Err x) = refl
   hears id fresh ends.Unnamed (Ok x) = names id fresh x
   hears id fresh (ends.Attempt b) (Ok x) = attempts id fresh b b.phase x
-  hears id fresh (ends.Up r) (Ok x) = refl
-  hears id fresh (ends.Closed w) (Ok x) = refl
+  hears id fresh e (Ok x) = refl
 
   framed : (id : EndId) (fresh : ℕ) (body : List ℕ) (e : End) (side : Option Side) → framed_from m id fresh body e side ≡ framed_from n id fresh body e side
   framed id fresh body e None = refl
@@ -191,8 +184,7 @@ module _ (s : Setup) (k : ℕ) (es ds : List End) (alike : map without_cause es 
 
   no-room : (v : Change) → finds_no_room m v ≡ finds_no_room n v
   no-room (Cookie p own) = refl
-  no-room (UsualCookie cookie) = refl
-  no-room (Allow names) = refl
+  no-room v = refl
 
   changes-alike : (v : Change) → AreAlike (changed_or m (change m v)) (changed_or n (change n v))
   changes-alike v =
@@ -219,18 +211,9 @@ pub forgets_still_alike : (m n : NodeState) (below : ℕ) → AreAlike m n → A
 forgets_still_alike m n below a = record { setup = a.setup; steps = a.steps; ends = sym (forgotten-alike below m.ends) ∙ a.ends }
 
 settled-alike : (m n : NodeState) (a b : Result (Reply × NodeState) StepError) → AreAlike m n → AreAlikeAnswers a b → AreAlike (node_after m a) (node_after n b)
-settled-alike m n a b alike (Same_reply r x y is was after) =
-    let P : Result (Reply × NodeState) StepError → Type 0 = λ q. AreAlike (node_after m q) (node_after n b) in
-    let Q : Result (Reply × NodeState) StepError → Type 0 = λ q. AreAlike x (node_after n q) in
-    subst P (sym is) (subst Q (sym was) after)
-settled-alike m n a b alike (Both_gone v w is was) =
-    let P : Result (Reply × NodeState) StepError → Type 0 = λ q. AreAlike (node_after m q) (node_after n b) in
-    let Q : Result (Reply × NodeState) StepError → Type 0 = λ q. AreAlike m (node_after n q) in
-    subst P (sym is) (subst Q (sym was) alike)
-settled-alike m n a b alike (Same_refusal e is was) =
-    let P : Result (Reply × NodeState) StepError → Type 0 = λ q. AreAlike (node_after m q) (node_after n b) in
-    let Q : Result (Reply × NodeState) StepError → Type 0 = λ q. AreAlike m (node_after n q) in
-    subst P (sym is) (subst Q (sym was) alike)
+settled-alike m n a b alike (Same_reply r x y is was after) = rw (is, was) after
+settled-alike m n a b alike (Both_gone v w is was) = rw (is, was) alike
+settled-alike m n a b alike (Same_refusal e is was) = rw (is, was) alike
 
 pub same_run : (xs : List (Event × ℕ)) (m n : NodeState) → AreAlike m n → AreAlike (run xs m) (run xs n)
 same_run [] m n alike = alike

@@ -1,28 +1,21 @@
 -- The ends that hold a peer are always exactly those that its entry names.
-use Rattle.std.proofs.Common.{◌≡◌, ℕ, List, [], ◌∷◌, Result, Ok, Err, refl, sym, subst}
+use Rattle.std.proofs.Common.{ℕ, List, [], ◌∷◌}
 use Rattle.std.specs.FinMap as map
 use Rattle.dist_core_setup.specs.declared.setup.Setup.{Setup}
 use Rattle.dist_core.specs.declared.event.Event.{Event}
-use Rattle.dist_core.specs.declared.effect.Effect.{Effect}
-use Rattle.dist_core.specs.declared.step_error.StepError.{StepError}
 use Rattle.dist_core_ends.specs.Ends.{AreLegal, table_of}
 use Rattle.dist_core.specs.Node.{NodeState, ends_after}
 use Rattle.dist_core.specs.Fitting.{table_after_effect}
-use Rattle.dist_core.specs.Step.{effect_of, step, step_result}
+use Rattle.dist_core.specs.Step.{step}
 use Rattle.dist_core.specs.Runs.{run, node_after, opening}
 use Rattle.dist_core_ends.proofs.Legal.{legal, table-legal, none-legal}
 use Rattle.dist_core.proofs.Steps.{fits}
+use Rattle.dist_core_laws.proofs.Constant.{after-step}
 
 pub legal_step : (n : NodeState) (v : Event) (fresh : ℕ) → AreLegal n.ends → AreLegal (node_after n (step n v fresh)).ends
-legal_step n v fresh h = by (effect_of n v fresh) refl
-  where
-    by : (r : Result Effect StepError) → effect_of n v fresh ≡ r → AreLegal (node_after n (step n v fresh)).ends
-    by (Ok f) e =
-        let P : Result Effect StepError → Type 0 = λ r. AreLegal (node_after n (step_result n v r)).ends in
-        subst P (sym e) (legal (map.get (table_after_effect n (table_of n.ends) f)) (ends_after n.ends f) (let g = fits n (table_of n.ends) (table-legal n.ends h) v fresh f e in g.agree))
-    by (Err x) e =
-        let P : Result Effect StepError → Type 0 = λ r. AreLegal (node_after n (step_result n v r)).ends in
-        subst P (sym e) h
+legal_step n v fresh h = after-step (λ m. AreLegal m.ends) n v fresh h (λ f e.
+    let g = fits n (table_of n.ends) (table-legal n.ends h) v fresh f e in
+    legal (map.get (table_after_effect n (table_of n.ends) f)) (ends_after n.ends f) g.agree)
 
 legal-run : (xs : List (Event × ℕ)) (n : NodeState) → AreLegal n.ends → AreLegal (run xs n).ends
 legal-run [] n h = h

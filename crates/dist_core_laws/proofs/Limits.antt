@@ -1,5 +1,5 @@
 -- A node stays within its limits.
-use Rattle.std.proofs.Common.{◌≡◌, ◌∙◌, ℕ, ◌+◌, ◌≤◌, true, false, ◌||◌, List, [], ◌∷◌, length, Result, Ok, Err, refl, sym, ap, subst, arith}
+use Rattle.std.proofs.Common.{◌≡◌, ◌∙◌, ℕ, ◌+◌, ◌≤◌, true, false, ◌||◌, List, [], ◌∷◌, length, Ok, refl, sym, ap, subst, arith}
 use Rattle.std.proofs.lemmas.Bool.Decides.{nat_tests}
 use Rattle.std.specs.List.{count_by}
 use Rattle.dist_core_setup.specs.declared.setup.Setup.{Setup}
@@ -7,7 +7,6 @@ use Rattle.dist_core_setup.specs.declared.limits.Limits.{Limits}
 use Rattle.dist_core_setup.specs.Limits.{usual_limits}
 use Rattle.dist_core.specs.declared.event.Event.{Event}
 use Rattle.dist_core.specs.declared.effect.Effect.{Effect}
-use Rattle.dist_core.specs.declared.step_error.StepError.{StepError}
 use Rattle.std.specs.FinMap as map
 use Rattle.std.specs.FinMap.{len-empty}
 use Rattle.dist_names.specs.Order.{name_cmp}
@@ -17,12 +16,13 @@ use Rattle.dist_core_laws.specs.Laws.{IsWithinLimits, given_by}
 use Rattle.dist_core.specs.Node.{NodeState, ends_after, is_crowded, is_given_out, is_spent, limits_of}
 use Rattle.dist_core.specs.Rows.{StepRow, Dials, Comes_in, Begins, Ceases, Loses, Ticks, Fails, Hears}
 use Rattle.dist_core.specs.Runs.{run, node_after, opening}
-use Rattle.dist_core.specs.Step.{effect_of, step, step_result, after, cost_of}
+use Rattle.dist_core.specs.Step.{effect_of, step, after, cost_of}
 use Rattle.dist_core_ends.proofs.Tables.{agree-empty, table-agreed}
 use Rattle.dist_core.proofs.Counts.{counts, of_ok}
 use Rattle.dist_core.proofs.Numbers.{numbered}
 use Rattle.dist_core.proofs.Rows.{row_of}
 use Rattle.dist_core_laws.proofs.Legal.{legal_opening, legal_step}
+use Rattle.dist_core_laws.proofs.Constant.{after-step}
 use Rattle.dist_core_laws.proofs.OpenCounts.{open_change}
 use Rattle.dist_core_laws.proofs.EntryCounts.{entries_after}
 
@@ -66,11 +66,7 @@ module _ (n : NodeState) where
       record { steps = counted.0; given_out = numbered n v fresh f row h.given_out; open_ends = omega (arith, room, open_change n legal v fresh f is); entries = entries_after n v fresh f legal h.entries is }
 
 pub within_step : (n : NodeState) (v : Event) (fresh : ℕ) → AreLegal n.ends → IsWithinLimits n → IsWithinLimits (node_after n (step n v fresh))
-within_step n v fresh legal h = by (effect_of n v fresh) refl
-  where
-    by : (r : Result Effect StepError) → effect_of n v fresh ≡ r → IsWithinLimits (node_after n (step n v fresh))
-    by (Ok f) e = subst (λ (r : Result Effect StepError). IsWithinLimits (node_after n (step_result n v r))) (sym e) (within-after n v fresh f legal h e)
-    by (Err x) e = subst (λ (r : Result Effect StepError). IsWithinLimits (node_after n (step_result n v r))) (sym e) h
+within_step n v fresh legal h = after-step IsWithinLimits n v fresh h (λ f e. within-after n v fresh f legal h e)
 
 pub no-entries : map.len (table_of []) ≡ 0
 no-entries = ap map.len (sym (table-agreed map.empty [] (agree-empty map.empty [] refl refl))) ∙ len-empty name_cmp Entry

@@ -85,9 +85,7 @@ module _ (n : NodeState) where
 
   supersede : (id x : EndId) (say : List ℕ) (b : Attempt) (d s : End) → slice_get n.ends id.0 ≡ Some d → is_open d ≡ true → IsOther n id x → Change 0 (supersedes id say b x s)
   supersede id x say b d (ends.Closed w) at was o = shut-other id x say (ends.Attempt b) d w (note.NameTaken b.peer None) at was refl o
-  supersede id x say b d ends.Unnamed at was o = omega (arith, put-two n id x (ends.Attempt b) d ends.Unnamed at o, ap one_if was)
-  supersede id x say b d (ends.Attempt c) at was o = omega (arith, put-two n id x (ends.Attempt b) d (ends.Attempt c) at o, ap one_if was)
-  supersede id x say b d (ends.Up r) at was o = omega (arith, put-two n id x (ends.Attempt b) d (ends.Up r) at o, ap one_if was)
+  supersede id x say b d s at was o = omega (arith, put-two n id x (ends.Attempt b) d s at o, ap one_if was)
 
   -- the same for an effect that is given as one of these
   kept-open : {f : Effect} {id : EndId} {say : List ℕ} {e : End} {noted : Note} (d : End) → f ≡ goes_on id say e noted → slice_get n.ends id.0 ≡ Some d → is_open d ≡ true → is_open e ≡ true → Change 0 f
@@ -104,9 +102,7 @@ module _ (n : NodeState) where
     where
       by : (s : End) → f ≡ supersedes id say b x s → IsOther n id x
       by (ends.Closed w) k = o x (ends.Closed w) (ap (λ (f : Effect). f.other) k)
-      by ends.Unnamed k = o x ends.Unnamed (ap (λ (f : Effect). f.other) k)
-      by (ends.Attempt c) k = o x (ends.Attempt c) (ap (λ (f : Effect). f.other) k)
-      by (ends.Up r) k = o x (ends.Up r) (ap (λ (f : Effect). f.other) k)
+      by s k = o x s (ap (λ (f : Effect). f.other) k)
 
   rise : (id : EndId) (say : List ℕ) (r : UpRecord) (d : End) (u : Option EndId) → slice_get n.ends id.0 ≡ Some d → is_open d ≡ true → ((x : EndId) (s : End) → (let f = comes_up id say r u in f.other) ≡ Some (x, s) → IsOther n id x) → Change 0 (comes_up id say r u)
   rise id say r d None at was o = omega (arith, put-at n.ends id.0 (ends.Up r) d at, ap one_if was)
@@ -125,10 +121,8 @@ module _ (n : NodeState) where
 
   -- an end that awaits a message is open
   listens : (e : End) (side : Side) → sender_to e ≡ Some side → is_open e ≡ true
-  listens ends.Unnamed side h = refl
-  listens (ends.Attempt b) side h = refl
-  listens (ends.Up r) side h = refl
   listens (ends.Closed w) side h = let bad : ◌≡◌ {A = Option Side} None (Some side) = h in absurd cc
+  listens e side h = refl
 
   by-heard : (id : EndId) (fresh : ℕ) (d : End) (m : Message) (f : Effect) → slice_get n.ends id.0 ≡ Some d → is_open d ≡ true → Heard n id fresh d m f → ((x : EndId) (s : End) → f.other ≡ Some (x, s) → IsOther n id x) → Change 0 f
   by-heard id fresh d m f at was (Closes say w cause k) o = shut-down d k at was

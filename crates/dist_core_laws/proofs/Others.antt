@@ -34,11 +34,9 @@ use Rattle.dist_core.proofs.Rows.{row_of}
 
 -- an end that holds a peer exists, and is open
 holder : (p : Name) (k : Kind) (o : Option End) → is_held p k o ≡ true → (e : End) × (o ≡ Some e) × (is_open e ≡ true)
-holder p k None h = absurd (false≢true h)
-holder p k (Some ends.Unnamed) h = absurd (false≢true h)
 holder p k (Some (ends.Attempt b)) h = (ends.Attempt b, refl, refl)
 holder p k (Some (ends.Up r)) h = (ends.Up r, refl, refl)
-holder p k (Some (ends.Closed w)) h = absurd (false≢true h)
+holder p k o h = absurd (false≢true h)
 
 first : (y x : EndId) (d s : End) → ◌≡◌ {A = Option (EndId × End)} (Some (y, d)) (Some (x, s)) → y ≡ x
 first y x d s e = (some_pair_parts y x d s e).0
@@ -82,13 +80,10 @@ module _ (n : NodeState) (legal : AreLegal n.ends) (x : EndId) (s : End) where
   -- an end that comes up replaces another one
   by-rising : (id : EndId) (b : Attempt) (ph : Phase) → slice_get n.ends id.0 ≡ Some (ends.Attempt b) → b.phase ≡ ph → ((q : Name) → is_claim q Up (option_map (λ l. record { peer = b.peer; kind = l }) (kind_in ph)) ≡ false)
       → (u : Option Entry) → entry_in n.ends b.peer ≡ u → option_map {U = EndId × End} (λ (y : EndId). (y, ends.Closed why.Replaced)) (replaced_by u) ≡ Some (x, s) → IsOther n id x
-  by-rising id b ph at is low None before o = absurd cc
-  by-rising id b ph at is low (Some (entry.Out y)) before o = absurd cc
-  by-rising id b ph at is low (Some (entry.In y)) before o = absurd cc
-  by-rising id b ph at is low (Some (entry.Up y)) before o = absurd cc
   by-rising id b ph at is low (Some (entry.Challenged u y)) before o =
       apart-from id b.peer Up _ before (names-it u (first u x _ s o))
       (ap (is_held b.peer Up) at ∙ ap (λ q. is_claim b.peer Up (option_map (λ l. record { peer = b.peer; kind = l }) (kind_in q))) is ∙ low b.peer)
+  by-rising id b ph at is low u before o = absurd cc
 
   by-heard : (id : EndId) (fresh : ℕ) (d : End) (m : Message) (f : Effect) → slice_get n.ends id.0 ≡ Some d → Heard n id fresh d m f → f.other ≡ Some (x, s) → IsOther n id x
   by-heard id fresh d m f at (Closes say w cause k) o = absurd (nothing f x s (ap (λ (f : Effect). f.other) k) o)

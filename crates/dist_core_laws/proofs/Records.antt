@@ -1,5 +1,5 @@
 -- The records of ends that are up stay right, over steps and changes.
-use Rattle.std.proofs.Common.{◌≡◌, ◌==◌, ℕ, Bool, true, false, cond, not, ◌&&◌, ◌||◌, eqb, List, [], ◌∷◌, Option, Some, None, Result, Ok, Err, refl, sym, ap, ◌∙◌, subst, slice_get, arith}
+use Rattle.std.proofs.Common.{◌≡◌, ◌==◌, ℕ, Bool, true, false, cond, not, ◌&&◌, ◌||◌, eqb, List, [], ◌∷◌, Option, Some, None, Ok, Err, refl, sym, ap, ◌∙◌, subst, slice_get, arith}
 use Rattle.std.proofs.lemmas.Bool.{false≢true}
 use Rattle.std.specs.Prelude.{is_some}
 use Rattle.std.specs.List.{count_by, list_any}
@@ -40,7 +40,6 @@ use Rattle.dist_core.specs.declared.changing.Change.TheVariants.{Cookie, UsualCo
 use Rattle.dist_core.specs.declared.changing.ChangeError.TheVariants as error
 use Rattle.dist_core.specs.declared.event.Event.{Event}
 use Rattle.dist_core.specs.declared.effect.Effect.{Effect}
-use Rattle.dist_core.specs.declared.step_error.StepError.{StepError}
 use Rattle.dist_core.specs.Accepted.{named_attempt}
 use Rattle.dist_core.specs.Acts.{Act, Steps, Changes, Forgets, Renews, act, changed_or, run_acts}
 use Rattle.dist_core.specs.Changing.{after_change, change, finds_no_room, has_usual, is_in_use, is_up}
@@ -48,13 +47,13 @@ use Rattle.dist_core.specs.Effects.{comes_up, supersedes, superseded_end, supers
 use Rattle.dist_core.specs.Node.{NodeState, limits_of}
 use Rattle.dist_core.specs.Rows.{StepRow, Heard, Taken, Dials, Comes_in, Begins, Ceases, Loses, Ticks, Fails, Hears, Closes, Names, Goes_on, Insists, Replies, Challenges, Complements, Acknowledged, Replied, Accepts, Crosses, Declines, Comes_again, Asks_alive, Asks_again}
 use Rattle.dist_core.specs.Runs.{node_after, opening}
-use Rattle.dist_core.specs.Step.{effect_of, step, step_result, after}
+use Rattle.dist_core.specs.Step.{effect_of, step, after}
 use Rattle.dist_core.proofs.Counts.{of_ok}
 use Rattle.dist_core.proofs.Rows.{row_of}
 use Rattle.dist_core_laws.specs.Laws.{IsWithinLimits}
 use Rattle.dist_core_laws.specs.Records.{AreRight}
 use Rattle.dist_core_laws.proofs.Causes.{forgotten-alike, table-alike, opens-alike, length-alike, end-alike}
-use Rattle.dist_core_laws.proofs.Constant.{setup_step}
+use Rattle.dist_core_laws.proofs.Constant.{after-step, setup_step}
 use Rattle.dist_core_laws.proofs.Legal.{legal_opening, legal_step}
 use Rattle.dist_core_laws.proofs.Limits.{within_first, within_step}
 use Rattle.dist_core_laws.proofs.Succeeding.{stands-after}
@@ -77,34 +76,20 @@ RightEffect s f = RightEnd s f.this × RightOther s f.other
 
 module _ (n : NodeState) (rights : AreRight n) where
   each-end : (i : ℕ) (e : End) → slice_get n.ends i ≡ Some e → RightEnd n.setup e
-  each-end i ends.Unnamed at = tt
-  each-end i (ends.Attempt a) at = tt
   each-end i (ends.Up r) at = rights i r at
-  each-end i (ends.Closed w) at = tt
+  each-end i e at = tt
 
   over : (id : EndId) (say : List ℕ) (a : Attempt) (x : EndId) (d : End) → RightEnd n.setup d → RightEffect n.setup (supersedes id say a x d)
-  over id say a x (ends.Closed w) h = (tt, tt)
-  over id say a x ends.Unnamed h = (tt, tt)
-  over id say a x (ends.Attempt b) h = (tt, tt)
   over id say a x (ends.Up r) h = (tt, h)
+  over id say a x d h = (tt, tt)
 
   superseded-right : (o : Option End) → RightEnd n.setup (superseded_end o)
-  superseded-right None = tt
-  superseded-right (Some ends.Unnamed) = tt
-  superseded-right (Some (ends.Up r)) = tt
-  superseded-right (Some (ends.Closed w)) = tt
   superseded-right (Some (ends.Attempt a)) = by a.phase
     where
       by : (q : Phase) → RightEnd n.setup (superseded_in a q)
       by phase.Dialing = tt
-      by phase.DoomedDialing = tt
-      by phase.AwaitStatus = tt
-      by phase.Doomed = tt
-      by phase.AwaitChallenge = tt
-      by phase.AwaitAck = tt
-      by phase.AwaitTrue = tt
-      by phase.AwaitComplement = tt
-      by phase.AwaitReply = tt
+      by q = tt
+  superseded-right o = tt
 
   taken : (id : EndId) (a : Attempt) (f : Effect) → Taken n id a f → RightEffect n.setup f
   taken id a f (Accepts e k) = subst (RightEffect n.setup) (sym k) (tt, tt)
@@ -161,13 +146,18 @@ module _ (n : NodeState) (rights : AreRight n) where
     right-after i r at = by-other i (ends.Up r) f.other effect-right.1 (sym (stands-after n v fresh f i legal is) ∙ at)
 
 pub right_step : (n : NodeState) (v : Event) (fresh : ℕ) → AreLegal n.ends → AreRight n → AreRight (node_after n (step n v fresh))
-right_step n v fresh legal h = by (effect_of n v fresh) refl
-  where
-    by : (r : Result Effect StepError) → effect_of n v fresh ≡ r → AreRight (node_after n (step n v fresh))
-    by (Ok f) e = subst (λ (r : Result Effect StepError). AreRight (node_after n (step_result n v r))) (sym e) (right-after n h legal v fresh f e)
-    by (Err x) e = subst (λ (r : Result Effect StepError). AreRight (node_after n (step_result n v r))) (sym e) h
+right_step n v fresh legal h = after-step AreRight n v fresh h (right-after n h legal v fresh)
 
 -- ---- changes
+
+-- what holds of a node, and of what a change would make of it, holds after the change, refused or not
+either : (P : NodeState → Type 0) (n : NodeState) (v : Change) → P n → (is_in_use n v ≡ false → P (after_change n v)) → P (changed_or n (change n v))
+either P n v before after = by (is_in_use n v) (finds_no_room n v) refl
+  where
+    by : (b full : Bool) → is_in_use n v ≡ b → P (changed_or n (cond b (Err error.InUse) (cond full (Err error.Full) (Ok (after_change n v)))))
+    by true full e = before
+    by false true e = before
+    by false false e = after e
 
 module _ (s : Setup) (q : Name) (x : Entry) (known : is_some (up_id x) ≡ true) where
   own-at : (e : Name × Entry) (es : List (Name × Entry)) (b up own : Bool) → same_name q e.0 ≡ b → is_some (up_id e.1) ≡ up → has_own_cookie s e.0 ≡ own → (find name_cmp q es ≡ Some x → list_any (has_usual s) es ≡ false → has_own_cookie s q ≡ true)
@@ -207,41 +197,24 @@ module _ (n : NodeState) (p : Name) (known : is_up (entry_in n.ends p) ≡ true)
   stays-after (Allow allowed) idle = all-stay n.setup allowed p
 
   stays : (v : Change) → DigestsStay n.setup (changed_or n (change n v)).setup p
-  stays v = by (is_in_use n v) (finds_no_room n v) refl
-    where
-      by : (b full : Bool) → is_in_use n v ≡ b → DigestsStay n.setup (changed_or n (cond b (Err error.InUse) (cond full (Err error.Full) (Ok (after_change n v))))).setup p
-      by true full e = λ challenge. refl
-      by false true e = λ challenge. refl
-      by false false e = stays-after v e
+  stays v = either (λ m. DigestsStay n.setup m.setup p) n v (λ challenge. refl) (stays-after v)
 
 pub in-use-stays : (n : NodeState) (v : Change) (p : Name) → is_up (entry_in n.ends p) ≡ true → DigestsStay n.setup (changed_or n (change n v)).setup p
 in-use-stays n v p known = stays n p known v
 
 -- a change leaves the ends, and the count of steps
 pub ends_stay : (n : NodeState) (v : Change) → (changed_or n (change n v)).ends ≡ n.ends
-ends_stay n v = by (is_in_use n v) (finds_no_room n v)
-  where
-    by : (b full : Bool) → (changed_or n (cond b (Err error.InUse) (cond full (Err error.Full) (Ok (after_change n v))))).ends ≡ n.ends
-    by true full = refl
-    by false true = refl
-    by false false = refl
+ends_stay n v = either (λ m. m.ends ≡ n.ends) n v refl (λ _. refl)
 
 pub steps_stay : (n : NodeState) (v : Change) → (changed_or n (change n v)).steps ≡ n.steps
-steps_stay n v = by (is_in_use n v) (finds_no_room n v)
-  where
-    by : (b full : Bool) → (changed_or n (cond b (Err error.InUse) (cond full (Err error.Full) (Ok (after_change n v))))).steps ≡ n.steps
-    by true full = refl
-    by false true = refl
-    by false false = refl
+steps_stay n v = either (λ m. m.steps ≡ n.steps) n v refl (λ _. refl)
 
 module _ (n : NodeState) (legal : AreLegal n.ends) (i : ℕ) (r : UpRecord) (up : slice_get n.ends i ≡ Some (ends.Up r)) where
   -- the entry of an up end's peer has that end up
   has-up : (o : Option Entry) → names Up i o ≡ true → is_up o ≡ true
-  has-up None h = absurd (false≢true h)
-  has-up (Some (entry.Out x)) h = absurd (false≢true h)
-  has-up (Some (entry.In x)) h = absurd (false≢true h)
   has-up (Some (entry.Up x)) h = refl
   has-up (Some (entry.Challenged x y)) h = refl
+  has-up o h = absurd (false≢true h)
 
   peer-up : is_up (entry_in n.ends r.peer) ≡ true
   peer-up = has-up (entry_in n.ends r.peer) (sym (legal r.peer Up i) ∙ ap (is_held r.peer Up) up ∙ self-same r.peer)
@@ -254,29 +227,17 @@ right_change n v legal rights i r at =
 -- ... and the limits
 within_after : (n : NodeState) (v : Change) → IsWithinLimits n → IsWithinLimits (after_change n v)
 within_after n (Cookie p cookie) h = record { steps = h.steps; given_out = h.given_out; open_ends = h.open_ends; entries = h.entries }
-within_after n (UsualCookie cookie) h = record { steps = h.steps; given_out = h.given_out; open_ends = h.open_ends; entries = h.entries }
-within_after n (Allow allowed) h = record { steps = h.steps; given_out = h.given_out; open_ends = h.open_ends; entries = h.entries }
+within_after n v h = record { steps = h.steps; given_out = h.given_out; open_ends = h.open_ends; entries = h.entries }
 
 within_change : (n : NodeState) (v : Change) → IsWithinLimits n → IsWithinLimits (changed_or n (change n v))
-within_change n v h = by (is_in_use n v) (finds_no_room n v)
-  where
-    by : (b full : Bool) → IsWithinLimits (changed_or n (cond b (Err error.InUse) (cond full (Err error.Full) (Ok (after_change n v)))))
-    by true full = h
-    by false true = h
-    by false false = within_after n v h
+within_change n v h = either IsWithinLimits n v h (λ _. within_after n v h)
 
 limits_change : (n : NodeState) (v : Change) → limits_of (changed_or n (change n v)) ≡ limits_of n
-limits_change n v = by (is_in_use n v) (finds_no_room n v)
+limits_change n v = either (λ m. limits_of m ≡ limits_of n) n v refl (λ _. same v)
   where
     same : (v : Change) → limits_of (after_change n v) ≡ limits_of n
     same (Cookie p cookie) = refl
-    same (UsualCookie cookie) = refl
-    same (Allow allowed) = refl
-
-    by : (b full : Bool) → limits_of (changed_or n (cond b (Err error.InUse) (cond full (Err error.Full) (Ok (after_change n v))))) ≡ limits_of n
-    by true full = refl
-    by false true = refl
-    by false false = same v
+    same v = refl
 
 -- ---- forgetting
 
@@ -285,11 +246,8 @@ forgets n below = record n { ends = without_causes_below below n.ends }
 
 -- an end that is up now was up before
 was-up : (o : Option End) (r : UpRecord) → option_map without_cause o ≡ Some (ends.Up r) → o ≡ Some (ends.Up r)
-was-up None r e = absurd cc
-was-up (Some ends.Unnamed) r e = absurd cc
-was-up (Some (ends.Attempt a)) r e = absurd cc
 was-up (Some (ends.Up x)) r e = e
-was-up (Some (ends.Closed w)) r e = absurd cc
+was-up o r e = absurd cc
 
 legal_forgets : (n : NodeState) (below : ℕ) → AreLegal n.ends → AreLegal (forgets n below).ends
 legal_forgets n below h = legal (map.get (table_of n.ends)) (without_causes_below below n.ends) (agree-forgotten (table_of n.ends) below n.ends (table-legal n.ends h))
@@ -312,66 +270,47 @@ within_forgets n below h =
 pub right_first : (s : Setup) → AreRight (opening s)
 right_first s i r at = absurd cc
 
+renewed : (P : NodeState → Type 0) (n : NodeState) → P (opening n.setup) → P n → P (act n Renews)
+renewed P n new old = elim (count_by is_open n.ends == 0) as (λ b. P (cond b (opening n.setup) n)) [ true ↦ new | false ↦ old ]
+
 legal_act : (n : NodeState) (x : Act) → AreLegal n.ends → AreLegal (act n x).ends
 legal_act n (Steps v fresh) h = legal_step n v fresh h
 legal_act n (Changes v) h = subst AreLegal (sym (ends_stay n v)) h
 legal_act n (Forgets below) h = legal_forgets n below h
-legal_act n Renews h = by (count_by is_open n.ends == 0)
-  where
-    by : (b : Bool) → AreLegal (cond b (opening n.setup) n).ends
-    by true = legal_opening n.setup
-    by false = h
+legal_act n Renews h = renewed (λ m. AreLegal m.ends) n (legal_opening n.setup) h
 
 pub right_act : (n : NodeState) (x : Act) → AreLegal n.ends → AreRight n → AreRight (act n x)
 right_act n (Steps v fresh) legal h = right_step n v fresh legal h
 right_act n (Changes v) legal h = right_change n v legal h
 right_act n (Forgets below) legal h = right_forgets n below h
-right_act n Renews legal h = by (count_by is_open n.ends == 0)
-  where
-    by : (b : Bool) → AreRight (cond b (opening n.setup) n)
-    by true = right_first n.setup
-    by false = h
+right_act n Renews legal h = renewed AreRight n (right_first n.setup) h
 
 within_act : (n : NodeState) (x : Act) → AreLegal n.ends → IsWithinLimits n → IsWithinLimits (act n x)
 within_act n (Steps v fresh) legal h = within_step n v fresh legal h
 within_act n (Changes v) legal h = within_change n v h
 within_act n (Forgets below) legal h = within_forgets n below h
-within_act n Renews legal h = by (count_by is_open n.ends == 0)
-  where
-    by : (b : Bool) → IsWithinLimits (cond b (opening n.setup) n)
-    by true = within_first n.setup
-    by false = h
+within_act n Renews legal h = renewed IsWithinLimits n (within_first n.setup) h
 
 limits_act : (n : NodeState) (x : Act) → limits_of (act n x) ≡ limits_of n
 limits_act n (Steps v fresh) = ap (λ (s : Setup). s.limits) (setup_step n v fresh)
 limits_act n (Changes v) = limits_change n v
 limits_act n (Forgets below) = refl
-limits_act n Renews = by (count_by is_open n.ends == 0)
-  where
-    by : (b : Bool) → limits_of (cond b (opening n.setup) n) ≡ limits_of n
-    by true = refl
-    by false = refl
+limits_act n Renews = renewed (λ m. limits_of m ≡ limits_of n) n refl refl
 
-legal_acts : (xs : List Act) (n : NodeState) → AreLegal n.ends → AreLegal (run_acts xs n).ends
-legal_acts [] n h = h
-legal_acts (x ∷ xs) n h = legal_acts xs (act n x) (legal_act n x h)
-
-right_acts : (xs : List Act) (n : NodeState) → AreLegal n.ends → AreRight n → AreRight (run_acts xs n)
-right_acts [] n legal h = h
-right_acts (x ∷ xs) n legal h = right_acts xs (act n x) (legal_act n x legal) (right_act n x legal h)
-
-within_acts : (xs : List Act) (n : NodeState) → AreLegal n.ends → IsWithinLimits n → IsWithinLimits (run_acts xs n)
-within_acts [] n legal h = h
-within_acts (x ∷ xs) n legal h = within_acts xs (act n x) (legal_act n x legal) (within_act n x legal h)
+-- what each act keeps holds after any of them
+after-acts : (P : NodeState → Type 0) → ((n : NodeState) (x : Act) → AreLegal n.ends → P n → P (act n x)) → (xs : List Act) (n : NodeState) → AreLegal n.ends → P n
+    → P (run_acts xs n)
+after-acts P each [] n legal h = h
+after-acts P each (x ∷ xs) n legal h = after-acts P each xs (act n x) (legal_act n x legal) (each n x legal h)
 
 pub right_runs : (s : Setup) (xs : List Act) → AreRight (run_acts xs (opening s))
-right_runs s xs = right_acts xs (opening s) (legal_opening s) (right_first s)
+right_runs s xs = after-acts AreRight right_act xs (opening s) (legal_opening s) (right_first s)
 
 pub legal_runs : (s : Setup) (xs : List Act) → AreLegal (run_acts xs (opening s)).ends
-legal_runs s xs = legal_acts xs (opening s) (legal_opening s)
+legal_runs s xs = after-acts (λ n. AreLegal n.ends) (λ n x legal _. legal_act n x legal) xs (opening s) (legal_opening s) (legal_opening s)
 
 pub within_runs : (s : Setup) (xs : List Act) → IsWithinLimits (run_acts xs (opening s))
-within_runs s xs = within_acts xs (opening s) (legal_opening s) (within_first s)
+within_runs s xs = after-acts IsWithinLimits within_act xs (opening s) (legal_opening s) (within_first s)
 
 pub limits_runs : (n : NodeState) (xs : List Act) → limits_of (run_acts xs n) ≡ limits_of n
 limits_runs n [] = refl

@@ -23,9 +23,7 @@ or_else d (Some x) = x
 
 superseding : (id : EndId) (say : List ℕ) (b : Attempt) (y : EndId) (d : End) → (let f = supersedes id say b y d in f.reply.up) ≡ None
 superseding id say b y (ends.Closed c) = refl
-superseding id say b y ends.Unnamed = refl
-superseding id say b y (ends.Attempt c) = refl
-superseding id say b y (ends.Up c) = refl
+superseding id say b y d = refl
 
 module _ (n : NodeState) (r : UpRecord) where
   none : (f : Effect) → f.reply.up ≡ None → f.reply.up ≡ Some r → IsRightRecord n.setup r

@@ -84,11 +84,7 @@ opens es = count_by is_open es
 
 one-given : (v : Event) → given_by v ≤ 1
 one-given (event.Dial p o) = omega arith
-one-given (event.Incoming link) = omega arith
-one-given (event.Opened x link) = omega arith
-one-given (event.Frame x body) = omega arith
-one-given (event.Lost x w) = omega arith
-one-given (event.Tick x) = omega arith
+one-given v = omega arith
 
 pub open-exact : (n : NodeState) (v : Event) (fresh : ℕ) (r : Reply) (m : NodeState) → AreLegal n.ends → step n v fresh ≡ Ok (r, m) → opens m.ends + closed_by r ≡ opens n.ends + given_by v
 open-exact n v fresh r m legal is =
@@ -104,11 +100,7 @@ open-lost n (event.Lost x w) fresh r m loss is =
     let h = has-effect n (event.Lost x w) fresh r m is in
     let count = (loss_change n x w fresh h.effect h.is).1 in
     omega (arith, count, ap (λ (k : NodeState). opens k.ends) h.node)
-open-lost n (event.Dial p o) fresh r m loss is = absurd cc
-open-lost n (event.Opened x link) fresh r m loss is = absurd cc
-open-lost n (event.Incoming link) fresh r m loss is = absurd cc
-open-lost n (event.Frame x body) fresh r m loss is = absurd cc
-open-lost n (event.Tick x) fresh r m loss is = absurd cc
+open-lost n v fresh r m loss is = absurd cc
 
 pub lost-closed : (n : NodeState) (x : EndId) (w : Why) (fresh : ℕ) (r : Reply) (m : NodeState) → step n (event.Lost x w) fresh ≡ Ok (r, m) → slice_get m.ends x.0 ≡ Some (ends.Closed w)
 lost-closed n x w fresh r m is =

@@ -1,4 +1,4 @@
--- The records of ends that are up, at a node whose cookies change.
+-- The record of each end that is up fits the cookie that its node has now for the end's peer. The laws say that this stays so.
 use Rattle.std.specs.Prelude.{◌≡◌, ℕ, Some, slice_get}
 use Rattle.dist_core_ends.specs.declared.known.UpRecord.{UpRecord}
 use Rattle.dist_core_ends.specs.declared.known.End.TheVariants as ends

@@ -1,7 +1,7 @@
 -- Each body behind its length is the frame of its message.
-use Rattle.std.proofs.Common.{◌≡◌, ℕ, ◌+◌, ◌≤◌, List, ◌∷◌, ◌++◌, length, refl, sym, ap, ◌∙◌, arith, length-append, lit≤}
+use Rattle.std.proofs.Common.{◌≡◌, ℕ, ◌+◌, ◌≤◌, List, ◌++◌, length, ap, ◌∙◌, arith, lit≤}
 use Rattle.std.proofs.lemmas.List.{append_assoc}
-use Rattle.std.specs.Int.{w16, w32, w64, to_be_bytes}
+use Rattle.std.specs.Int.{w16, to_be_bytes}
 use Rattle.dist_names.specs.declared.flags.Flags.{Flags}
 use Rattle.dist_names.specs.declared.creation.Creation.{Creation}
 use Rattle.dist_messages.specs.Canonical.{canonical}
@@ -19,47 +19,27 @@ in_frame before m n e = append_assoc before (to_be_bytes w16 n) (canonical m) �
 
 pub new_name : (before : List ℕ) (flags : Flags) (c : Creation) (name : List ℕ)
     → (before ++ to_be_bytes w16 (15 + length name)) ++ canonical (message.NewName flags c name) ≡ before ++ frame_of (message.NewName flags c name)
-new_name before flags c name = in_frame before (message.NewName flags c name) (15 + length name) (omega (
-  arith,
-  length-append (to_be_bytes w64 flags.0) (to_be_bytes w32 c.0 ++ (to_be_bytes w16 (length name) ++ name)),
-  length-append (to_be_bytes w32 c.0) (to_be_bytes w16 (length name) ++ name),
-  length-append (to_be_bytes w16 (length name)) name,
-))
+new_name before flags c name = in_frame before (message.NewName flags c name) (15 + length name) (omega arith)
 
 pub old_name : (before : List ℕ) (flags : ℕ) (name : List ℕ)
     → (before ++ to_be_bytes w16 (7 + length name)) ++ canonical (message.OldName flags name) ≡ before ++ frame_of (message.OldName flags name)
-old_name before flags name = in_frame before (message.OldName flags name) (7 + length name) (omega (
-  arith,
-  length-append (to_be_bytes w16 5) (to_be_bytes w32 flags ++ name),
-  length-append (to_be_bytes w32 flags) name,
-))
+old_name before flags name = in_frame before (message.OldName flags name) (7 + length name) (omega arith)
 
 pub new_challenge : (before : List ℕ) (flags : Flags) (n : ℕ) (c : Creation) (name : List ℕ)
     → (before ++ to_be_bytes w16 (19 + length name)) ++ canonical (message.NewChallenge flags n c name) ≡ before ++ frame_of (message.NewChallenge flags n c name)
-new_challenge before flags n c name = in_frame before (message.NewChallenge flags n c name) (19 + length name) (omega (
-  arith,
-  length-append (to_be_bytes w64 flags.0) (to_be_bytes w32 n ++ (to_be_bytes w32 c.0 ++ (to_be_bytes w16 (length name) ++ name))),
-  length-append (to_be_bytes w32 n) (to_be_bytes w32 c.0 ++ (to_be_bytes w16 (length name) ++ name)),
-  length-append (to_be_bytes w32 c.0) (to_be_bytes w16 (length name) ++ name),
-  length-append (to_be_bytes w16 (length name)) name,
-))
+new_challenge before flags n c name = in_frame before (message.NewChallenge flags n c name) (19 + length name) (omega arith)
 
 pub old_challenge : (before : List ℕ) (flags n : ℕ) (name : List ℕ)
     → (before ++ to_be_bytes w16 (11 + length name)) ++ canonical (message.OldChallenge flags n name) ≡ before ++ frame_of (message.OldChallenge flags n name)
-old_challenge before flags n name = in_frame before (message.OldChallenge flags n name) (11 + length name) (omega (
-  arith,
-  length-append (to_be_bytes w16 5) (to_be_bytes w32 flags ++ (to_be_bytes w32 n ++ name)),
-  length-append (to_be_bytes w32 flags) (to_be_bytes w32 n ++ name),
-  length-append (to_be_bytes w32 n) name,
-))
+old_challenge before flags n name = in_frame before (message.OldChallenge flags n name) (11 + length name) (omega arith)
 
 pub complement : (before : List ℕ) (high : ℕ) (c : Creation)
     → (before ++ to_be_bytes w16 9) ++ canonical (message.Complement high c) ≡ before ++ frame_of (message.Complement high c)
-complement before high c = in_frame before (message.Complement high c) 9 (omega (arith, length-append (to_be_bytes w32 high) (to_be_bytes w32 c.0)))
+complement before high c = in_frame before (message.Complement high c) 9 (omega arith)
 
 pub reply : (before : List ℕ) (n : ℕ) (digest : List ℕ) → length digest ≡ 16
     → (before ++ to_be_bytes w16 21) ++ canonical (message.Reply n digest) ≡ before ++ frame_of (message.Reply n digest)
-reply before n digest h = in_frame before (message.Reply n digest) 21 (omega (arith, h, length-append (to_be_bytes w32 n) digest))
+reply before n digest h = in_frame before (message.Reply n digest) 21 (omega (arith, h))
 
 pub ack : (before : List ℕ) (digest : List ℕ) → length digest ≡ 16
     → (before ++ to_be_bytes w16 17) ++ canonical (message.Ack digest) ≡ before ++ frame_of (message.Ack digest)
@@ -67,12 +47,7 @@ ack before digest h = in_frame before (message.Ack digest) 17 (omega (arith, h))
 
 pub text_is_short : (s : Status) → length (text_of s) ≤ 15
 text_is_short status.Ok = lit≤ tt
-text_is_short status.OkSimultaneous = lit≤ tt
-text_is_short status.Nok = lit≤ tt
-text_is_short status.NotAllowed = lit≤ tt
-text_is_short status.Alive = lit≤ tt
-text_is_short status.True = lit≤ tt
-text_is_short status.False = lit≤ tt
+text_is_short s = lit≤ tt
 
 pub says_status : (before text : List ℕ) (s : Status) → text ≡ text_of s
     → (before ++ to_be_bytes w16 (1 + length text)) ++ canonical (message.Status s) ≡ before ++ frame_of (message.Status s)

@@ -1,7 +1,6 @@
 -- Each message that a node sends has a spelling, and it fits a frame.
-use Rattle.std.proofs.Common.{◌≡◌, ℕ, true, false, cond, ltb, List, ◌++◌, length, Ok, Err, refl, ap, arith, length-append, lit<}
+use Rattle.std.proofs.Common.{◌≡◌, ℕ, true, false, cond, ltb, List, length, Ok, Err, refl, ap, arith, lit<}
 use Rattle.std.proofs.lemmas.Bool.Decides.{nat_tests}
-use Rattle.std.specs.Int.{w16, w32, w64, to_be_bytes}
 use Rattle.dist_names.specs.NodeName.{IsNodeName}
 use Rattle.dist_names.specs.declared.flags.Flags.{Flags}
 use Rattle.dist_names.specs.declared.creation.Creation.{Creation}
@@ -22,38 +21,22 @@ fits-name name m good =
     ap (λ b. cond b (Err errors.BadName) (Ok (canonical m))) few
 
 pub new_name : (flags : Flags) (c : Creation) (name : List ℕ) → IsNodeName name → CanBeSaid Dialler (message.NewName flags c name)
-new_name flags c name good = (
-  fits-name name (message.NewName flags c name) good,
-  let most = good.most in
-      omega (arith, most, length-append (to_be_bytes w64 flags.0) (to_be_bytes w32 c.0 ++ (to_be_bytes w16 (length name) ++ name)), length-append (to_be_bytes w32 c.0) (to_be_bytes w16 (length name) ++ name), length-append (to_be_bytes w16 (length name)) name),
-)
+new_name flags c name good = (fits-name name (message.NewName flags c name) good, let most = good.most in omega (arith, most))
 
 pub old_name : (flags : ℕ) (name : List ℕ) → IsNodeName name → CanBeSaid Dialler (message.OldName flags name)
-old_name flags name good = (
-  fits-name name (message.OldName flags name) good,
-  let most = good.most in
-      omega (arith, most, length-append (to_be_bytes w16 5) (to_be_bytes w32 flags ++ name), length-append (to_be_bytes w32 flags) name),
-)
+old_name flags name good = (fits-name name (message.OldName flags name) good, let most = good.most in omega (arith, most))
 
 pub new_challenge : (flags : Flags) (n : ℕ) (c : Creation) (name : List ℕ) → IsNodeName name → CanBeSaid Acceptor (message.NewChallenge flags n c name)
-new_challenge flags n c name good = (
-  fits-name name (message.NewChallenge flags n c name) good,
-  let most = good.most in
-      omega (arith, most, length-append (to_be_bytes w64 flags.0) (to_be_bytes w32 n ++ (to_be_bytes w32 c.0 ++ (to_be_bytes w16 (length name) ++ name))), length-append (to_be_bytes w32 n) (to_be_bytes w32 c.0 ++ (to_be_bytes w16 (length name) ++ name)), length-append (to_be_bytes w32 c.0) (to_be_bytes w16 (length name) ++ name), length-append (to_be_bytes w16 (length name)) name),
-)
+new_challenge flags n c name good = (fits-name name (message.NewChallenge flags n c name) good, let most = good.most in omega (arith, most))
 
 pub old_challenge : (flags n : ℕ) (name : List ℕ) → IsNodeName name → CanBeSaid Acceptor (message.OldChallenge flags n name)
-old_challenge flags n name good = (
-  fits-name name (message.OldChallenge flags n name) good,
-  let most = good.most in
-      omega (arith, most, length-append (to_be_bytes w16 5) (to_be_bytes w32 flags ++ (to_be_bytes w32 n ++ name)), length-append (to_be_bytes w32 flags) (to_be_bytes w32 n ++ name), length-append (to_be_bytes w32 n) name),
-)
+old_challenge flags n name good = (fits-name name (message.OldChallenge flags n name) good, let most = good.most in omega (arith, most))
 
 pub complement : (high : ℕ) (c : Creation) → CanBeSaid Dialler (message.Complement high c)
-complement high c = (refl, omega (arith, length-append (to_be_bytes w32 high) (to_be_bytes w32 c.0)))
+complement high c = (refl, omega arith)
 
 pub reply : (n : ℕ) (digest : List ℕ) → length digest ≡ 16 → CanBeSaid Dialler (message.Reply n digest)
-reply n digest h = (refl, omega (arith, h, length-append (to_be_bytes w32 n) digest))
+reply n digest h = (refl, omega (arith, h))
 
 pub ack : (digest : List ℕ) → length digest ≡ 16 → CanBeSaid Acceptor (message.Ack digest)
 ack digest h = (refl, omega (arith, h))
@@ -61,15 +44,7 @@ ack digest h = (refl, omega (arith, h))
 pub status_of : (side : Side) (s : Status) → is_said_by s side ≡ true → CanBeSaid side (message.Status s)
 status_of Dialler status.True h = (refl, lit< tt)
 status_of Dialler status.False h = (refl, lit< tt)
-status_of Acceptor status.Ok h = (refl, lit< tt)
-status_of Acceptor status.OkSimultaneous h = (refl, lit< tt)
-status_of Acceptor status.Nok h = (refl, lit< tt)
-status_of Acceptor status.NotAllowed h = (refl, lit< tt)
-status_of Acceptor status.Alive h = (refl, lit< tt)
+status_of Dialler s h = absurd cc
 status_of Acceptor status.True h = absurd cc
 status_of Acceptor status.False h = absurd cc
-status_of Dialler status.Ok h = absurd cc
-status_of Dialler status.OkSimultaneous h = absurd cc
-status_of Dialler status.Nok h = absurd cc
-status_of Dialler status.NotAllowed h = absurd cc
-status_of Dialler status.Alive h = absurd cc
+status_of Acceptor s h = (refl, lit< tt)

@@ -86,11 +86,8 @@ pub fn good_name(alloc: Global, name: &[u8]) -> Result<Option<NodeName>, AllocEr
 {
     match NodeName::new(alloc, name) {
         Ok(name) => Ok(Some(name)),
-        Err(NameError::TooShort) => Ok(None),
-        Err(NameError::TooLong) => Ok(None),
-        Err(NameError::BadByte) => Ok(None),
-        Err(NameError::BadAt) => Ok(None),
         Err(NameError::NoMemory) => Err(AllocError),
+        Err(_) => Ok(None),
     }
 }
 

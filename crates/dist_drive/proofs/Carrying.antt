@@ -12,18 +12,18 @@ use Rattle.dist_core_ends.specs.declared.phase.Still.TheVariants as still
 use Rattle.dist_core.specs.declared.step_error.StepError.{StepError}
 use Rattle.dist_core.specs.declared.step_error.StepError.TheVariants as error
 use Rattle.dist_stream.specs.Stream.{StreamState}
-use Rattle.dist_stream.specs.Turns.{Says, Hears}
+use Rattle.dist_stream.specs.Turns.{Hears}
 use Rattle.dist_stream.specs.declared.turn_error.TurnError.{TurnError}
 use Rattle.dist_drive.specs.declared.outcome.Ending.{Ending}
 use Rattle.dist_drive.specs.declared.outcome.Ending.TheVariants as ending
 use Rattle.dist_drive.specs.Desks.{Step, event_of, last_reply, DeskFacts, IsOther}
 use Rattle.dist_drive.specs.Numbers.{Gives, DrawsOneAtMost}
 use Rattle.dist_drive.specs.Driven.{Start, Course, Finish, IsFront, frames_of, next_frame, events_of, text_of, HandsOnAll, WritesAll, HasCause, is_of_end, is_of_failed_read, whole_course, Does, Carries}
-use Rattle.dist_drive.specs.Running.{Place, RunsOn, GoesOn, Goes, after_step, EndsSo, Runs, Keeps, MakesStep, SaysReply, own_why, ending_of_refusal, ending_of_stream, HandsOn, HearsPiece}
+use Rattle.dist_drive.specs.Running.{Place, Goes, after_step, Runs, Keeps, TakesFrame, own_why, ending_of_refusal, ending_of_stream, HandsOn, HearsPiece}
 use Rattle.dist_drive.proofs.Steps.{last_pushed}
 use Rattle.dist_drive.proofs.Texts.{IsFront-refl, IsFront-more, text_front, text_one, text_before}
 use Rattle.dist_drive.proofs.Keeping.{frames_are, next_is, next_none, keeps_next, keeps_rest, keeps_fed, keeps_noted, FrameLaws}
-use Rattle.dist_drive.proofs.Shown.{same_length, events_one, does_step, does_read, no_mark, goes_on, shows, endings_are, not_refused, at_end, unheard_shows, ends_whole, endings_same, marks_since, reply_marks, hear_marks}
+use Rattle.dist_drive.proofs.Shown.{same_length, events_one, does_step, does_read, no_mark, goes_on, shows, endings_are, not_refused, unheard_shows, ends_as, marks_since, reply_marks, hear_marks}
 
 module _ (laws : FrameLaws) where
   -- what was handed on is a front of the frames of the call
@@ -90,17 +90,13 @@ module _ (laws : FrameLaws) {D W : Type 0} (facts : DeskFacts D) (gives : Gives 
       → Carries facts gives start (record { stream = place.stream; desk = place.desk; draws = drawn }) (ending_of_refusal e)
   refused start place reader drawn body n (error.Gone w) p next draw h = carries start place reader drawn (ending.Gone w) p (inr (n, draw)) (inr (body, n, next, h)) tt refl refl refl
   refused start place reader drawn body n error.NoMemory p next draw h = lacks start place reader drawn p (inr (n, draw))
-  refused start place reader drawn body n (error.Busy entry) p next draw h = gives_up start place reader drawn body n (error.Busy entry) tt p next draw h
-  refused start place reader drawn body n error.Full p next draw h = gives_up start place reader drawn body n error.Full tt p next draw h
-  refused start place reader drawn body n error.NoSuchEnd p next draw h = gives_up start place reader drawn body n error.NoSuchEnd tt p next draw h
-  refused start place reader drawn body n error.WrongPhase p next draw h = gives_up start place reader drawn body n error.WrongPhase tt p next draw h
-  refused start place reader drawn body n error.Spent p next draw h = gives_up start place reader drawn body n error.Spent tt p next draw h
+  refused start place reader drawn body n other p next draw h = gives_up start place reader drawn body n other tt p next draw h
 
   -- it was sent whole, and the call goes on
-  pub runs_on : (start : Start D W) (before after : Place D W) (reader : Reader) (body : List ℕ) (up : Bool) (m : MakesStep facts gives start.end_ body before.desk after.desk before.draws after.draws)
-      → Runs facts gives start before reader → next_body reader ≡ Some body → Says before.stream after.stream before.left after.left None m.reply.say → up ≡ is_some m.reply.up
-      → Runs facts gives start after (after_step up (without_next reader))
-  runs_on start before after reader body up m p next says is =
+  pub runs_on : (start : Start D W) (before after : Place D W) (reader : Reader) (body : List ℕ) (up : Bool) (m : TakesFrame facts gives start.end_ body before after (Ok up))
+      → Runs facts gives start before reader → next_body reader ≡ Some body → Runs facts gives start after (after_step up (without_next reader))
+  runs_on start before after reader body up m p next =
+      let says = goes_on (own_why start.end_ m.reply.closed) m.says.fault m.reply.say m.says.goes_on.0 m.says.says in
       let s : Step = (event.Frame start.end_ body, m.number, m.reply) in
       record {
         input = p.input;
@@ -109,14 +105,14 @@ module _ (laws : FrameLaws) {D W : Type 0} (facts : DeskFacts D) (gives : Gives 
         does = subst (λ (l : List ℕ). Does facts gives start (record { input = p.input; steps = p.steps ++ s ∷ []; output = l; left = after.left; draws = after.draws }) after.stream after.desk) (sym (text_one start.first p.steps s)) (does_step facts gives start before after p.input p.steps body m m.reply.say p.does says);
         events = events_one start.end_ p.steps p.frames body m.number m.reply p.events;
         marks = no_mark p.marks says.spends;
-        keeps = keeps_next laws p.input p.frames p.steps s body reader up is next p.keeps;
+        keeps = keeps_next laws p.input p.frames p.steps s body reader up m.says.goes_on.1 next p.keeps;
       }
 
   -- the call ends after a reply
-  pub cut : (start : Start D W) (before after : Place D W) (reader : Reader) (body : List ℕ) (e : Ending) (m : MakesStep facts gives start.end_ body before.desk after.desk before.draws after.draws)
-      → Runs facts gives start before reader → next_body reader ≡ Some body → SaysReply start.end_ m.reply before.stream after.stream before.left after.left (Err e)
-      → Carries facts gives start (finish_at after) e
-  cut start before after reader body e m p next says =
+  pub cut : (start : Start D W) (before after : Place D W) (reader : Reader) (body : List ℕ) (e : Ending) (m : TakesFrame facts gives start.end_ body before after (Err e))
+      → Runs facts gives start before reader → next_body reader ≡ Some body → Carries facts gives start (finish_at after) e
+  cut start before after reader body e m p next =
+      let says = m.says in
       let s : Step = (event.Frame start.end_ body, m.number, m.reply) in
       let part = take says.says.count m.reply.say in
       let keeps = keeps_next laws p.input p.frames p.steps s body reader (is_some m.reply.up) refl next p.keeps in
@@ -142,63 +138,38 @@ module _ (laws : FrameLaws) {D W : Type 0} (facts : DeskFacts D) (gives : Gives 
       → Runs facts gives start before reader → next_body reader ≡ Some body → HandsOn facts gives start.end_ body before after (Err e)
       → Carries facts gives start (finish_at after) e
   stops start before after reader body e p next (inl h) =
-      let same = sym h.step.ending_is ∙ endings_are e h.ending h.result_is in
+      let same = endings_are e (ending_of_refusal h.error) h.result_is in
       let named = next_is laws p.input p.frames p.steps reader body (same_length start.end_ p.steps p.frames p.events) next p.keeps in
-      let here = refused start before reader after.draws body h.step.number h.step.error p named h.step.number_is h.step.refusal in
+      let here = refused start before reader after.draws body h.number h.error p named h.number_is h.refusal in
       let P = λ (x : StreamState × D × Ending). Carries facts gives start (record { stream = x.0; desk = x.1; draws = after.draws }) x.2 in
       subst P (λ i. (sym h.stream_is i, sym h.desk_is i, same i)) here
-  stops start before after reader body e p next (inr h) = cut start before after reader body e h.step p next h.says
+  stops start before after reader body e p next (inr h) = cut start before after reader body e h p next
 
   -- it was handed on and sent whole
   pub moves_on : (start : Start D W) (before after : Place D W) (reader : Reader) (body : List ℕ) (up : Bool)
       → Runs facts gives start before reader → next_body reader ≡ Some body → HandsOn facts gives start.end_ body before after (Ok up)
       → Runs facts gives start after (after_step up (without_next reader))
-  moves_on start before after reader body up p next (inl h) = absurd (not_refused up h.ending h.result_is)
-  moves_on start before after reader body up p next (inr h) =
-      runs_on start before after reader body up h.step p next (goes_on (own_why start.end_ h.step.reply.closed) h.says.fault h.step.reply.say h.says.goes_on.0 h.says.says) h.says.goes_on.1
-
-  pub lacks_so : (end_ : EndId) (begun place : Place D W) (held reader : Reader)
-      → RunsOn facts gives end_ begun held place reader → EndsSo facts gives end_ begun held (finish_at place) (ending.Fault why.NoMemory)
-  lacks_so end_ begun place held reader p = λ start e runs. lacks start place reader place.draws (p start e runs) (inl refl)
-
-  pub stops_so : (end_ : EndId) (begun before after : Place D W) (held reader : Reader) (body : List ℕ) (e : Ending)
-      → RunsOn facts gives end_ begun held before reader → next_body reader ≡ Some body → HandsOn facts gives end_ body before after (Err e)
-      → EndsSo facts gives end_ begun held (finish_at after) e
-  stops_so end_ begun before after held reader body e p next h =
-      λ start is runs. stops start before after reader body e (p start is runs) next (at_end facts gives end_ start.end_ body before after (Err e) is h)
-
-  pub moves_so : (end_ : EndId) (begun before after : Place D W) (held reader holds : Reader) (body : List ℕ) (up : Bool)
-      → RunsOn facts gives end_ begun held before reader → next_body reader ≡ Some body → HandsOn facts gives end_ body before after (Ok up) → holds ≡ after_step up (without_next reader)
-      → RunsOn facts gives end_ begun held after holds
-  moves_so end_ begun before after held reader holds body up p next h same =
-      λ start is runs. subst (λ (x : Reader). Runs facts gives start after x) (sym same) (moves_on start before after reader body up (p start is runs) next (at_end facts gives end_ start.end_ body before after (Ok up) is h))
+  moves_on start before after reader body up p next (inl h) = absurd (not_refused up (ending_of_refusal h.error) h.result_is)
+  moves_on start before after reader body up p next (inr h) = runs_on start before after reader body up h p next
 
   -- the frame brought the end up, and the reader holds what stood behind it
-  rises : (start : Start D W) (before after : Place D W) (reader : Reader) (body : List ℕ) (m : MakesStep facts gives start.end_ body before.desk after.desk before.draws after.draws)
-      → Runs facts gives start before reader → next_body reader ≡ Some body → Says before.stream after.stream before.left after.left None m.reply.say → true ≡ is_some m.reply.up
-      → Goes facts gives start after (without_next reader) true
+  rises : (start : Start D W) (before after : Place D W) (reader : Reader) (body : List ℕ) (m : TakesFrame facts gives start.end_ body before after (Ok true))
+      → Runs facts gives start before reader → next_body reader ≡ Some body → Goes facts gives start after (without_next reader) true
   unfolding runs_on
-  rises start before after (Short pending) body m p next says is =
+  rises start before after (Short pending) body m p next =
       record {
-        runs = runs_on start before after (Short pending) body true m p next says is;
-        rest = λ h. keeps_rest laws p.input p.frames p.steps (event.Frame start.end_ body, m.number, m.reply) body pending is next p.keeps;
-        newest = λ h. (m.reply, ap last_reply m.list_is ∙ last_pushed (facts.list before.desk) (event.Frame start.end_ body, m.number, m.reply), sym is);
+        runs = runs_on start before after (Short pending) body true m p next;
+        rest = λ h. keeps_rest laws p.input p.frames p.steps (event.Frame start.end_ body, m.number, m.reply) body pending m.says.goes_on.1 next p.keeps;
+        newest = λ h. (m.reply, ap last_reply m.list_is ∙ last_pushed (facts.list before.desk) (event.Frame start.end_ body, m.number, m.reply), sym m.says.goes_on.1);
       }
-  rises start before after (Linked ended rest) body m p next says is = absurd cc
+  rises start before after (Linked ended rest) body m p next = absurd cc
 
-  rises_on : (start : Start D W) (before after : Place D W) (reader : Reader) (body : List ℕ)
-      → Runs facts gives start before reader → next_body reader ≡ Some body → HandsOn facts gives start.end_ body before after (Ok true)
-      → Goes facts gives start after (without_next reader) true
-  rises_on start before after reader body p next (inl h) = absurd (not_refused true h.ending h.result_is)
-  rises_on start before after reader body p next (inr h) =
-      rises start before after reader body h.step p next (goes_on (own_why start.end_ h.step.reply.closed) h.says.fault h.step.reply.say h.says.goes_on.0 h.says.says) h.says.goes_on.1
-
-  pub rises_so : (end_ : EndId) (begun before after : Place D W) (held reader holds : Reader) (body : List ℕ) (up : Bool)
-      → RunsOn facts gives end_ begun held before reader → next_body reader ≡ Some body → HandsOn facts gives end_ body before after (Ok up) → up ≡ true → holds ≡ without_next reader
-      → GoesOn facts gives end_ begun held after holds true
-  rises_so end_ begun before after held reader holds body true p next h yes' same =
-      λ start is runs. subst (λ (x : Reader). Goes facts gives start after x true) (sym same) (rises_on start before after reader body (p start is runs) next (at_end facts gives end_ start.end_ body before after (Ok true) is h))
-  rises_so end_ begun before after held reader holds body false p next h yes' same = absurd cc
+  pub rises_on : (start : Start D W) (before after : Place D W) (reader holds : Reader) (body : List ℕ) (up : Bool)
+      → Runs facts gives start before reader → next_body reader ≡ Some body → HandsOn facts gives start.end_ body before after (Ok up) → up ≡ true → holds ≡ without_next reader
+      → Goes facts gives start after holds true
+  rises_on start before after reader holds body true p next (inl h) yes' same = absurd (not_refused true (ending_of_refusal h.error) h.result_is)
+  rises_on start before after reader holds body true p next (inr h) yes' same = subst (λ x. Goes facts gives start after x true) (sym same) (rises start before after reader body h p next)
+  rises_on start before after reader holds body false p next h yes' same = absurd cc
 
   -- the desk reports that the end is gone
   pub gone : (start : Start D W) (place : Place D W) (reader : Reader) (w : Why)
@@ -250,7 +221,7 @@ module _ (laws : FrameLaws) {D W : Type 0} (facts : DeskFacts D) (gives : Gives 
       → Carries facts gives start (finish_at (read_to place stream left)) e
   piece_ends start place stream left reader holds e p none (inl h) =
       let P : Ending → Type 0 = λ x. Carries facts gives start (finish_at (read_to place stream left)) x in
-      subst P (endings_same e (ending_of_stream h.error) h.ends) (unheard start place stream left reader h.error p none h.hears)
+      subst P (endings_are e (ending_of_stream h.error) h.ends) (unheard start place stream left reader h.error p none h.hears)
   piece_ends start place stream left reader holds e p none (inr h) =
       let P : Ending → Type 0 = λ x. Carries facts gives start (finish_at (read_to place stream left)) x in
       subst P (sym h.ends) (lacks start (read_to place stream left) (without_count (with_bytes reader h.piece)) place.draws (hears_on start place stream left reader h.piece p h.hears h.bytes h.small h.turn) (inl refl))
@@ -258,6 +229,6 @@ module _ (laws : FrameLaws) {D W : Type 0} (facts : DeskFacts D) (gives : Gives 
   -- one came
   pub piece_comes : (start : Start D W) (place : Place D W) (stream : StreamState) (left : ℕ) (reader holds : Reader) (x : Unit {0})
       → HearsPiece place.stream stream place.left left reader holds (Ok x) → Runs facts gives start place reader → Runs facts gives start (read_to place stream left) holds
-  piece_comes start place stream left reader holds x (inl h) p = absurd (let e : Ok x ≡ ends_whole (ending_of_stream h.error) = h.ends in cc)
+  piece_comes start place stream left reader holds x (inl h) p = absurd (let e : Ok x ≡ ends_as {X = Unit {0}} (ending_of_stream h.error) = h.ends in cc)
   piece_comes start place stream left reader holds x (inr h) p =
       subst (λ (q : Reader). Runs facts gives start (read_to place stream left) q) (sym h.holds_is) (hears_on start place stream left reader h.piece p h.hears h.bytes h.small h.turn)

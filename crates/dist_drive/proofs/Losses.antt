@@ -25,9 +25,7 @@ pub record IsOpenAt (es : List End) (id : EndId) : Type 0 where
 open_in : (o : Option End) → (o ≡ None → ⊥) → ((w : Why) → o ≡ Some (ends.Closed w) → ⊥) → (e : End) × (o ≡ Some e) × (is_open e ≡ true)
 open_in None none closed = absurd (none refl)
 open_in (Some (ends.Closed w)) none closed = absurd (closed w refl)
-open_in (Some ends.Unnamed) none closed = (ends.Unnamed, refl, refl)
-open_in (Some (ends.Attempt a)) none closed = (ends.Attempt a, refl, refl)
-open_in (Some (ends.Up r)) none closed = (ends.Up r, refl, refl)
+open_in (Some e) none closed = (e, refl, refl)
 
 abbrev good : Reply → Result Reply StepError
 good r = Ok r
@@ -66,11 +64,7 @@ loss_room closes n m (event.Lost x w) id fresh len capacity r d loss names at h 
     λ e there opened.
     let there' : slice_get m.ends x.0 ≡ Some e = ap (λ (y : EndId). slice_get m.ends y.0) same ∙ there in
     absurd (shut (slice_get m.ends x.0) w e (closes n x w fresh r m h) there' opened)
-loss_room closes n m (event.Dial p o) id fresh len capacity r d loss names at h = absurd cc
-loss_room closes n m (event.Opened x link) id fresh len capacity r d loss names at h = absurd cc
-loss_room closes n m (event.Incoming link) id fresh len capacity r d loss names at h = absurd cc
-loss_room closes n m (event.Frame x body) id fresh len capacity r d loss names at h = absurd cc
-loss_room closes n m (event.Tick x) id fresh len capacity r d loss names at h = absurd cc
+loss_room closes n m _ id fresh len capacity r d loss names at h = absurd cc
 
 pub by_loss : {P : Type 0} (v : Event) → (is_loss v ≡ true → P) → (is_loss v ≡ false → P) → P
 by_loss {P = P} v loses keeps = elim (is_loss v) as (λ b. is_loss v ≡ b → P) [ true ↦ loses | false ↦ keeps ] refl

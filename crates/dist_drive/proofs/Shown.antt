@@ -14,7 +14,7 @@ use Rattle.dist_core.specs.declared.event.Event.TheVariants as event
 use Rattle.dist_core.specs.declared.reply.Reply.{Reply}
 use Rattle.dist_core.specs.declared.step_error.StepError.{StepError}
 use Rattle.dist_stream.specs.Stream.{StreamState}
-use Rattle.dist_stream.specs.Turns.{Rises, Spends, Says, Hears, SaysFront}
+use Rattle.dist_stream.specs.Turns.{Rises, Spends, Says, Hears, SaysFront, IsWriteFault}
 use Rattle.dist_stream.specs.declared.turn_error.TurnError.{TurnError}
 use Rattle.dist_stream.specs.declared.turn_error.TurnError.TheVariants as fault
 use Rattle.dist_drive.specs.declared.outcome.Ending.{Ending}
@@ -24,8 +24,9 @@ use Rattle.dist_core.specs.Losses.{IsGone}
 use Rattle.dist_drive.specs.Numbers.{Gives, DrawsAll}
 use Rattle.dist_drive.specs.Driven.{Start, Course, Finish, frames_of, events_of, HandsOnAll, WritesAll, HasCause, ReportsLoss, Marks, SetsNoMark, is_of_end, is_of_failed_read, LeavesUnread, text_of, whole_course, Does, Carries}
 use Rattle.std.specs.Prelude.{◌≢◌, ◌||◌, IsErrAnd, IfOk, IfErr, OnOk, OnErr}
-use Rattle.dist_drive.specs.Running.{Place, Runs, MakesStep, SaysReply, after_reply, own_why, ending_of_stream, HandsOn}
-use Rattle.dist_drive.proofs.Texts.{append_known-append, prepend_known-append, prepend_known-none, Rises-trans, text_none}
+use Rattle.dist_drive.specs.Running.{Place, Runs, TakesFrame, SaysReply, after_reply, own_why, ending_of_stream, HandsOn}
+use Rattle.dist_stream.proofs.Talks.{append_known-append, prepend_known-append, prepend_known-none, Rises-trans}
+use Rattle.dist_drive.proofs.Texts.{text_none}
 use Rattle.dist_drive.proofs.Keeping.{keeps_none}
 
 pub says_as : {end_ : EndId} {old new : StreamState} {turns left : ℕ} {result : Result Bool Ending} (r q : Reply) → r ≡ q → SaysReply end_ r old new turns left result → SaysReply end_ q old new turns left result
@@ -80,17 +81,10 @@ whole_reply {old = old} {new = new} {turns = turns} {left = left} text p =
 pub goes_on : {old new : StreamState} {turns left : ℕ} (own : Option Why) (noted : Option TurnError) (text : List ℕ) → after_reply own noted ≡ Ok tt → SaysFront old new turns left noted text → Says old new turns left None text
 goes_on own None text e p = whole_reply text p
 goes_on own (Some fault.Limit) text e p = absurd cc
-goes_on (Some w) (Some fault.ReadFailed) text e p = absurd cc
-goes_on (Some w) (Some fault.WriteFailed) text e p = absurd cc
-goes_on (Some w) (Some fault.Ended) text e p = absurd cc
-goes_on None (Some fault.ReadFailed) text e p = absurd cc
-goes_on None (Some fault.WriteFailed) text e p = absurd cc
-goes_on None (Some fault.Ended) text e p = absurd cc
+goes_on (Some w) _ text e p = absurd cc
+goes_on None _ text e p = absurd cc
 
-abbrev pub ends_whole : Ending → Result (Unit {0}) Ending
-ends_whole e = Err e
-
-abbrev pub ends_as : Ending → Result Bool Ending
+abbrev pub ends_as : {X : Type 0} → Ending → Result X Ending
 ends_as e = Err e
 
 -- where there is no fault no mark is set
@@ -105,37 +99,37 @@ marks_since e none m = record {
   write_failed = ⊎_elim (λ h. inl (h ∙ none.write_failed)) (λ h. inr h) m.write_failed;
 }
 
--- after a reply that was not sent whole, or that closed the end
+-- how a call ends after a reply: the turns were spent, the reply closed the end and was sent or not, or it could not be sent
+by_reply : (P : Option Why → Option TurnError → Ending → Type 0) → ((own : Option Why) → P own (Some fault.Limit) ending.Limit)
+    → ((w : Why) → P (Some w) (Some fault.WriteFailed) (ending.Shut w)) → ((w : Why) → P (Some w) None (ending.Shut w)) → P None (Some fault.WriteFailed) (ending.Fault why.WriteFailed)
+    → (own : Option Why) (noted : Option TurnError) (e : Ending) → IsWriteFault noted → after_reply own noted ≡ Err e → P own noted e
+by_reply P limit cut shut failed own (Some fault.Limit) e f h = let same : ending.Limit ≡ e = cc in subst (P own (Some fault.Limit)) same (limit own)
+by_reply P limit cut shut failed (Some w) (Some fault.WriteFailed) e f h = let same : ending.Shut w ≡ e = cc in subst (P (Some w) (Some fault.WriteFailed)) same (cut w)
+by_reply P limit cut shut failed (Some w) None e f h = let same : ending.Shut w ≡ e = cc in subst (P (Some w) None) same (shut w)
+by_reply P limit cut shut failed None (Some fault.WriteFailed) e f h = let same : ending.Fault why.WriteFailed ≡ e = cc in subst (P None (Some fault.WriteFailed)) same failed
+by_reply P limit cut shut failed None None e f h = absurd cc
+by_reply P limit cut shut failed own (Some fault.ReadFailed) e f h = absurd f
+by_reply P limit cut shut failed own (Some fault.Ended) e f h = absurd f
+
 pub reply_marks : {old new : StreamState} {turns left : ℕ} (own : Option Why) (noted : Option TurnError) (e : Ending) (text : List ℕ) → SaysFront old new turns left noted text → after_reply own noted ≡ Err e → Marks e old new
-reply_marks own (Some fault.ReadFailed) e text p h = absurd p.says.fault_is
-reply_marks own (Some fault.Ended) e text p h = absurd p.says.fault_is
-reply_marks {old = old} {new = new} own (Some fault.Limit) e text p h =
-    let same : ending.Limit ≡ e = cc in
-    subst (λ (x : Ending). Marks x old new) same (record { ended = p.says.spends.ended; read_failed = p.says.spends.read_failed; write_failed = inl p.says.spends.write_failed })
-reply_marks {old = old} {new = new} (Some w) (Some fault.WriteFailed) e text p h =
-    let same : ending.Shut w ≡ e = cc in
-    subst (λ (x : Ending). Marks x old new) same (record { ended = p.says.spends.ended; read_failed = p.says.spends.read_failed; write_failed = inr tt })
-reply_marks {old = old} {new = new} None (Some fault.WriteFailed) e text p h =
-    let same : ending.Fault why.WriteFailed ≡ e = cc in
-    subst (λ (x : Ending). Marks x old new) same (record { ended = p.says.spends.ended; read_failed = p.says.spends.read_failed; write_failed = inr tt })
-reply_marks {old = old} {new = new} (Some w) None e text p h =
-    let same : ending.Shut w ≡ e = cc in
-    subst (λ (x : Ending). Marks x old new) same (record { ended = p.says.spends.ended; read_failed = p.says.spends.read_failed; write_failed = inr tt })
-reply_marks None None e text p h = absurd cc
+reply_marks {old = old} {new = new} {turns = turns} {left = left} own noted e text p h =
+    by_reply (λ o n x. SaysFront old new turns left n text → Marks x old new)
+    (λ o q. record { ended = q.says.spends.ended; read_failed = q.says.spends.read_failed; write_failed = inl q.says.spends.write_failed })
+    (λ w q. record { ended = q.says.spends.ended; read_failed = q.says.spends.read_failed; write_failed = inr tt })
+    (λ w q. record { ended = q.says.spends.ended; read_failed = q.says.spends.read_failed; write_failed = inr tt })
+    (λ q. record { ended = q.says.spends.ended; read_failed = q.says.spends.read_failed; write_failed = inr tt })
+    own noted e p.says.fault_is h p
 
 -- after a read that was refused
 pub hear_marks : {old new : StreamState} {turns left : ℕ} (error : TurnError) → Hears old new turns left (Some error) [] → Marks (ending_of_stream error) old new
-hear_marks fault.Limit p = record { ended = p.spends.ended; read_failed = p.spends.read_failed; write_failed = inl p.spends.write_failed }
-hear_marks fault.Ended p = record { ended = p.spends.ended; read_failed = p.spends.read_failed; write_failed = inl p.spends.write_failed }
-hear_marks fault.ReadFailed p = record { ended = p.spends.ended; read_failed = p.spends.read_failed; write_failed = inl p.spends.write_failed }
 hear_marks fault.WriteFailed p = absurd p.fault_is
+hear_marks _ p = record { ended = p.spends.ended; read_failed = p.spends.read_failed; write_failed = inl p.spends.write_failed }
 
 -- where the first words were not written whole
 pub first_marks : {old new : StreamState} {turns left : ℕ} (error : TurnError) (first : List ℕ) → SaysFront old new turns left (Some error) first → Marks (ending_of_stream error) old new
 first_marks fault.Limit first p = record { ended = p.says.spends.ended; read_failed = p.says.spends.read_failed; write_failed = inl p.says.spends.write_failed }
 first_marks fault.WriteFailed first p = record { ended = p.says.spends.ended; read_failed = p.says.spends.read_failed; write_failed = inr tt }
-first_marks fault.ReadFailed first p = absurd p.says.fault_is
-first_marks fault.Ended first p = absurd p.says.fault_is
+first_marks _ first p = absurd p.says.fault_is
 
 -- the first words are not written whole only where there are some
 said_of_some : {old new : StreamState} {turns left : ℕ} (error : TurnError) (first : List ℕ) → SaysFront old new turns left (Some error) first → first ≢ []
@@ -147,11 +141,10 @@ said_of_some error first p none =
 pub first_unread : {old new : StreamState} {turns left : ℕ} (error : TurnError) (first : List ℕ) → SaysFront old new turns left (Some error) first → LeavesUnread first old new (ending_of_stream error)
 first_unread fault.Limit first p = record { unread = p.says.unread; ended = p.says.spends.ended; read_failed = p.says.spends.read_failed; ending_is = said_of_some fault.Limit first p }
 first_unread fault.WriteFailed first p = record { unread = p.says.unread; ended = p.says.spends.ended; read_failed = p.says.spends.read_failed; ending_is = said_of_some fault.WriteFailed first p }
-first_unread fault.ReadFailed first p = absurd p.says.fault_is
-first_unread fault.Ended first p = absurd p.says.fault_is
+first_unread _ first p = absurd p.says.fault_is
 
 -- where the desk reports that the end is gone nothing was read
-pub gone_unread : (first : List ℕ) (start mid new : StreamState) (w : Why) (e : Ending) → ends_as e ≡ ends_as (ending.Gone w) → new ≡ mid → (mid.unread ≡ start.unread) × (mid.ended ≡ start.ended) × (mid.read_failed ≡ start.read_failed) → LeavesUnread first start new e
+pub gone_unread : (first : List ℕ) (start mid new : StreamState) (w : Why) (e : Ending) → ends_as {X = Bool} e ≡ ends_as (ending.Gone w) → new ≡ mid → (mid.unread ≡ start.unread) × (mid.ended ≡ start.ended) × (mid.read_failed ≡ start.read_failed) → LeavesUnread first start new e
 gone_unread first start mid new w e is same kept =
     let noted : ending.Gone w ≡ e = cc in
     subst (λ (x : Ending). LeavesUnread first start new x) noted (record { unread = ap (λ s. s.unread) same ∙ kept.0; ended = ap (λ s. s.ended) same ∙ kept.1; read_failed = ap (λ s. s.read_failed) same ∙ kept.2; ending_is = tt })
@@ -183,48 +176,16 @@ module _ {D W : Type 0} (facts : DeskFacts D) (start : Start D W) (course : Cour
     pub whole : WritesAll e finish.stream (before ++ part ≡ before ++ reply.say)
     pub cause : last_reply course.steps ≡ Some reply → HasCause facts start course finish e
 
-  shows_shut : (reply : Reply) (part : List ℕ) (Handed : Type 0) (before : List ℕ) (w : Why)
-      → own_why start.end_ reply.closed ≡ Some w → ((finish.stream.write_failed ≡ true) ⊎ (part ≡ reply.say)) → ShowsEnd reply part Handed before (ending.Shut w)
-  shows_shut reply part Handed before w own whole = record {
-    all = tt;
-    whole = ⊎_elim (λ h. inl h) (λ h. inr (ap (λ l. before ++ l) h)) whole;
-    cause = λ newest. (reply, newest, own_is start.end_ reply.closed w own);
-  }
-
-  shows_failed : (reply : Reply) {old : StreamState} {turns : ℕ} (Handed : Type 0) (before : List ℕ) (own : Option Why) (e : Ending)
-      → own_why start.end_ reply.closed ≡ own → (p : SaysFront old finish.stream turns course.left (Some fault.WriteFailed) reply.say) → after_reply own (Some fault.WriteFailed) ≡ Err e
-      → ShowsEnd reply (take p.count reply.say) Handed before e
-  shows_failed reply Handed before (Some w) e is p h =
-      let same : ending.Shut w ≡ e = cc in
-      subst (λ (x : Ending). ShowsEnd reply (take p.count reply.say) Handed before x) same (shows_shut reply (take p.count reply.say) Handed before w is (inl (failed reply.say p)))
-  shows_failed reply Handed before None e is p h =
-      let same : ending.Fault why.WriteFailed ≡ e = cc in
-      subst (λ (x : Ending). ShowsEnd reply (take p.count reply.say) Handed before x) same (record { all = tt; whole = tt; cause = λ newest. failed reply.say p })
-
-  shows_whole : (reply : Reply) {old : StreamState} {turns : ℕ} (Handed : Type 0) (before : List ℕ) (own : Option Why) (e : Ending)
-      → own_why start.end_ reply.closed ≡ own → (p : SaysFront old finish.stream turns course.left None reply.say) → after_reply own None ≡ Err e
-      → ShowsEnd reply (take p.count reply.say) Handed before e
-  shows_whole reply Handed before (Some w) e is p h =
-      let same : ending.Shut w ≡ e = cc in
-      let all : take p.count reply.say ≡ reply.say = ap (λ n. take n reply.say) p.whole ∙ take-length reply.say in
-      subst (λ (x : Ending). ShowsEnd reply (take p.count reply.say) Handed before x) same (shows_shut reply (take p.count reply.say) Handed before w is (inr all))
-  shows_whole reply Handed before None e is p h = absurd cc
-
-  shows_limit : (reply : Reply) {old : StreamState} {turns : ℕ} (Handed : Type 0) (before : List ℕ) (own : Option Why) (e : Ending)
-      → (p : SaysFront old finish.stream turns course.left (Some fault.Limit) reply.say) → after_reply own (Some fault.Limit) ≡ Err e
-      → ShowsEnd reply (take p.count reply.say) Handed before e
-  shows_limit reply Handed before own e p h =
-      let same : ending.Limit ≡ e = cc in
-      subst (λ (x : Ending). ShowsEnd reply (take p.count reply.say) Handed before x) same (record { all = tt; whole = tt; cause = λ newest. p.says.spends.cause })
-
   pub shows : (reply : Reply) {old : StreamState} {turns : ℕ} (Handed : Type 0) (before : List ℕ) (noted : Option TurnError) (e : Ending)
       → (p : SaysFront old finish.stream turns course.left noted reply.say) → after_reply (own_why start.end_ reply.closed) noted ≡ Err e
       → ShowsEnd reply (take p.count reply.say) Handed before e
-  shows reply Handed before None e p h = shows_whole reply Handed before (own_why start.end_ reply.closed) e refl p h
-  shows reply Handed before (Some fault.WriteFailed) e p h = shows_failed reply Handed before (own_why start.end_ reply.closed) e refl p h
-  shows reply Handed before (Some fault.Limit) e p h = shows_limit reply Handed before (own_why start.end_ reply.closed) e p h
-  shows reply Handed before (Some fault.ReadFailed) e p h = absurd p.says.fault_is
-  shows reply Handed before (Some fault.Ended) e p h = absurd p.says.fault_is
+  shows reply {old = old} {turns = turns} Handed before noted e p h =
+      by_reply (λ o n x. own_why start.end_ reply.closed ≡ o → (q : SaysFront old finish.stream turns course.left n reply.say) → ShowsEnd reply (take q.count reply.say) Handed before x)
+      (λ o is q. record { all = tt; whole = tt; cause = λ newest. q.says.spends.cause })
+      (λ w is q. record { all = tt; whole = inl (failed reply.say q); cause = λ newest. (reply, newest, own_is start.end_ reply.closed w is) })
+      (λ w is q. record { all = tt; whole = inr (ap (λ n. before ++ take n reply.say) q.whole ∙ ap (λ l. before ++ l) (take-length reply.say)); cause = λ newest. (reply, newest, own_is start.end_ reply.closed w is) })
+      (λ is q. record { all = tt; whole = tt; cause = λ newest. failed reply.say q })
+      (own_why start.end_ reply.closed) noted e p.says.fault_is h refl p
 
   -- after a read that was refused
   pub unheard_shows : {old : StreamState} {turns : ℕ} (error : TurnError) (All : Type 0) (text : List ℕ) → All → Hears old finish.stream turns course.left (Some error) [] → Shows All (text ≡ text) (ending_of_stream error)
@@ -237,10 +198,9 @@ module _ {D W : Type 0} (facts : DeskFacts D) (start : Start D W) (course : Cour
   pub first_shows : {turns : ℕ} {All Said : Type 0} (error : TurnError) → SaysFront start.stream finish.stream turns course.left (Some error) start.first → Shows All Said (ending_of_stream error)
   first_shows fault.Limit p = record { all = tt; whole = tt; cause = p.says.spends.cause }
   first_shows fault.WriteFailed p = record { all = tt; whole = tt; cause = failed start.first p }
-  first_shows fault.ReadFailed p = absurd p.says.fault_is
-  first_shows fault.Ended p = absurd p.says.fault_is
+  first_shows _ p = absurd p.says.fault_is
 
-pub endings_are : (e f : Ending) → ends_as e ≡ ends_as f → f ≡ e
+pub endings_are : {X : Type 0} (e f : Ending) → ends_as {X = X} e ≡ ends_as f → f ≡ e
 endings_are e f h = cc
 
 pub not_refused : (up : Bool) (e : Ending) → Ok up ≡ Err e → ⊥
@@ -253,9 +213,6 @@ at_err P (Err y) e h p = subst P (sym h) p
 
 pub at_end : {D W : Type 0} (facts : DeskFacts D) (gives : Gives W) (end_ other : EndId) (body : List ℕ) (before after : Place D W) (result : Result Bool Ending) → other ≡ end_ → HandsOn facts gives end_ body before after result → HandsOn facts gives other body before after result
 at_end facts gives end_ other body before after result e h = subst (λ (x : EndId). HandsOn facts gives x body before after result) (sym e) h
-
-pub endings_same : (e f : Ending) → ends_whole e ≡ ends_whole f → f ≡ e
-endings_same e f h = cc
 
 -- ---- what a call does, step by step
 
@@ -274,7 +231,7 @@ module _ {D W : Type 0} (facts : DeskFacts D) (gives : Gives W) (start : Start D
   }
 
   -- a frame is handed on, and a part of its reply is written
-  pub does_step : (before after : Place D W) (input : List ℕ) (steps : List Step) (body : List ℕ) (m : MakesStep facts gives start.end_ body before.desk after.desk before.draws after.draws) {noted : Option TurnError} (part : List ℕ)
+  pub does_step : (before after : Place D W) (input : List ℕ) (steps : List Step) (body : List ℕ) {result : Result Bool Ending} (m : TakesFrame facts gives start.end_ body before after result) {noted : Option TurnError} (part : List ℕ)
       → Does facts gives start (whole_course start.first input steps before.left before.draws) before.stream before.desk
       → Says before.stream after.stream before.left after.left noted part
       → Does facts gives start (record { input = input; steps = steps ++ (event.Frame start.end_ body, m.number, m.reply) ∷ []; output = text_of start.first steps ++ part; left = after.left; draws = after.draws }) after.stream after.desk

@@ -1,39 +1,10 @@
 -- Texts and lists of steps that grow by one step, and what a stream shows then.
-use Rattle.std.proofs.Common.{◌≡◌, ℕ, ◌+◌, ◌<◌, ◌≤◌, List, [], ◌∷◌, ◌++◌, length, take, drop, Option, Some, None, refl, sym, ap, subst, ◌∙◌, arith, append_assoc, length-append}
+use Rattle.std.proofs.Common.{◌≡◌, ℕ, ◌+◌, ◌<◌, ◌≤◌, List, [], ◌∷◌, ◌++◌, length, take, drop, refl, sym, ap, subst, ◌∙◌, arith, append_assoc, length-append}
 use Rattle.std.proofs.lemmas.List.{append-nil, take-append-le, take-append-drop}
 use Rattle.std.specs.List.{flat_map}
 use Rattle.std.proofs.lemmas.List.Concat.{flat_map-append}
-use Rattle.std.specs.Io.KnownBytes.{prepend_known, append_known}
-use Rattle.dist_stream.specs.Turns.{Rises}
 use Rattle.dist_drive.specs.Desks.{Step}
 use Rattle.dist_drive.specs.Driven.{IsFront, text_of}
-
--- ---- a stream
-
-pub append_known-append : (known : Option (List ℕ)) (a b : List ℕ) → append_known (append_known known a) b ≡ append_known known (a ++ b)
-append_known-append None a b = refl
-append_known-append (Some x) a b = ap Some (append_assoc x a b)
-
-pub prepend_known-append : (known : Option (List ℕ)) (a b : List ℕ) → prepend_known a (prepend_known b known) ≡ prepend_known (a ++ b) known
-prepend_known-append None a b = refl
-prepend_known-append (Some x) a b = ap Some (sym (append_assoc a b x))
-
-pub prepend_known-none : (known : Option (List ℕ)) → prepend_known [] known ≡ known
-prepend_known-none None = refl
-prepend_known-none (Some x) = refl
-
--- calls after calls
-pub Rises-trans : (a b total x y z : ℕ) → a + b ≡ total → Rises a x y → Rises b y z → Rises total x z
-Rises-trans a b total x y z e p q =
-    let p-most : y ≤ x + a = p.most in
-    let q-most : z ≤ y + b = q.most in
-    record {
-      most = omega arith;
-      exact = λ h.
-          let last : z ≡ y + b = q.exact h in
-          let first : y ≡ x + a = p.exact (omega arith) in
-          omega arith;
-    }
 
 -- ---- texts
 

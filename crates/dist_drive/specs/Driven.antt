@@ -34,11 +34,8 @@ pub record Start (D W : Type 0) : Type 0 where
   pub first : List ℕ
   -- how many reads and writes may be made
   pub limit : ℕ
-  -- the stream
   pub stream : StreamState
-  -- the desk
   pub desk : D
-  -- the source of challenges
   pub draws : W
 
 -- what a call does
@@ -56,11 +53,8 @@ pub record Course (W : Type 0) : Type 0 where
 
 -- what a call leaves
 pub record Finish (D W : Type 0) : Type 0 where
-  -- the stream
   pub stream : StreamState
-  -- the desk
   pub desk : D
-  -- the source of challenges
   pub draws : W
 
 -- ---- frames and text

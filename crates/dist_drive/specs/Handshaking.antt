@@ -18,17 +18,14 @@ IsUpWith list kept = (reply : Reply) × (last_reply list ≡ Some reply) × (rep
 module _ {D W : Type 0} (facts : DeskFacts D) (gives : Gives W) (start : Start D W) (finish : Finish D W) where
   -- The end comes up, with this record. What is read is the frames that are handed on, and then the rest.
   pub record ComesUp (kept : UpRecord) (rest : List ℕ) : Type 0 where
-    -- the frames
     pub frames : List (List ℕ)
     -- their steps, each with its number and its reply
     pub steps : List Step
-    -- how many reads and writes are left
     pub left : ℕ
     -- No byte that is read is lost, no number is drawn for more, and all that is to be sent is written.
     pub does : Does facts gives start (whole_course start.first (flat_map (body_frame w16) frames ++ rest) steps left finish.draws) finish.stream finish.desk
     -- The frames are those of the call, up to and with the one whose reply brings the end up.
     pub frames_are : frames ≡ frames_of (flat_map (body_frame w16) frames ++ rest) steps
-    -- They are handed on, in order.
     pub events : map event_of steps ≡ events_of start.end_ frames
     -- The newest reply has the record.
     pub up : IsUpWith (facts.list finish.desk) kept

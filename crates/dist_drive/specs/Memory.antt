@@ -15,9 +15,7 @@ use Rattle.dist_drive.specs.Desks.{Step, DeskFacts}
 
 -- what contracts see of it
 pub record MemoryState : Type 0 where
-  -- its end
   pub end_ : EndId
-  -- its node
   pub node : NodeState
   -- the steps that were made
   pub list : List Step

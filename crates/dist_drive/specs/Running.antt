@@ -55,13 +55,10 @@ KeepsUp input frames steps (Linked ended rest) = ⊥
 
 -- where a call stands
 pub record Place (D W : Type 0) : Type 0 where
-  -- the stream
   pub stream : StreamState
   -- how many reads and writes are left
   pub left : ℕ
-  -- the desk
   pub desk : D
-  -- the source of challenges
   pub draws : W
 
 -- the newest reply brought its end up
@@ -75,7 +72,6 @@ module _ {D W : Type 0} (facts : DeskFacts D) (gives : Gives W) where
     pub input : List ℕ
     -- the frames that were handed on
     pub frames : List (List ℕ)
-    -- their steps
     pub steps : List Step
     -- All that was to be sent was written.
     pub does : Does facts gives start (whole_course start.first input steps place.left place.draws) place.stream place.desk
@@ -133,49 +129,28 @@ pub record SaysReply (end_ : EndId) (reply : Reply) (old new : StreamState) (tur
   pub ends : (e : Ending) → result ≡ Err e → after_reply (own_why end_ reply.closed) fault ≡ Err e
 
 module _ {D W : Type 0} (facts : DeskFacts D) (gives : Gives W) (end_ : EndId) (body : List ℕ) where
-  -- the frame was handed on, with the next number
-  pub record MakesStep (before after : D) (draws drawn : W) : Type 0 where
-    -- its number
+  -- the desk refused the frame, for which the next number was drawn, and all else is as it was
+  pub record RefusesFrame (before after : Place D W) (result : Result Bool Ending) : Type 0 where
     pub number : ℕ
-    -- the reply to it
-    pub reply : Reply
-    -- The number is the next one.
-    pub number_is : gives draws number drawn
-    -- The desk's list grew by the step.
-    pub list_is : facts.list after ≡ facts.list before ++ (event.Frame end_ body, number, reply) ∷ []
-
-  -- the desk refused the frame, with the next number, and the call ends so
-  pub record RefusesStep (desk : D) (draws drawn : W) (ending : Ending) : Type 0 where
-    -- the number that was drawn for it
-    pub number : ℕ
-    -- why the desk refused it
     pub error : StepError
     -- The number is the next one.
-    pub number_is : gives draws number drawn
-    -- The desk may refuse it so.
-    pub refusal : facts.refusal desk (event.Frame end_ body) number error
+    pub number_is : gives before.draws number after.draws
+    pub refusal : facts.refusal before.desk (event.Frame end_ body) number error
     -- The call ends for that.
-    pub ending_is : ending ≡ ending_of_refusal error
-
-  -- the same, and nothing changed but the source of challenges
-  pub record RefusesFrame (before after : Place D W) (result : Result Bool Ending) : Type 0 where
-    -- how the call ends
-    pub ending : Ending
-    -- The desk refused the frame.
-    pub step : RefusesStep before.desk before.draws after.draws ending
-    -- The call ends so.
-    pub result_is : result ≡ Err ending
-    -- All else is as it was.
+    pub result_is : result ≡ Err (ending_of_refusal error)
     pub desk_is : after.desk ≡ before.desk
     pub stream_is : after.stream ≡ before.stream
     pub left_is : after.left ≡ before.left
 
-  -- the frame was handed on, and what the reply says was written, or a front of it
+  -- the frame was handed on with the next number, and what the reply says was written, or a front of it
   pub record TakesFrame (before after : Place D W) (result : Result Bool Ending) : Type 0 where
-    -- The frame was handed on.
-    pub step : MakesStep before.desk after.desk before.draws after.draws
-    -- What the reply says was written, or a front of it.
-    pub says : SaysReply end_ step.reply before.stream after.stream before.left after.left result
+    pub number : ℕ
+    pub reply : Reply
+    -- The number is the next one.
+    pub number_is : gives before.draws number after.draws
+    -- The desk's list grew by the step.
+    pub list_is : facts.list after.desk ≡ facts.list before.desk ++ (event.Frame end_ body, number, reply) ∷ []
+    pub says : SaysReply end_ reply before.stream after.stream before.left after.left result
 
   -- the desk refused the frame, or took it
   abbrev pub HandsOn : Place D W → Place D W → Result Bool Ending → Type 0
@@ -200,26 +175,18 @@ module _ {D W : Type 0} (facts : DeskFacts D) (gives : Gives W) (end_ : EndId) (
 
 -- the read was refused, and the reader is as it was
 pub record HearsNone (old new : StreamState) (turns left : ℕ) (held holds : Reader) (result : Result (Unit {0}) Ending) : Type 0 where
-  -- why it was refused
   pub error : TurnError
   -- No byte was read.
   pub hears : Hears old new turns left (Some error) []
-  -- The call ends for that.
   pub ends : result ≡ Err (ending_of_stream error)
-  -- The reader is as it was.
   pub held_is : holds ≡ held
 
 -- the piece came to the reader, unless memory ran out
 pub record HearsSome (old new : StreamState) (turns left : ℕ) (held holds : Reader) (result : Result (Unit {0}) Ending) : Type 0 where
-  -- the piece
   pub piece : List ℕ
-  -- It was read.
   pub hears : Hears old new turns left None piece
-  -- Its elements are bytes.
   pub bytes : IsBytes piece
-  -- It is of at most 4,096 bytes.
   pub small : length piece ≤ 4096
-  -- One turn was taken.
   pub turn : turns ≡ left + 1
   -- The reader has the piece.
   pub holds_is : OnOk result (holds ≡ without_count (with_bytes held piece))

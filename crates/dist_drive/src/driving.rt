@@ -1,13 +1,12 @@
 //! One end, driven over a stream.
-ghost use Rattle.std.specs.Prelude.{◌≡◌, ℕ, ◌<◌, ◌≤◌, ◌+◌, ◌++◌, ◌∷◌, [], true, List, MatchOption, Err, IfOk, IfErr, OnOk, OnErr};
+ghost use Rattle.std.specs.Prelude.{◌≡◌, ℕ, ◌<◌, ◌≤◌, ◌+◌, ◌++◌, ◌∷◌, [], true, List, MatchOption, Err, IfOk, IfErr, OnOk};
 ghost use Rattle.dist_drive.specs.Desks.{Step};
 ghost use Rattle.dist_drive.specs.Driven.{Carries, Drives, IsOnlyGone, LeavesUnread, ReportsLoss, outcome_of};
-ghost use Rattle.dist_frames.specs.Reader.Reader.{Short};
 ghost use Rattle.dist_frames.specs.Reader.{next_body, without_next, to_come, with_bytes, without_count};
 ghost use Rattle.dist_frames.specs.History.{IsBytes};
 ghost use Rattle.dist_stream.specs.Turns.{fault_of};
 ghost use Rattle.dist_drive.specs.Running.{after_reply, after_step, ending_of_refusal, ending_of_stream, own_why};
-ghost use Rattle.dist_drive.specs.Running.{MakesStep, RefusesStep, SaysReply, HandsOn, Goes, GoesOn, EndsSo, HearsPiece};
+ghost use Rattle.dist_drive.specs.Running.{SaysReply, HandsOn, Goes, GoesOn, EndsSo, HearsPiece};
 
 use crate::desk::Desk;
 use crate::draws::Draws;
@@ -72,26 +71,6 @@ fn after_reply(own: Option<Why>, written: Result<(), TurnError>) -> Result<(), E
 // The most bytes of one read.
 const PIECE: usize = 4096;
 
-// Hands a frame on with a number of its own.
-fn make_step<D: Desk, W: Draws>(
-    desk: &mut D,
-    draws: &mut W,
-    end_: EndId,
-    body: ByteString,
-) -> Result<(), Ending>
-    ensures ok { OnOk result (MakesStep D.facts W.gives end_ body desk.old desk.new draws.old draws.new) }
-    ensures err { OnErr result (desk.new ≡ desk.old) }
-    ensures cause { IfErr result (RefusesStep D.facts W.gives end_ body desk.old draws.old draws.new) }
-    ensures base { D.base desk.new ≡ D.base desk.old }
-    ensures serves { D.serves desk.new ≡ D.serves desk.old }
-{
-    let fresh = draws.draw();
-    match desk.step(Event::Frame { end_, body }, fresh) {
-        Ok(()) => Ok(()),
-        Err(error) => Err(ending_of_refusal(error)),
-    }
-}
-
 // Writes what a reply says. Whether it brought its end up.
 fn say_reply<S: Stream>(
     limited: &mut Limited<'_, S>,
@@ -107,7 +86,7 @@ fn say_reply<S: Stream>(
     Ok(reply.up.is_some())
 }
 
-// Hands a frame on, and writes what the reply says. Whether it brought the end up.
+// Hands a frame on with a number of its own, and writes what the reply says. Whether it brought the end up.
 fn hand_on<S: Stream, D: Desk, W: Draws>(
     limited: &mut Limited<'_, S>,
     desk: &mut D,
@@ -124,7 +103,11 @@ fn hand_on<S: Stream, D: Desk, W: Draws>(
     ensures serves { D.serves desk.new ≡ D.serves desk.old }
     ensures loan { limited.new.stream.ghost_name ≡ limited.old.stream.ghost_name }
 {
-    make_step(desk, draws, end_, body)?;
+    let fresh = draws.draw();
+    match desk.step(Event::Frame { end_, body }, fresh) {
+        Ok(()) => {}
+        Err(error) => return Err(ending_of_refusal(error)),
+    }
     let Some(reply) = desk.last() else {
         unreachable!()
     };

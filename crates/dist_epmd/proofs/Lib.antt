@@ -3,6 +3,4 @@ pub mod Histories
 pub mod Legal
 pub mod Messages
 pub mod Named
-pub mod OpenFields
 pub mod Own
-pub mod Refusals

@@ -1,170 +1,128 @@
 -- A name and a connection have one row at most, and it is all that is dropped where the connection is closed.
-use Rattle.std.proofs.Common.{◌≡◌, ℕ, Bool, true, false, not, ◌&&◌, ◌||◌, cond, List, [], ◌∷◌, Some, None, refl, sym, ap, ◌∙◌, inl, inr}
-use Rattle.std.specs.Prelude.{◌≢◌, ◌⊎◌, filter, find, option_map, Vec}
+use Rattle.std.proofs.Common.{◌≡◌, ℕ, Bool, true, false, not, ◌&&◌, ◌||◌, cond, List, [], ◌∷◌, Some, refl, sym, ap, ◌∙◌, inl, inr, ⊎_elim}
+use Rattle.std.specs.Prelude.{◌⊎◌, filter, find, option_map, Vec}
+use Rattle.std.specs.Option.{option_map_or}
 use Rattle.std.specs.List.{list_any, AllByRecursion}
 use Rattle.std.specs.Map.{values_of, remove_entry}
 use Rattle.std.specs.Ordering.{is_eq}
-use Rattle.std.proofs.lemmas.Bool.{eqb-true}
+use Rattle.std.proofs.lemmas.Bool.{and_left, and_right, both_ways, cases_Bool, cond_both, eqb-true, ne_eqb, or_cases, or_from, or_left, or_parts}
 use Rattle.std.proofs.lemmas.Slice.Eq.{bytes_eq-Decides}
 use Rattle.dist_epmd.specs.declared.row.Row.{Row}
-use Rattle.dist_epmd.specs.Registrations.{Registrations, Apart, Differ, is_named, is_of, is_own, registered_name, after_closed, after_closed_as}
+use Rattle.dist_epmd.specs.Registrations.{Registrations, InOrder, Precedes, is_named, is_of, is_own, registered_name, after_closed, after_closed_as}
 use Rattle.dist_epmd.specs.Named.{StandAtNames}
-use Rattle.dist_epmd.proofs.Named.{compared, at_name}
+use Rattle.dist_epmd.proofs.Legal.{compared, named_is}
+use Rattle.dist_epmd.proofs.Named.{at_name}
 
--- ---- bits
-
-either_false : (a b : Bool) → (a || b) ≡ false → (a ≡ false) × (b ≡ false)
-either_false true b e = absurd cc
-either_false false b e = (refl, e)
-
-or_neither : (a b : Bool) → a ≡ false → b ≡ false → (a || b) ≡ false
-or_neither true b e f = absurd cc
-or_neither false b e f = f
-
-alone : (a b : Bool) → b ≡ false → (a || b) ≡ a
-alone true b e = refl
-alone false b e = e
-
-and_none : (a b : Bool) → b ≡ false → (a && b) ≡ false
-and_none true b e = e
-and_none false b e = refl
-
-and_some : (a b : Bool) → b ≡ true → (a && b) ≡ a
-and_some true b e = e
-and_some false b e = refl
-
-without : (b : Bool) → (b ≢ true) → b ≡ false
-without true never = absurd (never refl)
-without false never = refl
-
--- ---- rows that pass no test
+-- ---- tests of rows
 
 pub none_dropped : (test : Row → Bool) (rows : List Row) → list_any test rows ≡ false → filter (λ row. not (test row)) rows ≡ rows
 none_dropped test [] none = refl
 none_dropped test (row ∷ rows) none =
-    let n = either_false (test row) (list_any test rows) none in
-    ap (λ (b : Bool). cond (not b) (row ∷ filter (λ r. not (test r)) rows) (filter (λ r. not (test r)) rows)) n.0
-    ∙ ap (λ (l : List Row). row ∷ l) (none_dropped test rows n.1)
+    let n = or_parts (test row) (list_any test rows) none in
+    ap (λ b. cond (not b) (row ∷ filter (λ r. not (test r)) rows) (filter (λ r. not (test r)) rows)) n.0 ∙ ap (λ l. row ∷ l) (none_dropped test rows n.1)
 
--- where a row has this name, no other row has it
-others_named : (name : List ℕ) (row : Row) (rows : List Row) → is_named name row ≡ true → AllByRecursion (Differ row) rows → list_any (is_named name) rows ≡ false
-others_named name row [] own differ = refl
-others_named name row (r ∷ rows) own differ =
-    let mine : row.info.name ≡ name = (bytes_eq-Decides row.info.name name).0 own in
-    or_neither (is_named name r) (list_any (is_named name) rows)
-    (without (is_named name r) (λ e. differ.0.0 (mine ∙ sym ((bytes_eq-Decides r.info.name name).0 e))))
-    (others_named name row rows own differ.1)
+-- where no row passes one test, none passes one that is harder
+none_harder : (p q : Row → Bool) → ((r : Row) → p r ≡ false → q r ≡ false) → (rows : List Row) → list_any p rows ≡ false → list_any q rows ≡ false
+none_harder p q h [] none = refl
+none_harder p q h (r ∷ rows) none = let n = or_parts (p r) (list_any p rows) none in or_from (q r) _ (h r n.0) (none_harder p q h rows n.1)
 
--- where a row is of this connection, no other row is
-others_of : (conn : ℕ) (row : Row) (rows : List Row) → is_of conn row ≡ true → AllByRecursion (Differ row) rows → list_any (is_of conn) rows ≡ false
-others_of conn row [] own differ = refl
-others_of conn row (r ∷ rows) own differ =
-    or_neither (is_of conn r) (list_any (is_of conn) rows)
-    (without (is_of conn r) (λ e. differ.0.1 (eqb-true row.conn conn own ∙ sym (eqb-true r.conn conn e))))
-    (others_of conn row rows own differ.1)
+-- where a row passes, no later one does
+others : (test : Row → Bool) → ((r s : Row) → Precedes r s → test r ≡ true → test s ≡ false) → (row : Row) (rows : List Row) → test row ≡ true → AllByRecursion (Precedes row) rows → list_any test rows ≡ false
+others test sole row [] passes after = refl
+others test sole row (r ∷ rows) passes after = or_from (test r) _ (sole row r after.0 passes) (others test sole row rows passes after.1)
 
-unnamed_own : (conn : ℕ) (name : List ℕ) (rows : List Row) → list_any (is_named name) rows ≡ false → list_any (is_own conn name) rows ≡ false
-unnamed_own conn name [] none = refl
-unnamed_own conn name (r ∷ rows) none =
-    let n = either_false (is_named name r) (list_any (is_named name) rows) none in
-    or_neither (is_own conn name r) (list_any (is_own conn name) rows) (and_none (is_of conn r) (is_named name r) n.0) (unnamed_own conn name rows n.1)
+last : (b l : Bool) → l ≡ false → ((b && true) || l) ≡ b
+last true l e = refl
+last false l e = e
 
-strange_own : (conn : ℕ) (name : List ℕ) (rows : List Row) → list_any (is_of conn) rows ≡ false → list_any (is_own conn name) rows ≡ false
-strange_own conn name [] none = refl
-strange_own conn name (r ∷ rows) none =
-    let n = either_false (is_of conn r) (list_any (is_of conn) rows) none in
-    or_neither (is_own conn name r) (list_any (is_own conn name) rows) (ap (λ (b : Bool). b && is_named name r) n.0) (strange_own conn name rows n.1)
+passed : (b l : Bool) → ((b && false) || l) ≡ l
+passed true l = refl
+passed false l = refl
 
--- ---- the row that is found
+kept : {X : Type 0} (b : Bool) (x y : X) → x ≡ cond (not (b && false)) x y
+kept true x y = refl
+kept false x y = refl
 
-pub own_none : (conn : ℕ) (name : List ℕ) (rows : List Row) → find (is_named name) rows ≡ None → list_any (is_own conn name) rows ≡ false
-own_none conn name [] none = refl
-own_none conn name (r ∷ rows) none =
-    elim (is_named name r) as (λ v. is_named name r ≡ v → cond v (Some r) (find (is_named name) rows) ≡ None → list_any (is_own conn name) (r ∷ rows) ≡ false) [
-      | true ↦ λ e n. cc
-      | false ↦ λ e n. or_neither (is_own conn name r) (list_any (is_own conn name) rows) (and_none (is_of conn r) (is_named name r) e) (own_none conn name rows n)
-    ] refl none
+module _ (conn : ℕ) (name : List ℕ) where
+  abbrev own : Row → Bool
+  own row = is_own conn name row
 
-pub own_some : (conn : ℕ) (name : List ℕ) (rows : List Row) (row : Row) → Apart rows → find (is_named name) rows ≡ Some row → list_any (is_own conn name) rows ≡ is_of conn row
-own_some conn name [] row apart found = cc
-own_some conn name (r ∷ rows) row apart found =
-    elim (is_named name r) as (λ v. is_named name r ≡ v → cond v (Some r) (find (is_named name) rows) ≡ Some row → list_any (is_own conn name) (r ∷ rows) ≡ is_of conn row) [
-      | true ↦ λ e f.
-          let same : r ≡ row = cc in
-          alone (is_own conn name r) (list_any (is_own conn name) rows) (unnamed_own conn name rows (others_named name r rows e apart.0))
-          ∙ and_some (is_of conn r) (is_named name r) e
-          ∙ ap (is_of conn) same
-      | false ↦ λ e f.
-          ap (λ (b : Bool). b || list_any (is_own conn name) rows) (and_none (is_of conn r) (is_named name r) e)
-          ∙ own_some conn name rows row apart.1 f
-    ] refl found
+  named_sole : (row : Row) (rows : List Row) → is_named name row ≡ true → AllByRecursion (Precedes row) rows → list_any own rows ≡ false
+  named_sole row rows passes after =
+      let sole : (r s : Row) → Precedes r s → is_named name r ≡ true → is_named name s ≡ false = λ r s p e.
+      sym (named_is name s.info.name) ∙ ap (λ n. is_eq (compared n s.info.name)) (sym ((bytes_eq-Decides r.info.name name).0 e)) ∙ ap is_eq p.0 in
+      none_harder (is_named name) own (λ r e. and_right (is_of conn r) (is_named name r) e) rows (others (is_named name) sole row rows passes after)
 
--- ---- the row that is dropped
+  conn_sole : (row : Row) (rows : List Row) → is_of conn row ≡ true → AllByRecursion (Precedes row) rows → list_any (is_of conn) rows ≡ false
+  conn_sole row rows passes after = others (is_of conn) (λ r s p e. ne_eqb s.conn conn (λ h. p.1 (eqb-true r.conn conn e ∙ sym h))) row rows passes after
 
-pub own_dropped : {Z : Type 0} (conn : ℕ) (name : List ℕ) (es : List (Vec ℕ Z × Row)) → StandAtNames es → Apart (values_of es) → list_any (is_own conn name) (values_of es) ≡ true
-    → values_of (remove_entry (λ k. is_eq (compared name k.items)) es) ≡ filter (λ row. not (is_own conn name row)) (values_of es)
-own_dropped conn name [] own apart there = refl
-own_dropped conn name (e ∷ es) own apart there =
-    let rest = filter (λ row. not (is_own conn name row)) (values_of es) in
-    ap (λ (b : Bool). values_of (cond b es (e ∷ remove_entry (λ k. is_eq (compared name k.items)) es))) (at_name name e own.0)
-    ∙ elim (is_named name e.1) as (λ v. is_named name e.1 ≡ v → values_of (cond v es (e ∷ remove_entry (λ k. is_eq (compared name k.items)) es)) ≡ filter (λ row. not (is_own conn name row)) (e.1 ∷ values_of es)) [
-      | true ↦ λ n.
-          let none = unnamed_own conn name (values_of es) (others_named name e.1 (values_of es) n apart.0) in
-          let mine : is_own conn name e.1 ≡ true = sym (alone (is_own conn name e.1) (list_any (is_own conn name) (values_of es)) none) ∙ there in
-          sym (none_dropped (is_own conn name) (values_of es) none) ∙ sym (ap (λ (b : Bool). cond (not b) (e.1 ∷ rest) rest) mine)
-      | false ↦ λ n.
-          let other : is_own conn name e.1 ≡ false = and_none (is_of conn e.1) (is_named name e.1) n in
-          let later : list_any (is_own conn name) (values_of es) ≡ true = sym (ap (λ (b : Bool). b || list_any (is_own conn name) (values_of es)) other) ∙ there in
-          ap (λ (l : List Row). e.1 ∷ l) (own_dropped conn name es own.1 apart.1 later) ∙ sym (ap (λ (b : Bool). cond (not b) (e.1 ∷ rest) rest) other)
-    ] refl
+  pub own_is : (rows : List Row) → InOrder rows → list_any own rows ≡ option_map_or (is_of conn) (find (is_named name) rows) false
+  own_is [] ordered = refl
+  own_is (r ∷ rows) ordered =
+      let more = own_is rows ordered.1 in
+      elim (is_named name r) as (λ v. is_named name r ≡ v → ((is_of conn r && v) || list_any own rows) ≡ option_map_or (is_of conn) (cond v (Some r) (find (is_named name) rows)) false) [
+        | true ↦ λ e. last (is_of conn r) (list_any own rows) (named_sole r rows e ordered.0)
+        | false ↦ λ e. passed (is_of conn r) (list_any own rows) ∙ more
+      ] refl
 
-pub own_left : {Z : Type 0} (test : Vec ℕ Z → Bool) (es : List (Vec ℕ Z × Row)) → StandAtNames es → StandAtNames (remove_entry test es)
-own_left test [] own = tt
-own_left test (e ∷ es) own =
-    let more = own_left test es own.1 in
-    elim (test e.0) as (λ v. StandAtNames (cond v es (e ∷ remove_entry test es))) [
-      | true ↦ own.1
-      | false ↦ (own.0, more)
-    ]
+  -- ---- the row that is dropped
 
--- ---- where a connection is registered under this name
+  module _ {Z : Type 0} where
+    abbrev left : List (Vec ℕ Z × Row) → List (Vec ℕ Z × Row)
+    left es = remove_entry (λ k. is_eq (compared name k.items)) es
 
-same_rows : (conn : ℕ) (name : List ℕ) (rows : List Row) → Apart rows → option_map (λ row. row.info.name) (find (is_of conn) rows) ≡ Some name
-    → filter (λ row. not (is_own conn name row)) rows ≡ filter (λ row. not (is_of conn row)) rows
-same_rows conn name [] apart found = refl
-same_rows conn name (r ∷ rows) apart found =
-    let own = filter (λ row. not (is_own conn name row)) rows in
-    let mine = filter (λ row. not (is_of conn row)) rows in
-    elim (is_of conn r) as (λ v. is_of conn r ≡ v → option_map (λ (row : Row). row.info.name) (cond v (Some r) (find (is_of conn) rows)) ≡ Some name → cond (not (v && is_named name r)) (r ∷ own) own ≡ cond (not v) (r ∷ mine) mine) [
-      | true ↦ λ e f.
-          let same : r.info.name ≡ name = cc in
-          let none = others_of conn r rows e apart.0 in
-          ap (λ (b : Bool). cond (not b) (r ∷ own) own) ((bytes_eq-Decides r.info.name name).1 same)
-          ∙ none_dropped (is_own conn name) rows (strange_own conn name rows none)
-          ∙ sym (none_dropped (is_of conn) rows none)
-      | false ↦ λ e f. ap (λ (l : List Row). r ∷ l) (same_rows conn name rows apart.1 f)
-    ] refl found
+    pub own_dropped : (es : List (Vec ℕ Z × Row)) → StandAtNames es → InOrder (values_of es) → list_any own (values_of es) ≡ true → values_of (left es) ≡ filter (λ row. not (own row)) (values_of es)
+    own_dropped [] named ordered there = refl
+    own_dropped (e ∷ es) named ordered there =
+        let rows = values_of es in
+        let rest = filter (λ row. not (own row)) rows in
+        let mine = is_of conn e.1 in
+        let more = own_dropped es named.1 ordered.1 in
+        ap (λ b. values_of (cond b es (e ∷ left es))) (at_name name e named.0)
+        ∙ elim (is_named name e.1) as (λ v. is_named name e.1 ≡ v → ((mine && v) || list_any own rows) ≡ true → values_of (cond v es (e ∷ left es)) ≡ cond (not (mine && v)) (e.1 ∷ rest) rest) [
+          | true ↦ λ n t.
+              let none = named_sole e.1 rows n ordered.0 in
+              sym (none_dropped own rows none) ∙ ap (λ b. cond (not (b && true)) (e.1 ∷ rest) rest) (sym t ∙ last mine (list_any own rows) none)
+          | false ↦ λ n t. ap (λ l. e.1 ∷ l) (more (sym (passed mine (list_any own rows)) ∙ t)) ∙ kept mine (e.1 ∷ rest) rest
+        ] refl there
 
-pub same_closed : (conn : ℕ) (name : List ℕ) (registrations : Registrations) → Apart registrations.rows → registered_name conn registrations ≡ Some name → after_closed_as conn name registrations ≡ after_closed conn registrations
-same_closed conn name registrations apart found = ap (λ (l : List Row). record registrations { rows = l }) (same_rows conn name registrations.rows apart found)
+    pub own_left : (es : List (Vec ℕ Z × Row)) → StandAtNames es → StandAtNames (left es)
+    own_left [] named = tt
+    own_left (e ∷ es) named = let more = own_left es named.1 in cond_both (is_eq (compared name e.0.items)) es (e ∷ left es) StandAtNames (λ t. named.1) (λ t. (named.0, more))
 
--- where a connection has registered this name, it is the name that is registered on it
-own_found : (conn : ℕ) (name : List ℕ) (rows : List Row) → Apart rows → list_any (is_own conn name) rows ≡ true → option_map (λ row. row.info.name) (find (is_of conn) rows) ≡ Some name
-own_found conn name [] apart there = absurd cc
-own_found conn name (r ∷ rows) apart there =
-    elim (is_of conn r) as (λ v. is_of conn r ≡ v → ((v && is_named name r) || list_any (is_own conn name) rows) ≡ true → option_map (λ (row : Row). row.info.name) (cond v (Some r) (find (is_of conn) rows)) ≡ Some name) [
-      | true ↦ λ e t.
-          let none = strange_own conn name rows (others_of conn r rows e apart.0) in
-          ap (λ (n : List ℕ). Some n) ((bytes_eq-Decides r.info.name name).0 (sym (alone (is_named name r) (list_any (is_own conn name) rows) none) ∙ t))
-      | false ↦ λ e t. own_found conn name rows apart.1 t
-    ] refl there
+  -- ---- where a connection is registered under this name
 
--- what is dropped is the connection's only row, or nothing
-pub all_or_none : (conn : ℕ) (name : List ℕ) (registrations : Registrations) → Apart registrations.rows
-    → (after_closed_as conn name registrations ≡ registrations) ⊎ (after_closed_as conn name registrations ≡ after_closed conn registrations)
-all_or_none conn name registrations apart =
-    elim (list_any (is_own conn name) registrations.rows) as (λ v. list_any (is_own conn name) registrations.rows ≡ v
-    → (after_closed_as conn name registrations ≡ registrations) ⊎ (after_closed_as conn name registrations ≡ after_closed conn registrations)) [
-      | true ↦ λ e. inr (same_closed conn name registrations apart (own_found conn name registrations.rows apart e))
-      | false ↦ λ e. inl (ap (λ (l : List Row). record registrations { rows = l }) (none_dropped (is_own conn name) registrations.rows e))
-    ] refl
+  same_rows : (rows : List Row) → InOrder rows → list_any own rows ≡ true → filter (λ row. not (own row)) rows ≡ filter (λ row. not (is_of conn row)) rows
+  same_rows [] ordered there = refl
+  same_rows (r ∷ rows) ordered there =
+      let kept_own = filter (λ row. not (own row)) rows in
+      let kept_conn = filter (λ row. not (is_of conn row)) rows in
+      let more = same_rows rows ordered.1 in
+      elim (is_of conn r) as (λ b. is_of conn r ≡ b → ((b && is_named name r) || list_any own rows) ≡ true → cond (not (b && is_named name r)) (r ∷ kept_own) kept_own ≡ cond (not b) (r ∷ kept_conn) kept_conn) [
+        | true ↦ λ e t.
+            let none = conn_sole r rows e ordered.0 in
+            let none_own = none_harder (is_of conn) own (λ x h. and_left (is_of conn x) (is_named name x) h) rows none in
+            let named : is_named name r ≡ true = ⊎_elim (λ h. h) (λ h. absurd (both_ways _ none_own h)) (or_cases (is_named name r) (list_any own rows) t) in
+            ap (λ b. cond (not b) (r ∷ kept_own) kept_own) named ∙ none_dropped own rows none_own ∙ sym (none_dropped (is_of conn) rows none)
+        | false ↦ λ e t. ap (λ l. r ∷ l) (more t)
+      ] refl there
+
+  there_own : (rows : List Row) → option_map (λ row. row.info.name) (find (is_of conn) rows) ≡ Some name → list_any own rows ≡ true
+  there_own [] found = absurd cc
+  there_own (r ∷ rows) found =
+      let more = there_own rows in
+      elim (is_of conn r) as (λ b. option_map (λ row. row.info.name) (cond b (Some r) (find (is_of conn) rows)) ≡ Some name → ((b && is_named name r) || list_any own rows) ≡ true) [
+        | true ↦ λ f. let same : r.info.name ≡ name = cc in or_left (is_named name r) (list_any own rows) ((bytes_eq-Decides r.info.name name).1 same)
+        | false ↦ λ f. more f
+      ] found
+
+  -- what is dropped is the connection's only row, or nothing
+  module _ (registrations : Registrations) (ordered : InOrder registrations.rows) where
+    pub same_closed : list_any own registrations.rows ≡ true → after_closed_as conn name registrations ≡ after_closed conn registrations
+    same_closed there = ap (λ l. record registrations { rows = l }) (same_rows registrations.rows ordered there)
+
+    pub registered_closed : registered_name conn registrations ≡ Some name → after_closed_as conn name registrations ≡ after_closed conn registrations
+    registered_closed found = same_closed (there_own registrations.rows found)
+
+    pub all_or_none : (after_closed_as conn name registrations ≡ registrations) ⊎ (after_closed_as conn name registrations ≡ after_closed conn registrations)
+    all_or_none = ⊎_elim (λ e. inr (same_closed e)) (λ e. inl (ap (λ l. record registrations { rows = l }) (none_dropped own registrations.rows e))) (cases_Bool (list_any own registrations.rows))

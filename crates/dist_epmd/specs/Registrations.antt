@@ -122,23 +122,14 @@ names_text registrations = number w32 registrations.port ++ flat_map line_of reg
 
 -- ---- what always holds
 
--- the two rows share no name, no connection and no creation
-abbrev pub Differ : Row → Row → Type 0
-Differ a b = (a.info.name ≢ b.info.name) × (a.conn ≢ b.conn) × (a.creation ≢ b.creation)
+-- The name of the first row is below that of the second, and they share no connection and no creation.
+abbrev pub Precedes : Row → Row → Type 0
+Precedes a b = (slice_cmp nat_cmp a.info.name b.info.name ≡ Less) × (a.conn ≢ b.conn) × (a.creation ≢ b.creation)
 
--- no two rows share a name, a connection or a creation
-abbrev pub Apart : List Row → Type 0
-Apart [] = Unit {0}
-Apart (row ∷ rows) = AllByRecursion (Differ row) rows × Apart rows
-
--- the name of the first row is below that of the second
-abbrev pub IsBelow : Row → Row → Type 0
-IsBelow a b = slice_cmp nat_cmp a.info.name b.info.name ≡ Less
-
--- the names ascend in byte order
+-- The names ascend in byte order, so no two rows share one, and no two share a connection or a creation.
 abbrev pub InOrder : List Row → Type 0
 InOrder [] = Unit {0}
-InOrder (row ∷ rows) = AllByRecursion (IsBelow row) rows × InOrder rows
+InOrder (row ∷ rows) = AllByRecursion (Precedes row) rows × InOrder rows
 
 -- the creation of the row is below the next
 abbrev pub IsGiven : ℕ → Row → Type 0
@@ -146,7 +137,6 @@ IsGiven next row = row.creation < next
 
 -- what holds of the registrations after any calls
 pub record IsLegal (registrations : Registrations) : Type 0 where
-  pub apart : Apart registrations.rows
   pub ordered : InOrder registrations.rows
   pub few : length registrations.rows ≤ 1024
   -- the next creation is above all that are held

@@ -1,6 +1,6 @@
 //! Reading messages.
 
-ghost use Rattle.std.specs.Prelude.{◌≡◌, IfOk, IfErr};
+ghost use Rattle.std.specs.Prelude.{IfOk, IfErr};
 ghost use Rattle.dist_epmd.specs.declared.message.Answer.{Answer};
 ghost use Rattle.dist_epmd.specs.declared.message.Asked.{Asked};
 ghost use Rattle.dist_epmd.specs.declared.message.Request.{Request};
@@ -10,7 +10,7 @@ ghost use Rattle.dist_epmd.specs.Refusing.{RefusesRequest, RefusesAnswer};
 ghost use Rattle.dist_epmd.specs.Reading.{whole_info, alive_x, alive, node_answer, read_request, read_answer};
 
 use crate::epmd_error::EpmdError;
-use crate::fields::{fields_at, u8_at, u16_at, u32_at};
+use crate::fields::{fields_at, u16_at, u32_at};
 use crate::message::{Answer, Asked, NodeInfo, Request};
 use dist_names::ByteString;
 use std::alloc::Global;
@@ -19,9 +19,7 @@ use std::alloc::Global;
 fn whole_info(alloc: Global, bytes: &[u8]) -> Result<NodeInfo, EpmdError>
     ensures { Answers (λ i. i) result (whole_info bytes.now) }
 {
-    let Some((fields, rest)) = fields_at(bytes) else {
-        return Err(EpmdError::Short);
-    };
+    let (fields, rest) = fields_at(bytes).ok_or(EpmdError::Short)?;
     if !rest.is_empty() {
         return Err(EpmdError::Trailing);
     }
@@ -64,17 +62,15 @@ fn alive_x(bytes: &[u8]) -> Result<Answer, EpmdError>
     ensures exact { Answers (λ a. a) result (alive_x bytes.now) }
     ensures lacks { LacksText result (alive_x bytes.now) }
 {
-    let Some((result_code, rest)) = u8_at(bytes) else {
+    let [result_code, rest @ ..] = bytes else {
         return Err(EpmdError::Short);
     };
-    let Some((creation, rest)) = u32_at(rest) else {
-        return Err(EpmdError::Short);
-    };
+    let (creation, rest) = u32_at(rest).ok_or(EpmdError::Short)?;
     if !rest.is_empty() {
         return Err(EpmdError::Trailing);
     }
     Ok(Answer::AliveX {
-        result_code,
+        result_code: *result_code,
         creation,
     })
 }
@@ -84,17 +80,15 @@ fn alive(bytes: &[u8]) -> Result<Answer, EpmdError>
     ensures exact { Answers (λ a. a) result (alive bytes.now) }
     ensures lacks { LacksText result (alive bytes.now) }
 {
-    let Some((result_code, rest)) = u8_at(bytes) else {
+    let [result_code, rest @ ..] = bytes else {
         return Err(EpmdError::Short);
     };
-    let Some((creation, rest)) = u16_at(rest) else {
-        return Err(EpmdError::Short);
-    };
+    let (creation, rest) = u16_at(rest).ok_or(EpmdError::Short)?;
     if !rest.is_empty() {
         return Err(EpmdError::Trailing);
     }
     Ok(Answer::Alive {
-        result_code,
+        result_code: *result_code,
         creation,
     })
 }
@@ -151,9 +145,7 @@ fn names_answer(alloc: Global, bytes: &[u8]) -> Result<Answer, EpmdError>
     ensures exact { Answers (λ a. a) result (read_answer Asked.Names bytes.now) }
     ensures lacks { LacksText result (read_answer Asked.Names bytes.now) }
 {
-    let Some((port, text)) = u32_at(bytes) else {
-        return Err(EpmdError::Short);
-    };
+    let (port, text) = u32_at(bytes).ok_or(EpmdError::Short)?;
     let text = ByteString::from_slice(alloc, text)?;
     Ok(Answer::Names { port, text })
 }

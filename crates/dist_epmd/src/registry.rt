@@ -1,9 +1,10 @@
 //! The registry from which the port mapper answers.
 
-ghost use Rattle.std.specs.Prelude.{◌≡◌, ◌⊎◌, ◌∷◌, ◌++◌, ℕ, false, IfOk, OnOk, OnErr, IsTrue, Some, flat_map, option_copied};
+ghost use Rattle.std.specs.Prelude.{◌≡◌, ◌⊎◌, ℕ, false, IfOk, OnOk, OnErr, IsTrue, Some, flat_map, nat_lt, if◌then◌else◌, option_copied};
+ghost use Rattle.dist_epmd.specs.declared.message.Answer.TheVariants.{Alive, AliveX};
 ghost use Rattle.std.specs.List.{list_any};
 ghost use Rattle.dist_epmd.specs.Registrations.{Registrations, IsLegal, opening, is_accepted, is_of, after_request, after_closed, after_closed_as};
-ghost use Rattle.dist_epmd.specs.Registrations.{answer_to, creation_answer, refusal_answer, registered_info, registered_name, line_of, names_text};
+ghost use Rattle.dist_epmd.specs.Registrations.{answer_to, registered_info, registered_name, line_of, names_text};
 
 use crate::message::{AliveReq, Answer, PortInfo};
 use crate::row::Row;
@@ -22,36 +23,19 @@ const MOST: usize = 1024;
 // The least version of the handshake that has creations of 32 bits.
 const NEWER: u16 = 6;
 
-// The answer that carries this creation, in the form for the node's highest version.
-fn registered_answer(request: &AliveReq, creation: u32) -> Answer
-    ensures { result ≡ creation_answer request.now creation }
+// The answer with this result, in the form for the node's highest version: with the creation, or with a short one in its place.
+fn answer_in_form(request: &AliveReq, result_code: u8, creation: u32, short: u16) -> Answer
+    ensures { result ≡ (if nat_lt request.now.highest 6 then Alive result_code short else AliveX result_code creation) }
 {
     if request.highest < NEWER {
         Answer::Alive {
-            result_code: 0,
-            creation: ((creation as u64 + 2) % 3 + 1) as u16,
+            result_code,
+            creation: short,
         }
     } else {
         Answer::AliveX {
-            result_code: 0,
+            result_code,
             creation,
-        }
-    }
-}
-
-// The answer to a registration that is refused.
-fn refusing_answer(request: &AliveReq) -> Answer
-    ensures { result ≡ refusal_answer request.now }
-{
-    if request.highest < NEWER {
-        Answer::Alive {
-            result_code: 1,
-            creation: 0,
-        }
-    } else {
-        Answer::AliveX {
-            result_code: 1,
-            creation: 0,
         }
     }
 }
@@ -131,7 +115,7 @@ impl Registry {
         ensures err { OnErr result (self.new ≡ self.old) }
     {
         if has_conn(&self.rows, conn) {
-            return Ok(refusing_answer(request));
+            return Ok(answer_in_form(request, 1, 0, 0));
         }
         self.alive_first(alloc, conn, request)
     }
@@ -153,12 +137,13 @@ impl Registry {
         ensures err { OnErr result (self.new ≡ self.old) }
     {
         if !self.has_place(request) {
-            return Ok(refusing_answer(request));
+            return Ok(answer_in_form(request, 1, 0, 0));
         }
         let creation = self.next as u32;
         register(&mut self.rows, alloc, conn, request, creation)?;
         self.next += 1;
-        Ok(registered_answer(request, creation))
+        let short = ((creation as u64 + 2) % 3 + 1) as u16;
+        Ok(answer_in_form(request, 0, creation, short))
     }
 
     /// What the node of this name said of itself when it registered. It takes no memory.

@@ -3,7 +3,7 @@
 ghost use Rattle.std.specs.Prelude.{◌≡◌, ◌++◌, false, not, length, filter, find, flat_map, nat_lt, option_copied, OnOk, OnErr};
 ghost use Rattle.std.specs.BTreeMap.{values};
 ghost use Rattle.std.specs.List.{list_all, list_any};
-ghost use Rattle.dist_epmd.specs.Registrations.{Apart, is_short_byte, is_short_name, is_named, is_of, is_own, with_row, line_of};
+ghost use Rattle.dist_epmd.specs.Registrations.{InOrder, is_short_byte, is_short_name, is_named, is_of, is_own, with_row, line_of};
 ghost use Rattle.dist_epmd.specs.Named.{StandAtNames};
 
 use crate::encoding::push_both;
@@ -122,7 +122,7 @@ pub fn drop_conn(rows: &mut BTreeMap<Vec<u8>, Row>, conn: u64)
 fn has_own(rows: &BTreeMap<Vec<u8>, Row>, conn: u64, name: &[u8]) -> bool
     // Every registry keeps its rows so.
     requires names { StandAtNames rows.now.entries }
-    requires apart { Apart (values rows.now) }
+    requires ordered { InOrder (values rows.now) }
     ensures { result ≡ list_any (is_own conn name.now) (values rows.now) }
 {
     match row_of_name(rows, name) {
@@ -135,7 +135,7 @@ fn has_own(rows: &BTreeMap<Vec<u8>, Row>, conn: u64, name: &[u8]) -> bool
 pub fn drop_own(rows: &mut BTreeMap<Vec<u8>, Row>, conn: u64, name: &[u8])
     // Every registry keeps its rows so.
     requires names { StandAtNames rows.old.entries }
-    requires apart { Apart (values rows.old) }
+    requires ordered { InOrder (values rows.old) }
     ensures rows { values rows.new ≡ filter (λ row. not (is_own conn name.now row)) (values rows.old) }
     ensures names { StandAtNames rows.new.entries }
 {

@@ -1,12 +1,11 @@
 -- One question, put together from what was written and what was read.
-use Rattle.std.proofs.Common.{◌≡◌, ℕ, ◌≤◌, Bool, true, false, cond, ltb, List, [], ◌++◌, length, take, drop, Option, Some, None, Result, Ok, Err, refl, sym, ap, subst, ◌∙◌, inl, inr, take_all, le_refl}
+use Rattle.std.proofs.Common.{◌≡◌, ℕ, ◌≤◌, false, ltb, List, [], ◌++◌, length, take, drop, Option, Some, None, Result, Ok, Err, refl, sym, ap, subst, ◌∙◌, inl, inr, take_all, le_refl}
 use Rattle.std.proofs.lemmas.List.{append-nil, take-append-drop}
 use Rattle.std.specs.Prelude.{IsOk, IsErrAnd}
 use Rattle.std.specs.Int.{w16}
 use Rattle.dist_frames.specs.Stream.{body_frame}
 use Rattle.dist_epmd.specs.declared.epmd_error.EpmdError.{EpmdError}
 use Rattle.dist_epmd.specs.declared.epmd_error.EpmdError.TheVariants as epmd
-use Rattle.dist_epmd.specs.declared.message.Asked.{Asked}
 use Rattle.dist_epmd.specs.declared.message.Request.{Request}
 use Rattle.dist_epmd.specs.Layout.{request_text, written_request}
 use Rattle.dist_epmd.specs.Reading.{read_answer}
@@ -18,8 +17,9 @@ use Rattle.dist_stream.proofs.Talks.{prepend_known-none, append_known-none, Spen
 use Rattle.dist_epmd_calls.specs.declared.lookup_error.LookupError.{LookupError}
 use Rattle.dist_epmd_calls.specs.declared.lookup_error.LookupError.TheVariants as error
 use Rattle.dist_epmd_calls.specs.Refusals.{lookup_error}
-use Rattle.dist_epmd_calls.specs.Asking.{Talks, ReportsBy, Settles, AsksWritten}
-use Rattle.dist_epmd_calls.specs.Steps.{IsFrameOf, HearsAll, Exchanges, ExchangesWritten}
+use Rattle.dist_epmd_calls.specs.Asking.{Talks, ReportsBy, Settles, Asks, AsksFor, IfItFits, question_of}
+use Rattle.dist_epmd_calls.specs.Steps.{IsFrameOf, HearsSo}
+use Rattle.std.proofs.lemmas.Bool.{cond-false}
 
 -- what an exit by `?` returns
 pub reported : {X : Type 0} {r : Result X LookupError} {e : LookupError} → IsErrAnd r (λ y. y ≡ e) → r ≡ Err e
@@ -31,12 +31,9 @@ pub reported_fault : {X : Type 0} {r : Result X TurnError} {e : TurnError} → I
 reported_fault {r = Ok x} h = absurd h
 reported_fault {r = Err y} h = ap Err h
 
-abbrev bad : {X : Type 0} → LookupError → Result X LookupError
-bad e = Err e
-
 -- ---- what was written
 
-whole_front : (n : ℕ) (text : List ℕ) → n ≡ length text → take n text ≡ text
+pub whole_front : (n : ℕ) (text : List ℕ) → n ≡ length text → take n text ≡ text
 whole_front n text e = take_all n text (subst (λ (k : ℕ). length text ≤ k) (sym e) (le_refl (length text)))
 
 pub all_said : {old new : StreamState} {turns left : ℕ} {text : List ℕ} → SaysFront old new turns left None text → Says old new turns left None text
@@ -79,131 +76,116 @@ said_and_heard {left = left} {frame = frame} p q = record {
 
 -- ---- one exchange
 
-cut_write : (e : TurnError) → IsWriteFault (Some e) → (AtEnd : Type 0) → ReportsBy {X = List ℕ} (Some e) (Err (lookup_error e)) AtEnd
-cut_write fault.ReadFailed h AtEnd = absurd h
-cut_write fault.WriteFailed h AtEnd = refl
-cut_write fault.Ended h AtEnd = absurd h
-cut_write fault.Limit h AtEnd = refl
+cut_write : (X : Type 0) (e : TurnError) → IsWriteFault (Some e) → (AtEnd : Type 0) → ReportsBy {X = X} (Some e) (Err (lookup_error e)) AtEnd
+cut_write X fault.WriteFailed h AtEnd = refl
+cut_write X fault.Limit h AtEnd = refl
+cut_write X _ h AtEnd = absurd h
 
-pub exchange_in_part : {old new : StreamState} {turns left : ℕ} {frame : List ℕ} (e : TurnError) → SaysFront old new turns left (Some e) frame → Exchanges old new turns (Err (lookup_error e)) frame
-exchange_in_part {frame = frame} e p = record {
+pub asks_in_part : {X : Type 0} {old new : StreamState} {turns left : ℕ} {frame : List ℕ} {AtEnd : List ℕ → Type 0} (e : TurnError) → SaysFront old new turns left (Some e) frame → Asks {X = X} old new turns frame AtEnd (Err (lookup_error e))
+asks_in_part {X = X} {frame = frame} e p = record {
   said = take p.count frame;
   heard = [];
   stop = Some e;
   talks = said_in_part p.count p.says;
   whole = λ none. let no : Some e ≡ None = none in absurd cc;
-  reports = cut_write e p.says.fault_is _;
+  reports = cut_write X e p.says.fault_is _;
 }
 
-err_as : {X Y : Type 0} (a b : LookupError) → bad {X = X} a ≡ bad b → bad {X = Y} a ≡ bad b
-err_as a b e = let same : a ≡ b = cc in ap bad same
+-- What is returned says the same of the bytes, in other words.
+module _ {X Y : Type 0} (r : Result X LookupError) (s : Result Y LookupError) (errs : (e : LookupError) → r ≡ Err e → s ≡ Err e) where
+  pub reports_as : {A B : Type 0} (stop : Option TurnError) → (A → B) → ReportsBy stop r A → ReportsBy stop s B
+  reports_as (Some fault.Ended) f t = f t
+  reports_as (Some other) f t = errs (lookup_error other) t
+  reports_as None f t = errs error.NoMemory t
 
--- the same refusal among answers of another type
-reports_as : (X Y : Type 0) (stop : Option TurnError) (e : LookupError) (A B : Type 0) → (A → B) → ReportsBy {X = X} stop (Err e) A → ReportsBy {X = Y} stop (Err e) B
-reports_as X Y (Some fault.ReadFailed) e A B f t = err_as e error.ReadFailed t
-reports_as X Y (Some fault.WriteFailed) e A B f t = err_as e error.WriteFailed t
-reports_as X Y (Some fault.Ended) e A B f t = f t
-reports_as X Y (Some fault.Limit) e A B f t = err_as e error.Limit t
-reports_as X Y None e A B f t = err_as e error.NoMemory t
+  pub asks_as : (w : Result (List ℕ) EpmdError) (old new : StreamState) (limit : ℕ) (A B : List ℕ → Type 0) → ((heard : List ℕ) → A heard → B heard)
+      → IfItFits w old new (λ frame. Asks old new limit frame A r) r → IfItFits w old new (λ frame. Asks old new limit frame B s) s
+  asks_as (Ok body) old new limit A B f a = record { said = a.said; heard = a.heard; stop = a.stop; talks = a.talks; whole = a.whole; reports = reports_as a.stop (λ t. (t.0, f a.heard t.1)) a.reports }
+  asks_as (Err why) old new limit A B f a = (errs error.Malformed a.0, a.1)
 
-abbrev good : List ℕ → Result (List ℕ) LookupError
+abbrev pub bad : {X : Type 0} → LookupError → Result X LookupError
+bad e = Err e
+
+abbrev good : {X : Type 0} → X → Result X LookupError
 good x = Ok x
 
-abbrev done : Unit {0} → Result (Unit {0}) LookupError
-done x = Ok x
+-- a refusal is one among answers of any type, and an answer is none
+same_refusal : {X Y : Type 0} (e f : LookupError) → bad {X = X} e ≡ bad f → bad {X = Y} e ≡ bad f
+same_refusal {X} {Y} e f h = let same : e ≡ f = cc in ap (bad {X = Y}) same
 
-abbrev IsAll : Result (Unit {0}) LookupError → List ℕ → List ℕ → Type 0
-IsAll result after whole = (result ≡ Ok tt) × (after ≡ whole)
+pub no_refusal : {X : Type 0} {P : Type 0} (x : X) (e : LookupError) → good x ≡ bad e → P
+no_refusal x e h = absurd cc
 
-abbrev IsHeard : Result (List ℕ) LookupError → List ℕ → List ℕ → List ℕ → Type 0
-IsHeard result heard said frame = (result ≡ Ok heard) × (said ≡ frame)
+answers_same : (x y : List ℕ) → good x ≡ good y → x ≡ y
+answers_same x y e = cc
 
-not_all : {B : Type 0} (e : LookupError) (after whole : List ℕ) → IsAll (Err e) after whole → B
-not_all e after whole h = let no : bad e ≡ done tt = h.0 in absurd cc
-
-pub exchange_unheard : {old mid new : StreamState} {turns between left : ℕ} {frame before after : List ℕ} (e : LookupError) → SaysFront old mid turns between None frame → HearsAll mid new between left (Err e) before after → Exchanges old new turns (Err e) frame
-exchange_unheard {frame = frame} {before = before} {after = after} e p q = record {
+asks_whole : {X : Type 0} {old mid new : StreamState} {turns between left : ℕ} {frame : List ℕ} {A B : List ℕ → Type 0} (r : Result (Unit {0}) LookupError) (s : Result X LookupError)
+    → ((e : LookupError) → r ≡ Err e → s ≡ Err e) → ((heard : List ℕ) → A heard → B heard)
+    → SaysFront old mid turns between None frame → HearsSo mid new between left (λ stop heard. ReportsBy stop r (A heard)) → Asks old new turns frame B s
+asks_whole {frame = frame} r s errs f p q = record {
   said = frame;
   heard = q.heard;
   stop = q.stop;
   talks = said_and_heard (all_said p) q.hears;
   whole = λ none. inr refl;
-  reports = reports_as (Unit {0}) (List ℕ) q.stop e (IsAll (Err e) after (before ++ q.heard)) (IsHeard (Err e) q.heard frame frame) (not_all e after (before ++ q.heard)) q.reports;
+  reports = reports_as r s errs q.stop (λ t. (refl, f q.heard t)) q.means;
 }
 
-whole_reports : (stop : Option TurnError) (x : Unit {0}) (before after answer heard : List ℕ) (frame : List ℕ) → before ≡ [] → answer ≡ after → ReportsBy stop (done x) (IsAll (done x) after (before ++ heard)) → ReportsBy stop (good answer) (IsHeard (good answer) heard frame frame)
-whole_reports (Some fault.ReadFailed) x before after answer heard frame none same t = absurd cc
-whole_reports (Some fault.WriteFailed) x before after answer heard frame none same t = absurd cc
-whole_reports (Some fault.Ended) x before after answer heard frame none same t = (ap good (same ∙ t.1 ∙ ap (λ (l : List ℕ). l ++ heard) none), refl)
-whole_reports (Some fault.Limit) x before after answer heard frame none same t = absurd cc
-whole_reports None x before after answer heard frame none same t = absurd cc
+-- what came up to the end of the stream is behind what was there
+abbrev IsAll : Result (Unit {0}) LookupError → List ℕ → List ℕ → List ℕ → Type 0
+IsAll result before after heard = (result ≡ Ok tt) × (after ≡ before ++ heard)
 
-pub exchange_whole : {old mid new : StreamState} {turns between left : ℕ} {frame : List ℕ} (x : Unit {0}) (before after answer : List ℕ) → before ≡ [] → answer ≡ after → SaysFront old mid turns between None frame → HearsAll mid new between left (Ok x) before after → Exchanges old new turns (Ok answer) frame
-exchange_whole {frame = frame} x before after answer none same p q = record {
-  said = frame;
-  heard = q.heard;
-  stop = q.stop;
-  talks = said_and_heard (all_said p) q.hears;
-  whole = λ none. inr refl;
-  reports = whole_reports q.stop x before after answer q.heard frame none same q.reports;
-}
+abbrev IsHeard : Result (List ℕ) LookupError → List ℕ → Type 0
+IsHeard result heard = result ≡ Ok heard
 
-pub exchange_written : {old new : StreamState} {limit : ℕ} {result : Result (List ℕ) LookupError} {frame text : List ℕ} {written : Result (List ℕ) EpmdError} → IsFrameOf (Ok frame) written → text ≡ frame → Exchanges old new limit result text → ExchangesWritten written old new limit result
-exchange_written {old = old} {new = new} {limit = limit} {result = result} f same p =
-    subst (λ w. ExchangesWritten w old new limit result) (sym f.1) (subst (λ x. Exchanges old new limit result x) (same ∙ f.2) p)
+pub exchange_unheard : {old mid new : StreamState} {turns between left : ℕ} {frame : List ℕ} (before after : List ℕ) (e : LookupError) → SaysFront old mid turns between None frame
+    → HearsSo mid new between left (λ stop heard. ReportsBy stop (bad {X = Unit {0}} e) (IsAll (bad e) before after heard)) → Asks old new turns frame (IsHeard (bad e)) (bad {X = List ℕ} e)
+exchange_unheard before after e p q = asks_whole (bad e) (bad e) (same_refusal e) (λ heard t. no_refusal tt e (sym t.0)) p q
+
+pub exchange_whole : {old mid new : StreamState} {turns between left : ℕ} {frame before after : List ℕ} (x : Unit {0}) (answer : List ℕ) → before ≡ [] → answer ≡ after → SaysFront old mid turns between None frame
+    → HearsSo mid new between left (λ stop heard. ReportsBy stop (good x) (IsAll (good x) before after heard)) → Asks old new turns frame (IsHeard (good answer)) (good answer)
+exchange_whole x answer none same p q = asks_whole (good x) (good answer) (λ e h. no_refusal x e h) (λ heard t. ap good (same ∙ t.1 ∙ ap (λ l. l ++ heard) none)) p q
+
+-- ---- with the request
+
+pub framed : {X : Type 0} (old new : StreamState) (result : Result X LookupError) (Talk : List ℕ → Type 0) {frame text : List ℕ} {w : Result (List ℕ) EpmdError} → IsFrameOf (Ok frame) w → text ≡ frame → Talk text → IfItFits w old new Talk result
+framed old new result Talk f same p = subst (λ w. IfItFits w old new Talk result) (sym f.1) (subst Talk (same ∙ f.2) p)
 
 -- memory runs out before a byte is written
-pub unsent : (s : StreamState) (limit : ℕ) (written : Result (List ℕ) EpmdError) → IsOk written → ExchangesWritten written s s limit (Err error.NoMemory)
-unsent s limit (Ok body) h = record { said = []; heard = []; stop = None; talks = nothing_said s limit _; whole = λ none. inl (refl, refl); reports = refl }
-unsent s limit (Err why) h = absurd cc
+pub unsent : (X : Type 0) (s : StreamState) (Talk : List ℕ → Type 0) (w : Result (List ℕ) EpmdError) → IsOk w → ((frame : List ℕ) → Talk frame) → IfItFits {X = X} w s s Talk (Err error.NoMemory)
+unsent X s Talk (Ok body) h none = none (body_frame w16 body)
+unsent X s Talk (Err why) h none = absurd cc
 
-pub no_frame : (s : StreamState) (limit : ℕ) (written : Result (List ℕ) EpmdError) (e : LookupError) → IsFrameOf (Err e) written → ExchangesWritten written s s limit (Err e)
-no_frame s limit written error.NotThere h = absurd h
-no_frame s limit written error.Malformed h = subst (λ w. ExchangesWritten w s s limit (Err error.Malformed)) (sym h.1) (refl, refl)
-no_frame s limit written error.ReadFailed h = absurd h
-no_frame s limit written error.WriteFailed h = absurd h
-no_frame s limit written error.Ended h = absurd h
-no_frame s limit written error.NoMemory h = unsent s limit written h
-no_frame s limit written error.Limit h = absurd h
-no_frame s limit written (error.Refused code) h = absurd h
+pub no_frame : (X : Type 0) (s : StreamState) (Talk : LookupError → List ℕ → Type 0) (w : Result (List ℕ) EpmdError) (e : LookupError) → IsFrameOf (Err e) w → ((frame : List ℕ) → Talk error.NoMemory frame) → IfItFits {X = X} w s s (Talk e) (Err e)
+no_frame X s Talk w error.Malformed h none = subst (λ w. IfItFits w s s (Talk error.Malformed) (bad {X = X} error.Malformed)) (sym h.1) (refl, refl)
+no_frame X s Talk w error.NoMemory h none = unsent X s (Talk error.NoMemory) w h none
+no_frame X s Talk w _ h none = absurd h
+
+pub asks_none : {X : Type 0} (s : StreamState) (limit : ℕ) (AtEnd : List ℕ → Type 0) (frame : List ℕ) → Asks {X = X} s s limit frame AtEnd (Err error.NoMemory)
+asks_none s limit AtEnd frame = record { said = []; heard = []; stop = None; talks = nothing_said s limit frame; whole = λ none. inl (refl, refl); reports = refl }
+
+-- what an exchange returns
+abbrev pub Exchanges : Result (List ℕ) EpmdError → ℕ → StreamState → StreamState → Result (List ℕ) LookupError → Type 0
+Exchanges w limit old new result = IfItFits w old new (λ frame. Asks old new limit frame (IsHeard result) result) result
+
+pub exchange_framed : {old new : StreamState} {limit : ℕ} {result : Result (List ℕ) LookupError} {frame text : List ℕ} {w : Result (List ℕ) EpmdError} → IsFrameOf (Ok frame) w → text ≡ frame → Asks old new limit text (IsHeard result) result → Exchanges w limit old new result
+exchange_framed {old = old} {new = new} {limit = limit} {result = result} f same p = framed old new result (λ frame. Asks old new limit frame (IsHeard result) result) f same p
+
+pub exchange_none : (s : StreamState) (limit : ℕ) (w : Result (List ℕ) EpmdError) (e : LookupError) → IsFrameOf (Err e) w → Exchanges w limit s s (Err e)
+exchange_none s limit w e h = no_frame (List ℕ) s (λ e frame. Asks s s limit frame (IsHeard (bad e)) (bad {X = List ℕ} e)) w e h (asks_none s limit _)
 
 -- ---- the answer that the bytes mean
 
-no_bytes : {B : Type 0} (e : LookupError) (heard said frame : List ℕ) → IsHeard (Err e) heard said frame → B
-no_bytes e heard said frame h = let no : bad e ≡ good heard = h.0 in absurd cc
+pub refusal_of : {X : Type 0} (r : Request) (old new : StreamState) (limit : ℕ) (means : List ℕ → Result X LookupError) (e : LookupError) → Exchanges (written_request r) limit old new (Err e) → AsksFor r old new limit means (Err e)
+refusal_of r old new limit means e p = asks_as (bad e) (bad e) (same_refusal e) (written_request r) old new limit (IsHeard (bad e)) _ (λ heard h. no_refusal heard e (sym h)) p
 
--- the bytes did not come whole
-pub refusal_of : {X : Type 0} (asked : Asked) (w : Result (List ℕ) EpmdError) (old new : StreamState) (limit : ℕ) (means : List ℕ → Result X LookupError) (e : LookupError) → ExchangesWritten w old new limit (Err e) → AsksWritten w old new limit asked means (Err e)
-refusal_of {X = X} asked (Ok body) old new limit means e a = record { said = a.said; heard = a.heard; stop = a.stop; talks = a.talks; whole = a.whole; reports = reports_as (List ℕ) X a.stop e (IsHeard (Err e) a.heard a.said (body_frame w16 body)) ((a.said ≡ body_frame w16 body) × Settles (Err e) (means a.heard) (read_answer asked a.heard)) (no_bytes e a.heard a.said (body_frame w16 body)) a.reports }
-refusal_of asked (Err why) old new limit means e a = (err_as e error.Malformed a.0, a.1)
-
-good_same : (a b : List ℕ) → good a ≡ good b → a ≡ b
-good_same a b e = cc
-
-meant : {X : Type 0} (stop : Option TurnError) (asked : Asked) (means : List ℕ → Result X LookupError) (bytes heard said frame : List ℕ) (r : Result X LookupError) → Settles r (means bytes) (read_answer asked bytes) → ReportsBy stop (good bytes) (IsHeard (good bytes) heard said frame) → ReportsBy stop r ((said ≡ frame) × Settles r (means heard) (read_answer asked heard))
-meant (Some fault.ReadFailed) asked means bytes heard said frame r s t = absurd cc
-meant (Some fault.WriteFailed) asked means bytes heard said frame r s t = absurd cc
-meant (Some fault.Ended) asked means bytes heard said frame r s t = (t.1, subst (λ (l : List ℕ). Settles r (means l) (read_answer asked l)) (good_same bytes heard t.0) s)
-meant (Some fault.Limit) asked means bytes heard said frame r s t = absurd cc
-meant None asked means bytes heard said frame r s t = absurd cc
-
--- the bytes came whole
-pub answer_of : {X : Type 0} (asked : Asked) (w : Result (List ℕ) EpmdError) (old new : StreamState) (limit : ℕ) (means : List ℕ → Result X LookupError) (bytes : List ℕ) (r : Result X LookupError) → Settles r (means bytes) (read_answer asked bytes) → ExchangesWritten w old new limit (Ok bytes) → AsksWritten w old new limit asked means r
-answer_of asked (Ok body) old new limit means bytes r s a = record { said = a.said; heard = a.heard; stop = a.stop; talks = a.talks; whole = a.whole; reports = meant a.stop asked means bytes a.heard a.said (body_frame w16 body) r s a.reports }
-answer_of asked (Err why) old new limit means bytes r s a = absurd cc
-
--- memory runs out before there is a request
-pub unasked : {X : Type 0} (asked : Asked) (s : StreamState) (limit : ℕ) (means : List ℕ → Result X LookupError) (written : Result (List ℕ) EpmdError) → IsOk written → AsksWritten written s s limit asked means (Err error.NoMemory)
-unasked asked s limit means written h = refusal_of asked written s s limit means error.NoMemory (unsent s limit written h)
+pub answer_of : {X : Type 0} (r : Request) (old new : StreamState) (limit : ℕ) (means : List ℕ → Result X LookupError) (bytes : List ℕ) (x : Result X LookupError) → Settles x (means bytes) (read_answer (question_of r) bytes)
+    → Exchanges (written_request r) limit old new (Ok bytes) → AsksFor r old new limit means x
+answer_of r old new limit means bytes x s p =
+    asks_as (good bytes) x (λ e h. no_refusal bytes e h) (written_request r) old new limit (IsHeard (good bytes)) _
+    (λ heard h. subst (λ l. Settles x (means l) (read_answer (question_of r) l)) (answers_same bytes heard h) s) p
 
 -- ---- requests that fit a frame
 
-abbrev too_long : Result (List ℕ) EpmdError
-too_long = Err epmd.Malformed
-
-chosen : (b : Bool) (body : List ℕ) → b ≡ false → IsOk (cond b too_long (Ok body))
-chosen true body h = absurd cc
-chosen false body h = refl
-
 pub fits_frame : (r : Request) → ltb 65535 (length (request_text r)) ≡ false → IsOk (written_request r)
-fits_frame r h = chosen (ltb 65535 (length (request_text r))) (request_text r) h
+fits_frame r h = subst IsOk (sym (cond-false (ltb 65535 (length (request_text r))) (Err epmd.Malformed) (Ok (request_text r)) h)) refl

@@ -28,7 +28,5 @@ read_so (answer.Names port text) read = refl
 
 pub creation_settles : (r read : Result Answer EpmdError) → Answers (λ a. a) r read → LacksText r read → Settles (creation_in r) (creation_in read) read
 creation_settles (Ok a) read given lacks = subst (λ (x : Result Answer EpmdError). Settles (creation_in (Ok a)) (creation_in x) read) (sym given) (read_so a read)
-creation_settles (Err epmd.Malformed) read given lacks = sym (ap creation_in given)
-creation_settles (Err epmd.Short) read given lacks = sym (ap creation_in given)
-creation_settles (Err epmd.Trailing) read given lacks = sym (ap creation_in given)
 creation_settles (Err epmd.NoMemory) read given lacks = lacks
+creation_settles (Err _) read given lacks = sym (ap creation_in given)

@@ -1,7 +1,6 @@
 -- A registration, put together from what was written and what was read.
-use Rattle.std.proofs.Common.{◌≡◌, ℕ, suc, ◌+◌, ◌-◌, ◌<◌, ◌≤◌, Bool, true, false, cond, eqb, List, [], ◌∷◌, ◌++◌, length, get_or, take, drop, Some, None, Result, Ok, Err, refl, sym, ap, subst, ◌∙◌, arith, length-append, length-drop, take_all, le_refl, inl, inr}
+use Rattle.std.proofs.Common.{◌≡◌, ℕ, suc, ◌+◌, ◌-◌, ◌<◌, ◌≤◌, List, [], ◌∷◌, ◌++◌, length, get_or, take, drop, Some, None, Result, Ok, Err, refl, sym, ap, subst, ◌∙◌, arith, length-append, length-drop, inl, inr}
 use Rattle.std.proofs.lemmas.List.{take_at, length-take, length-take-le}
-use Rattle.std.specs.Prelude.{IsOk}
 use Rattle.dist_names.specs.declared.creation.Creation.{Creation}
 use Rattle.dist_epmd.specs.declared.epmd_error.EpmdError.{EpmdError}
 use Rattle.dist_epmd.specs.declared.message.Asked.TheVariants as asked
@@ -14,34 +13,28 @@ use Rattle.dist_stream.proofs.Talks.{Hears-trans}
 use Rattle.dist_epmd_calls.specs.declared.lookup_error.LookupError.{LookupError}
 use Rattle.dist_epmd_calls.specs.declared.lookup_error.LookupError.TheVariants as error
 use Rattle.dist_epmd_calls.specs.Refusals.{lookup_error}
-use Rattle.dist_epmd_calls.specs.Asking.{Settles, Registers, RegistersWritten, ReportsWhole, answer_len, rest_len, creation_meant}
+use Rattle.dist_epmd_calls.specs.Asking.{IfItFits, Settles, Registers, ReportsWhole, answer_len, rest_len, creation_meant}
 use Rattle.dist_epmd_calls.specs.Steps.{IsFrameOf, HearsAnswer}
-use Rattle.dist_epmd_calls.proofs.Asks.{all_said, nothing_said, said_in_part, said_and_heard}
+use Rattle.dist_epmd_calls.proofs.Asks.{framed, no_frame, all_said, whole_front, nothing_said, said_in_part, said_and_heard}
 use borrow.Rule.Slice.PartMut.{put_mid, post_of}
 
 -- ---- the answer comes
 
-one_is : (n : ℕ) → n < 1 → n ≡ 0
-one_is n h = omega arith
-
 -- the tag did not come
 pub answer_none : {old new : StreamState} {turns left : ℕ} (e : TurnError) (first room : List ℕ) → length first ≡ 1 → HearsFront old new turns left (Some e) first → HearsAnswer old new turns left (Err e) room
 answer_none {old = old} {new = new} {turns = turns} {left = left} e first room one p =
-    let none : p.count ≡ 0 = one_is p.count (subst (λ (n : ℕ). p.count < n) one p.whole) in
-    let empty : take p.count first ≡ [] = ap (λ (n : ℕ). take n first) none in
+    let few : p.count < length first = p.whole in
+    let none : p.count ≡ 0 = omega arith in
     record {
       heard = [];
-      hears = subst (λ (l : List ℕ). Hears old new turns left (Some e) l) empty p.hears;
+      hears = subst (λ n. Hears old new turns left (Some e) (take n first)) none p.hears;
       most = omega arith;
       whole = tt;
       cut = omega arith;
     }
 
-whole_room : (n : ℕ) (room : List ℕ) → n ≡ length room → take n room ≡ room
-whole_room n room e = take_all n room (subst (λ (k : ℕ). length room ≤ k) (sym e) (le_refl (length room)))
-
 pub all_heard : {old new : StreamState} {turns left : ℕ} (room : List ℕ) → HearsFront old new turns left None room → Hears old new turns left None room
-all_heard room p = subst (Hears _ _ _ _ None) (whole_room p.count room p.whole) p.hears
+all_heard room p = subst (Hears _ _ _ _ None) (whole_front p.count room p.whole) p.hears
 
 -- the length of the answer by its tag, which is all that came first
 tagged : (first tail more : List ℕ) → length first ≡ 1 → answer_len (first ++ more) ≡ 1 + rest_len (get_or (first ++ tail) 0 0)
@@ -93,16 +86,13 @@ answer_whole first tail more n k one rest all p q =
 -- ---- one registration
 
 cut_write : (e : TurnError) (said : List ℕ) → IsWriteFault (Some e) → ReportsWhole (Some e) (Err (lookup_error e)) said []
-cut_write fault.ReadFailed said h = absurd h
 cut_write fault.WriteFailed said h = (refl, refl)
-cut_write fault.Ended said h = absurd h
 cut_write fault.Limit said h = (refl, omega arith)
+cut_write _ said h = absurd h
 
 cut_read : (e : TurnError) (said heard : List ℕ) → IsReadFault (Some e) → length heard < answer_len heard → ReportsWhole (Some e) (Err (lookup_error e)) said heard
-cut_read fault.ReadFailed said heard h cut = (refl, cut)
 cut_read fault.WriteFailed said heard h cut = absurd h
-cut_read fault.Ended said heard h cut = (refl, cut)
-cut_read fault.Limit said heard h cut = (refl, cut)
+cut_read _ said heard h cut = (refl, cut)
 
 pub registers_in_part : {old new : StreamState} {turns left : ℕ} {frame : List ℕ} (e : TurnError) → SaysFront old new turns left (Some e) frame → Registers old new turns frame (Err (lookup_error e))
 registers_in_part {frame = frame} e p = record {
@@ -137,38 +127,25 @@ registers_whole {frame = frame} {room = room} {bytes = bytes} n r front s p q =
       reports = inr (len, subst (λ (l : List ℕ). Settles r (creation_meant l) (read_answer asked.Alive l)) same s);
     }
 
--- ---- with the request
+registers_none : (s : StreamState) (limit : ℕ) (frame : List ℕ) → Registers s s limit frame (Err error.NoMemory)
+registers_none s limit frame = record { said = []; heard = []; stop = None; most = omega arith; talks = nothing_said s limit frame; reports = inl (refl, refl, refl) }
 
-pub registers_written : {old new : StreamState} {limit : ℕ} {result : Result Creation LookupError} {frame text : List ℕ} {written : Result (List ℕ) EpmdError} → IsFrameOf (Ok frame) written → text ≡ frame → Registers old new limit text result → RegistersWritten written old new limit result
-registers_written {old = old} {new = new} {limit = limit} {result = result} f same p =
-    subst (λ w. RegistersWritten w old new limit result) (sym f.1) (subst (λ x. Registers old new limit x result) (same ∙ f.2) p)
+abbrev refused : LookupError → Result Creation LookupError
+refused e = Err e
 
-unasked : (s : StreamState) (limit : ℕ) (written : Result (List ℕ) EpmdError) → IsOk written → RegistersWritten written s s limit (Err error.NoMemory)
-unasked s limit (Ok body) h = record { said = []; heard = []; stop = None; most = omega arith; talks = nothing_said s limit _; reports = inl (refl, refl, refl) }
-unasked s limit (Err why) h = absurd cc
+pub registers_framed : {old new : StreamState} {limit : ℕ} {result : Result Creation LookupError} {frame text : List ℕ} {w : Result (List ℕ) EpmdError} → IsFrameOf (Ok frame) w → text ≡ frame → Registers old new limit text result → IfItFits w old new (λ f. Registers old new limit f result) result
+registers_framed {old = old} {new = new} {limit = limit} {result = result} f same p = framed old new result (λ f. Registers old new limit f result) f same p
 
-pub no_frame : (s : StreamState) (limit : ℕ) (written : Result (List ℕ) EpmdError) (e : LookupError) → IsFrameOf (Err e) written → RegistersWritten written s s limit (Err e)
-no_frame s limit written error.NotThere h = absurd h
-no_frame s limit written error.Malformed h = subst (λ w. RegistersWritten w s s limit (Err error.Malformed)) (sym h.1) (refl, refl)
-no_frame s limit written error.ReadFailed h = absurd h
-no_frame s limit written error.WriteFailed h = absurd h
-no_frame s limit written error.Ended h = absurd h
-no_frame s limit written error.NoMemory h = unasked s limit written h
-no_frame s limit written error.Limit h = absurd h
-no_frame s limit written (error.Refused code) h = absurd h
+pub registers_unframed : (s : StreamState) (limit : ℕ) (w : Result (List ℕ) EpmdError) (e : LookupError) → IsFrameOf (Err e) w → IfItFits w s s (λ f. Registers s s limit f (Err e)) (refused e)
+registers_unframed s limit w e h = no_frame Creation s (λ e f. Registers s s limit f (Err e)) w e h (registers_none s limit)
 
 -- ---- the lengths of the buffers
 
 pub first_len : (room first : List ℕ) → length room ≡ 6 → length first ≡ length (take 1 room) → length first ≡ 1
 first_len room first h e = omega (arith, length-take 1 room)
 
-few : (a b : Bool) (n : ℕ) → n ≡ cond a 5 (cond b 3 0) → n ≤ 5
-few true b n e = omega arith
-few false true n e = omega arith
-few false false n e = omega arith
-
 pub rest_few : (n tag : ℕ) → n ≡ rest_len tag → n ≤ 5
-rest_few n tag e = few (eqb tag 0x76) (eqb tag 0x79) n e
+rest_few n tag e = grind arith
 
 pub more_len : (n : ℕ) (room first more : List ℕ) → length room ≡ 6 → length first ≡ 1 → n ≤ 5 → length more ≡ length (take ((1 + n) - 1) (drop 1 (first ++ drop 1 room))) → length more ≡ n
 more_len n room first more h one few e = omega (arith, length-take ((1 + n) - 1) (drop 1 (first ++ drop 1 room)), length-drop 1 (first ++ drop 1 room), length-append first (drop 1 room), length-drop 1 room)

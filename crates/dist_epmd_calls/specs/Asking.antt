@@ -92,30 +92,27 @@ ReportsBy (Some fault.Ended) result AtEnd = AtEnd
 ReportsBy (Some other) result AtEnd = result ≡ Err (lookup_error other)
 ReportsBy None result AtEnd = result ≡ Err error.NoMemory
 
--- Nothing was written and nothing read, or the whole frame was written.
-abbrev pub IsUnsentOrSent : List ℕ → List ℕ → List ℕ → Type 0
-IsUnsentOrSent frame said heard = ((said ≡ []) × (heard ≡ [])) ⊎ (said ≡ frame)
-
--- One question, whose answer is all that comes to the end of the stream after the whole frame was written. Memory does not run out
--- while the frame is being written.
-pub record Asks {X : Type 0} (old new : StreamState) (limit : ℕ) (frame : List ℕ) (asked : Asked)
-    (means : List ℕ → Result X LookupError) (result : Result X LookupError) : Type 0 where
+-- One question, whose answer is all that comes to the end of the stream after the whole frame was written. AtEnd says what holds of
+-- these bytes. Memory does not run out while the frame is being written.
+pub record Asks {X : Type 0} (old new : StreamState) (limit : ℕ) (frame : List ℕ) (AtEnd : List ℕ → Type 0) (result : Result X LookupError) : Type 0 where
   pub said : List ℕ
   pub heard : List ℕ
   pub stop : Option TurnError
   pub talks : Talks old new limit stop frame said heard
-  pub whole : (stop ≡ None) → IsUnsentOrSent frame said heard
-  pub reports : ReportsBy stop result ((said ≡ frame) × Settles result (means heard) (read_answer asked heard))
+  -- Without a fault nothing was written and nothing read, or the whole frame was written.
+  pub whole : (stop ≡ None) → ((said ≡ []) × (heard ≡ [])) ⊎ (said ≡ frame)
+  pub reports : ReportsBy stop result ((said ≡ frame) × AtEnd heard)
 
--- A request that fits no frame is refused, and the stream is as it was.
-abbrev pub AsksWritten : {X : Type 0} → Result (List ℕ) EpmdError → StreamState → StreamState → ℕ → Asked
-    → (List ℕ → Result X LookupError) → Result X LookupError → Type 0
-AsksWritten (Ok body) old new limit asked means result = Asks old new limit (body_frame w16 body) asked means result
-AsksWritten (Err why) old new limit asked means result = (result ≡ Err error.Malformed) × (new ≡ old)
+-- A request that fits no frame is refused, and the stream is as it was. Of the frame of any other this holds.
+abbrev pub IfItFits : {X : Type 0} → Result (List ℕ) EpmdError → StreamState → StreamState → (List ℕ → Type 0) → Result X LookupError → Type 0
+IfItFits (Ok body) old new Talk result = Talk (body_frame w16 body)
+IfItFits (Err why) old new Talk result = (result ≡ Err error.Malformed) × (new ≡ old)
 
 -- ONE QUESTION OF A CLIENT: what it writes, what it reads, how many turns it takes, and what the bytes mean
 abbrev pub AsksFor : {X : Type 0} → Request → StreamState → StreamState → ℕ → (List ℕ → Result X LookupError) → Result X LookupError → Type 0
-AsksFor request old new limit means result = AsksWritten (written_request request) old new limit (question_of request) means result
+AsksFor request old new limit means result =
+    IfItFits (written_request request) old new
+    (λ frame. Asks old new limit frame (λ heard. Settles result (means heard) (read_answer (question_of request) heard)) result) result
 
 -- ---- a registration
 
@@ -147,11 +144,6 @@ pub record Registers (old new : StreamState) (limit : ℕ) (frame : List ℕ) (r
   pub talks : Talks old new limit stop frame said heard
   pub reports : ReportsWhole stop result said heard
 
--- A request that fits no frame is refused, and the stream is as it was.
-abbrev pub RegistersWritten : Result (List ℕ) EpmdError → StreamState → StreamState → ℕ → Result Creation LookupError → Type 0
-RegistersWritten (Ok body) old new limit result = Registers old new limit (body_frame w16 body) result
-RegistersWritten (Err why) old new limit result = (result ≡ Err error.Malformed) × (new ≡ old)
-
 -- ONE REGISTRATION OF A CLIENT: what it writes, what it reads, how many turns it takes, and what the answer means
 abbrev pub RegistersFor : NodeInfo → StreamState → StreamState → ℕ → Result Creation LookupError → Type 0
-RegistersFor info old new limit result = RegistersWritten (written_request (request.Alive info)) old new limit result
+RegistersFor info old new limit result = IfItFits (written_request (request.Alive info)) old new (λ frame. Registers old new limit frame result) result

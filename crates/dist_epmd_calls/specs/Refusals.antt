@@ -27,14 +27,11 @@ lookup_error fault.Limit = error.Limit
 
 -- why bytes that came whole, as in a frame, are not a message
 abbrev pub whole_refusal : EpmdError → LookupError
-whole_refusal epmd.Malformed = error.Malformed
-whole_refusal epmd.Short = error.Malformed
-whole_refusal epmd.Trailing = error.Malformed
 whole_refusal epmd.NoMemory = error.NoMemory
+whole_refusal other = error.Malformed
 
 -- why bytes that came up to the end of the stream are not an answer
 abbrev pub end_refusal : EpmdError → LookupError
-end_refusal epmd.Malformed = error.Malformed
-end_refusal epmd.Short = error.Ended
-end_refusal epmd.Trailing = error.Malformed
 end_refusal epmd.NoMemory = error.NoMemory
+end_refusal epmd.Short = error.Ended
+end_refusal other = error.Malformed

@@ -42,17 +42,13 @@ IsInside heard = (length heard < 2) ⊎ ((len : ℕ) × (rest : List ℕ) × (le
 abbrev pub IsLength : List ℕ → Type 0
 IsLength heard = (len : ℕ) × (len < 2 ^ 16) × (heard ≡ number w16 len)
 
--- The bytes are only the length of a frame, or the frame of a request.
-abbrev pub IsLengthOrFrame : List ℕ → Type 0
-IsLengthOrFrame heard = IsLength heard ⊎ ((body : List ℕ) × (heard ≡ body_frame w16 body) × IsOk (read_request body))
-
 -- What the bytes that came ask for, or why no request came: a fault of the stream inside a frame; or,
--- without a fault, a frame that asks for nothing, or memory that ran out.
+-- without a fault, a frame that asks for nothing, or memory that ran out behind the length of a frame, or behind a request.
 abbrev pub Came : Option TurnError → Result Request LookupError → List ℕ → Type 0
 Came (Some fault) result heard = (result ≡ Err (lookup_error fault)) × IsInside heard
 Came None (Ok request) heard = BringsRequest heard request
 Came None (Err error.Malformed) heard = BringsNone heard
-Came None (Err error.NoMemory) heard = IsLengthOrFrame heard
+Came None (Err error.NoMemory) heard = IsLength heard ⊎ ((body : List ℕ) × (heard ≡ body_frame w16 body) × IsOk (read_request body))
 Came None (Err other) heard = ⊥
 
 -- ---- the answer
@@ -96,42 +92,29 @@ pub record AnswersWhole {M : Type 0} (allows : M → ℕ → Request → Answer 
   pub fine : stop ≡ None
   pub how_is : how ≡ served_as request answer
 
-abbrev pub bad : LookupError → Result (Unit {0}) LookupError
-bad why = Err why
-
 -- The mapper answered, and its answer was written only in part or not at all.
 pub record AnswersCut {M : Type 0} (allows : M → ℕ → Request → Answer → M → Type 0) (leaves : M → ℕ → M → Type 0) (conn : ℕ)
     (before after : M) (request : Request) (stop : Option TurnError) (why : LookupError) (said : List ℕ) : Type 0 where
   pub answer : Answer
   pub between : M
   pub allowed : allows before conn request answer between
-  pub part : IsSaid stop (written_answer answer) (bad why) said
+  pub part : IsSaid stop (written_answer answer) (Err why) said
   pub closed : AfterCut leaves request conn between after
 
--- The mapper had no memory to answer. It is unchanged, and nothing is written.
-pub record AnswersNone {M : Type 0} (before after : M) (stop : Option TurnError) (why : LookupError) (said : List ℕ) : Type 0 where
-  pub lacks : why ≡ error.NoMemory
-  pub fine : stop ≡ None
-  pub nothing : said ≡ []
-  pub same : after ≡ before
-
--- what becomes of a request that came
+-- What becomes of a request that came. Where the mapper has no memory to answer, it is unchanged, and nothing is written.
 abbrev pub Replies : {M : Type 0} → (M → ℕ → Request → Answer → M → Type 0) → (M → ℕ → M → Type 0)
     → ℕ → M → M → Request → Option TurnError → Result Served LookupError → List ℕ → Type 0
 Replies allows leaves conn before after request stop (Ok how) said = AnswersWhole allows conn before after request stop how said
 Replies allows leaves conn before after request stop (Err why) said =
-    AnswersNone before after stop why said ⊎ AnswersCut allows leaves conn before after request stop why said
+    ((why ≡ error.NoMemory) × (stop ≡ None) × (said ≡ []) × (after ≡ before)) ⊎ AnswersCut allows leaves conn before after request stop why said
 
 -- ---- the whole
 
--- why no request came
-abbrev pub CameNone : Option TurnError → Result Served LookupError → List ℕ → Type 0
-CameNone stop (Ok how) heard = ⊥
-CameNone stop (Err why) heard = Came stop (Err why) heard
-
 -- No request came. The mapper is unchanged, and nothing is written.
 pub record Unrequested {M : Type 0} (before after : M) (stop : Option TurnError) (result : Result Served LookupError) (said heard : List ℕ) : Type 0 where
-  pub came : CameNone stop result heard
+  pub why : LookupError
+  pub result_is : result ≡ Err why
+  pub came : Came stop (Err why) heard
   pub nothing : said ≡ []
   pub same : after ≡ before
 

@@ -1,12 +1,12 @@
 //! The questions of a client: one node's address, or all nodes.
 
-ghost use Rattle.std.specs.Prelude.{◌≡◌};
+ghost use Rattle.std.specs.Prelude.{◌≡◌, ◌++◌, Ok};
 ghost use Rattle.dist_epmd.specs.Layout.{written_request};
 ghost use Rattle.dist_epmd.specs.Reading.{read_answer};
 ghost use Rattle.dist_epmd.specs.declared.message.Asked.{Asked};
 ghost use Rattle.dist_epmd.specs.declared.message.Request.{Request};
-ghost use Rattle.dist_epmd_calls.specs.Asking.{AsksFor, Settles, info_meant, names_meant};
-ghost use Rattle.dist_epmd_calls.specs.Steps.{IsFrameOf, HearsAll, ExchangesWritten};
+ghost use Rattle.dist_epmd_calls.specs.Asking.{Asks, AsksFor, IfItFits, ReportsBy, Settles, info_meant, names_meant};
+ghost use Rattle.dist_epmd_calls.specs.Steps.{HearsSo, IsFrameOf};
 
 use crate::lookup_error::LookupError;
 use crate::refusals::{end_refusal, lookup_error, whole_refusal};
@@ -40,8 +40,8 @@ fn read_to_end<S: Stream>(
     limited: &mut Limited<'_, S>,
     bytes: &mut Vec<u8>,
 ) -> Result<(), LookupError>
-    ensures hears { HearsAll (S.meaning limited.old.stream.now) (S.meaning limited.new.stream.now)
-        limited.old.left limited.new.left result bytes.old.items bytes.new.items }
+    ensures hears { HearsSo (S.meaning limited.old.stream.now) (S.meaning limited.new.stream.now) limited.old.left limited.new.left
+        (λ stop heard. ReportsBy stop result ((result ≡ Ok tt) × (bytes.new.items ≡ bytes.old.items ++ heard))) }
     ensures loan { limited.new.stream.ghost_name ≡ limited.old.stream.ghost_name }
 {
     let mut room = [0u8; PIECE];
@@ -65,7 +65,8 @@ fn exchange<S: Stream>(
     request: &Request,
     limit: usize,
 ) -> Result<ByteString, LookupError>
-    ensures { ExchangesWritten (written_request request.now) (S.meaning stream.old) (S.meaning stream.new) limit result }
+    ensures { IfItFits (written_request request.now) (S.meaning stream.old) (S.meaning stream.new)
+        (λ frame. Asks (S.meaning stream.old) (S.meaning stream.new) limit frame (λ heard. result ≡ Ok heard) result) result }
 {
     let frame = frame_of(alloc, request)?;
     let mut limited = Limited {

@@ -1,15 +1,15 @@
 //! Serving one request of a client.
 
 ghost use Rattle.std.specs.Prelude.{◌≡◌};
-ghost use Rattle.dist_epmd_calls.specs.Serving.{AfterCut, Serves, served_as};
-ghost use Rattle.dist_epmd_calls.specs.Steps.{HearsBody, HearsRequest, SaysAnswer, SaysReply};
+ghost use Rattle.dist_epmd.specs.Layout.{written_answer};
+ghost use Rattle.dist_epmd_calls.specs.Serving.{AfterCut, Came, IsSaid, Replies, Serves, served_as};
+ghost use Rattle.dist_epmd_calls.specs.Steps.{HearsSo, SaysSo};
 
 use crate::bodies::{Arrived, read_frame};
 use crate::lookup_error::LookupError;
 use crate::mapper::Mapper;
 use crate::refusals::{lookup_error, whole_refusal};
 use dist_epmd::{Answer, Request, decode_request, encode_answer};
-use dist_names::ByteString;
 use dist_stream::{Limited, Stream};
 use std::alloc::Global;
 
@@ -22,29 +22,20 @@ pub enum Served {
     Answered,
 }
 
-fn read_body<S: Stream>(
-    alloc: Global,
-    limited: &mut Limited<'_, S>,
-) -> Result<ByteString, LookupError>
-    ensures hears { HearsBody (S.meaning limited.old.stream.now) (S.meaning limited.new.stream.now) limited.old.left limited.new.left result }
-    ensures loan { limited.new.stream.ghost_name ≡ limited.old.stream.ghost_name }
-{
-    match read_frame(alloc, limited, u16::MAX) {
-        Arrived::Body(body) => Ok(body),
-        Arrived::Long(_) => unreachable!(),
-        Arrived::Stopped(fault) => Err(lookup_error(fault)),
-        Arrived::NoMemory => Err(LookupError::NoMemory),
-    }
-}
-
 fn read_request<S: Stream>(
     alloc: Global,
     limited: &mut Limited<'_, S>,
 ) -> Result<Request, LookupError>
-    ensures hears { HearsRequest (S.meaning limited.old.stream.now) (S.meaning limited.new.stream.now) limited.old.left limited.new.left result }
+    ensures hears { HearsSo (S.meaning limited.old.stream.now) (S.meaning limited.new.stream.now) limited.old.left limited.new.left
+        (λ stop heard. Came stop result heard) }
     ensures loan { limited.new.stream.ghost_name ≡ limited.old.stream.ghost_name }
 {
-    let body = read_body(alloc, limited)?;
+    let body = match read_frame(alloc, limited, u16::MAX) {
+        Arrived::Body(body) => body,
+        Arrived::Long(_) => unreachable!(),
+        Arrived::Stopped(fault) => return Err(lookup_error(fault)),
+        Arrived::NoMemory => return Err(LookupError::NoMemory),
+    };
     match decode_request(alloc, body.as_slice()) {
         Ok(request) => Ok(request),
         Err(error) => Err(whole_refusal(error)),
@@ -56,7 +47,8 @@ fn write_answer<S: Stream>(
     limited: &mut Limited<'_, S>,
     answer: &Answer,
 ) -> Result<(), LookupError>
-    ensures says { SaysAnswer (S.meaning limited.old.stream.now) (S.meaning limited.new.stream.now) limited.old.left limited.new.left result answer.now }
+    ensures says { SaysSo (S.meaning limited.old.stream.now) (S.meaning limited.new.stream.now) limited.old.left limited.new.left
+        (λ stop said. IsSaid stop (written_answer answer.now) result said) }
     ensures loan { limited.new.stream.ghost_name ≡ limited.old.stream.ghost_name }
 {
     let bytes = match encode_answer(alloc, answer) {
@@ -99,8 +91,8 @@ fn reply<S: Stream, M: Mapper>(
     conn: u64,
     request: &Request,
 ) -> Result<Served, LookupError>
-    ensures says { SaysReply M.allows M.leaves conn mapper.old mapper.new request.now
-        (S.meaning limited.old.stream.now) (S.meaning limited.new.stream.now) limited.old.left limited.new.left result }
+    ensures says { SaysSo (S.meaning limited.old.stream.now) (S.meaning limited.new.stream.now) limited.old.left limited.new.left
+        (λ stop said. Replies M.allows M.leaves conn mapper.old mapper.new request.now stop result said) }
     ensures loan { limited.new.stream.ghost_name ≡ limited.old.stream.ghost_name }
 {
     let Ok(answer) = mapper.ask(alloc, conn, request) else {

@@ -1,4 +1,4 @@
--- Which clients are late.
+-- Which clients of the port mapper are late with their request, and so are closed (epmd's -packet_timeout).
 use Rattle.std.specs.Prelude.{ℕ, Bool, Some, not, ◌&&◌, ◌-◌, nat_le}
 use Rattle.dist_epmd_clients.specs.declared.client.Client.{Client}
 use Rattle.dist_epmd_clients.specs.Standing.{is_registered}

@@ -1,6 +1,6 @@
 //! All clients of a port mapper, and its registry.
 
-ghost use Rattle.std.specs.Prelude.{◌≡◌, ◌↔◌, ◌+◌, ◌^◌, ℕ, false, IfOk, IsOk, IsErrOf, OnOk, OnErr};
+ghost use Rattle.std.specs.Prelude.{◌≡◌, ◌↔◌, ◌+◌, ◌^◌, ℕ, false, IfOk, IsErrOf, OnOk, OnErr};
 ghost use Rattle.std.specs.Prelude.{[], IfSome, None, Some, IsSome, option_map, option_copied, length, slice_get};
 ghost use Rattle.std.specs.List.{list_any, filter_map};
 ghost use Rattle.std.specs.Ordering.{nat_cmp};

@@ -23,13 +23,9 @@ required_by release.Otp25 = 0x1070f94
 required_by release.Otp28 = 0x403070f94
 required_by release.Otp29 = 0x403070f94
 
--- the first has all flags of the second
-abbrev pub shows : ℕ → ℕ → Bool
-shows flags one = has_all flags one
-
 -- the flags, and those for which MANDATORY_25_DIGEST stands where it is one of them
 abbrev pub with_mandatory : ℕ → ℕ
-with_mandatory flags = if shows flags 0x4000000 then bit_or flags mandatory_25 else flags
+with_mandatory flags = if has_all flags 0x4000000 then bit_or flags mandatory_25 else flags
 
 -- which of the wanted flags are absent, MANDATORY_25_DIGEST read as the flags for which it stands
 abbrev pub missing : ℕ → ℕ → ℕ
@@ -41,9 +37,7 @@ abbrev pub objection : Release → ℕ → ℕ
 objection release.Before23 flags = bit_and (required_by release.Before23) (2 ^ 64 - 1 - flags)
 objection release.Otp23 flags = bit_and (required_by release.Otp23) (2 ^ 64 - 1 - flags)
 objection release.Otp24 flags = bit_and (required_by release.Otp24) (2 ^ 64 - 1 - flags)
-objection release.Otp25 flags = missing flags (required_by release.Otp25)
-objection release.Otp28 flags = missing flags (required_by release.Otp28)
-objection release.Otp29 flags = missing flags (required_by release.Otp29)
+objection r flags = missing flags (required_by r)
 
 -- a node of a release refuses a peer that announces these flags
 abbrev pub refuses : ℕ → Release → Bool
@@ -64,20 +58,18 @@ is_refused_by_all flags = list_all (refuses flags) askers
 -- the newest release that added one of these flags
 abbrev pub release_of : ℕ → Release
 release_of flags =
-    if shows flags 0x4000000000 then release.Otp29 else
-    if shows flags 0x2000000000 then release.Otp28 else
-    if shows flags 0x4000000 then release.Otp25 else
-    if shows flags 0x400000000 then release.Otp24 else
-    if shows flags 0x1000000 then release.Otp23 else release.Before23
+    if has_all flags 0x4000000000 then release.Otp29 else
+    if has_all flags 0x2000000000 then release.Otp28 else
+    if has_all flags 0x4000000 then release.Otp25 else
+    if has_all flags 0x400000000 then release.Otp24 else
+    if has_all flags 0x1000000 then release.Otp23 else release.Before23
 
 -- what a node of a release announces if it is not hidden, where that is known
 abbrev pub announced_by : Release → Option Flags
-announced_by release.Before23 = None
 announced_by release.Otp23 = Some (record { 0 = 0x101df7fbd })
-announced_by release.Otp24 = None
 announced_by release.Otp25 = Some (record { 0 = 0xd07df7fbd })
-announced_by release.Otp28 = None
 announced_by release.Otp29 = Some (record { 0 = 0x6d07df7fbd })
+announced_by _ = None
 
 -- the flags, with PUBLISHED, are exactly what is announced
 abbrev pub is_just : Option Flags → ℕ → Bool

@@ -13,11 +13,11 @@ pub enum Release {
     Before23,
     /// OTP 23.
     Otp23,
-    /// OTP 24.
+    /// OTP 24. The flags that it announces are not known here; what it requires is answered as for 25.
     Otp24,
     /// OTP 25, 26 or 27, which announce the same flags.
     Otp25,
-    /// OTP 28.
+    /// OTP 28. The flags that it announces are not known here.
     Otp28,
     /// OTP 29, or a newer one.
     Otp29,
@@ -36,7 +36,7 @@ pub enum ReleaseShown {
 impl Release {
     /// The flags that a node of this release announces if it is not hidden, where they are known.
     ///
-    /// Source: seen of OTP 23, 25, 27 and 29; 26 announces the same as 25 and 27. Those of OTP 24 and 28 are not known here.
+    /// Source: seen of OTP 23, 25, 27 and 29; 26 announces the same as 25 and 27.
     pub fn announced(self) -> Option<Flags>
         ensures { result ≡ announced_by self }
     {
@@ -49,7 +49,7 @@ impl Release {
     }
 
     /// The flags that a node of this release requires of each peer, each by itself. What a release before 23 requires is not
-    /// known here, and answered as for 23; for OTP 24 the answer is that for 25.
+    /// known here, and answered as for 23.
     ///
     /// Source: `dist.hrl` and `erts_internal:get_dflags/0` of OTP 23, 25, 27 and 29.
     pub fn required(self) -> Flags

@@ -1,9 +1,9 @@
 -- The frame at the front, by how many bytes it has.
-use Rattle.std.proofs.Common.{◌≡◌, ◌≢◌, ℕ, ◌+◌, ◌-◌, ◌<◌, ◌≤◌, Bool, true, false, cond, leb, List, [], ◌++◌, length, take, drop, drop_of_length-le, Option, Some, None, refl, sym, ap, subst, ◌∙◌, arith, lit≤, length-append, length-drop}
+use Rattle.std.proofs.Common.{◌≡◌, ◌≢◌, ℕ, ◌+◌, ◌-◌, ◌<◌, ◌≤◌, Bool, true, false, cond, leb, List, [], ◌++◌, length, take, drop, drop_of_length-le, Some, None, refl, sym, ap, subst, ◌∙◌, arith, lit≤, length-append, length-drop}
 use Rattle.std.specs.Int.{w16}
 use Rattle.std.proofs.lemmas.Bool.{leb-true, leb-false, le-leb, lt-leb, and_left, and_right}
 use Rattle.std.proofs.lemmas.List.{drop-drop}
-use Rattle.dist_frames.specs.Stream.{head, has_first, front, behind, first_body, after_first}
+use Rattle.dist_frames.specs.Stream.{head, has_first, behind, first_body, after_first}
 use Rattle.dist_frames.specs.Kept.{frame_len}
 use Rattle.dist_frames.proofs.Streams.{starts_true, head-append}
 
@@ -30,20 +30,6 @@ part s n e lt = part_at s (leb 2 (length s)) refl (subst (λ (k : ℕ). length s
 
 -- ---- its body
 
-abbrev some : List ℕ → Option (List ℕ)
-some x = Some x
-
-abbrev none : Option (List ℕ)
-none = None
-
-body_where : (b : Bool) (x y : List ℕ) → b ≡ true → x ≡ y → cond b (some x) none ≡ some y
-body_where true x y h e = ap some e
-body_where false x y h e = absurd cc
-
-no_body_where : (b : Bool) (x : List ℕ) → b ≡ false → cond b (some x) none ≡ none
-no_body_where true x h = absurd cc
-no_body_where false x h = refl
-
 least_at : (b : Bool) (n : ℕ) → 2 ≤ cond b (2 + n) 2
 least_at true n = omega arith
 least_at false n = lit≤ tt
@@ -51,48 +37,36 @@ least_at false n = lit≤ tt
 pub least : (s : List ℕ) (n : ℕ) → n ≡ frame_len s → 2 ≤ n
 least s n e = subst (λ (k : ℕ). 2 ≤ k) (sym e) (least_at (leb 2 (length s)) (head w16 s))
 
-pub no_body : (s : List ℕ) (n : ℕ) → n ≡ frame_len s → length s < n → none ≡ first_body w16 s
-no_body s n e lt = sym (no_body_where (has_first w16 s) (front w16 s) (part s n e lt))
+pub no_body : (s : List ℕ) (n : ℕ) → n ≡ frame_len s → length s < n → None ≡ first_body w16 s
+no_body s n e lt = rw (part s n e lt) refl
 
-pub some_body : (s : List ℕ) (n : ℕ) → n ≡ frame_len s → n ≤ length s → some (take (n - 2) (drop 2 s)) ≡ first_body w16 s
+pub some_body : (s : List ℕ) (n : ℕ) → n ≡ frame_len s → n ≤ length s → Some (take (n - 2) (drop 2 s)) ≡ first_body w16 s
 some_body s n e le =
     let w = whole s n e le in
     let len : head w16 s ≡ n - 2 = omega (arith, w.len) in
-    sym (body_where (has_first w16 s) (front w16 s) (take (n - 2) (drop 2 s)) w.starts (ap (λ (k : ℕ). take k (drop 2 s)) len))
+    rw w.starts (ap (λ (k : ℕ). Some (take k (drop 2 s))) (sym len))
 
 -- ---- what stands behind it
-
-rest_where : (b : Bool) (x y z : List ℕ) → b ≡ true → x ≡ y → cond b x z ≡ y
-rest_where true x y z h e = e
-rest_where false x y z h e = absurd cc
-
-all_where : (b : Bool) (x z : List ℕ) → b ≡ false → cond b x z ≡ z
-all_where true x z h = absurd cc
-all_where false x z h = refl
 
 pub moved : (s : List ℕ) (n : ℕ) → n ≡ frame_len s → n ≤ length s → drop n s ≡ after_first w16 s
 moved s n e le =
     let w = whole s n e le in
     let there : behind w16 s ≡ drop n s = drop-drop (head w16 s) 2 s ∙ ap (λ (k : ℕ). drop k s) (sym w.len) in
-    sym (rest_where (has_first w16 s) (behind w16 s) (drop n s) s w.starts there)
+    rw w.starts (sym there)
 
 -- where the frame is all that is pending
 pub all_moved : (s : List ℕ) (n : ℕ) → n ≡ frame_len s → length s ≡ n → [] ≡ after_first w16 s
 all_moved s n e all = sym (drop_of_length-le s (omega (arith, all))) ∙ moved s n e (omega (arith, all))
 
 pub stays_put : (s : List ℕ) (n : ℕ) → n ≡ frame_len s → length s < n → s ≡ after_first w16 s
-stays_put s n e lt = sym (all_where (has_first w16 s) (behind w16 s) s (part s n e lt))
+stays_put s n e lt = rw (part s n e lt) refl
 
 -- ---- more bytes
 
-same_where : (b c : Bool) (x y : ℕ) → b ≡ true → c ≡ true → x ≡ y → cond b (2 + x) 2 ≡ cond c (2 + y) 2
-same_where true true x y p q e = ap (λ (k : ℕ). 2 + k) e
-same_where true false x y p q e = absurd cc
-same_where false c x y p q e = absurd cc
-
 frame_len-append : (s t : List ℕ) → 2 ≤ length s → frame_len (s ++ t) ≡ frame_len s
-frame_len-append s t long = same_where (leb 2 (length (s ++ t))) (leb 2 (length s)) (head w16 (s ++ t)) (head w16 s)
-    (le-leb 2 (length (s ++ t)) (omega (arith, length-append s t))) (le-leb 2 (length s) long) (head-append w16 s t long)
+frame_len-append s t long =
+    let more : leb 2 (length (s ++ t)) ≡ true = le-leb 2 (length (s ++ t)) (omega (arith, length-append s t)) in
+    rw (more, le-leb 2 (length s) long) (ap (λ (k : ℕ). 2 + k) (head-append w16 s t long))
 
 -- more than 2 bytes are awaited once the length has come
 long_where : (b : Bool) (k n : ℕ) → n ≡ cond b (2 + k) 2 → n ≢ 2 → b ≡ true

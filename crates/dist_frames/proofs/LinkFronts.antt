@@ -3,7 +3,7 @@ use Rattle.std.proofs.Common.{◌≡◌, ℕ, ◌+◌, ◌-◌, ◌<◌, ◌≤�
 use Rattle.std.specs.Prelude.{MatchOption, nat_lt}
 use Rattle.std.specs.List.{AllByRecursion}
 use Rattle.std.specs.Int.{w32, byte_len}
-use Rattle.std.proofs.lemmas.Bool.{le-leb, lt-leb, and_left, and_right, and_from}
+use Rattle.std.proofs.lemmas.Bool.{le-leb, lt-leb, and_right, and_from}
 use Rattle.std.proofs.lemmas.List.{drop-drop}
 use Rattle.dist_frames.specs.Stream.{head, has_first, front, behind, split_bodies}
 use Rattle.dist_frames.proofs.Streams.{starts, starts_true, bodies_one, bodies_none}
@@ -21,12 +21,6 @@ left_of long whole r rest = cond long r (reading r.most (cond whole rest r.pendi
 
 -- ---- by what was compared
 
-few_not_long : (most : ℕ) (s : List ℕ) → length s < 4 → is_too_long (reading most s) ≡ false
-few_not_long most s h = and_left (leb 4 (length s)) (nat_lt most (head w32 s)) (lt-leb 4 (length s) h)
-
-few_not_whole : (s : List ℕ) → length s < 4 → has_first w32 s ≡ false
-few_not_whole s h = and_left (leb 4 (length s)) (leb (head w32 s) (length (drop 4 s))) (lt-leb 4 (length s) h)
-
 long_is : (most : ℕ) (s : List ℕ) → 4 ≤ length s → most < head w32 s → is_too_long (reading most s) ≡ true
 long_is most s long h =
     let more : nat_lt most (head w32 s) ≡ true = grind (arith, h) in
@@ -43,50 +37,29 @@ part_not_whole s h = and_right (leb 4 (length s)) (leb (head w32 s) (length (dro
 all_whole : (s : List ℕ) → 4 ≤ length s → head w32 s ≤ length s - 4 → has_first w32 s ≡ true
 all_whole s long h = starts_true w32 s (record { long = long; whole = omega (arith, length-drop 4 s) })
 
--- ---- what comes next
-
-nothing_comes : (r : Reading) → is_too_long r ≡ false → has_first w32 r.pending ≡ false → HasNext r None
-nothing_comes r long whole = (
-  ap (λ (b : Bool). answer_of b (has_first w32 r.pending) (head w32 r.pending) (front w32 r.pending)) long ∙ ap (λ (b : Bool). answer_of false b (head w32 r.pending) (front w32 r.pending)) whole,
-  ap (λ (b : Bool). left_of b (has_first w32 r.pending) r (behind w32 r.pending)) long ∙ ap (λ (b : Bool). left_of false b r (behind w32 r.pending)) whole,
-)
-
 -- when the packet is moved out, what stands behind it is left
-pub moves : (r : Reading) → is_too_long r ≡ false → has_first w32 r.pending ≡ true → without_next r ≡ reading r.most (behind w32 r.pending)
-moves r long whole =
-    ap (λ (b : Bool). left_of b (has_first w32 r.pending) r (behind w32 r.pending)) long ∙ ap (λ (b : Bool). left_of false b r (behind w32 r.pending)) whole
-
-pub comes : (r : Reading) → is_too_long r ≡ false → has_first w32 r.pending ≡ true → next_packet r ≡ Ok (Some (front w32 r.pending))
-comes r long whole =
-    ap (λ (b : Bool). answer_of b (has_first w32 r.pending) (head w32 r.pending) (front w32 r.pending)) long ∙ ap (λ (b : Bool). answer_of false b (head w32 r.pending) (front w32 r.pending)) whole
-
-pub refused : (r : Reading) → is_too_long r ≡ true → next_packet r ≡ Err (error.TooLong (head w32 r.pending))
-refused r long = ap (λ (b : Bool). answer_of b (has_first w32 r.pending) (head w32 r.pending) (front w32 r.pending)) long
-
-pub stays : (r : Reading) → is_too_long r ≡ true → without_next r ≡ r
-stays r long = ap (λ (b : Bool). left_of b (has_first w32 r.pending) r (behind w32 r.pending)) long
+moves : (r : Reading) → is_too_long r ≡ false → has_first w32 r.pending ≡ true → without_next r ≡ reading r.most (behind w32 r.pending)
+moves r long whole = rw (long, whole) refl
 
 -- ---- the same in terms of the tests in the code
 
 pub few : (most : ℕ) (s : List ℕ) → length s < 4 → HasNext (reading most s) None
-few most s h = nothing_comes (reading most s) (few_not_long most s h) (few_not_whole s h)
+few most s h = rw (lt-leb 4 (length s) h) (refl, refl)
 
 pub part : (most : ℕ) (s : List ℕ) (n : ℕ) → n ≡ head w32 s → n ≤ most → length s - 4 < n → HasNext (reading most s) None
-part most s n e fits h = nothing_comes (reading most s) (long_not most s (omega (arith, e, fits))) (part_not_whole s (omega (arith, e, h)))
+part most s n e fits h = rw (long_not most s (omega (arith, e, fits)), part_not_whole s (omega (arith, e, h))) (refl, refl)
 
 pub all : (most : ℕ) (s : List ℕ) (n : ℕ) → n ≡ head w32 s → n ≤ most → 4 ≤ length s → n ≤ length s - 4 → HasNext (reading most s) (Some n)
 all most s n e fits long h =
     let small = long_not most s (omega (arith, e, fits)) in
     let whole = all_whole s long (omega (arith, e, h)) in (
       omega (arith, long, h),
-      comes (reading most s) small whole ∙ ap (λ (k : ℕ). Ok (Some (take k (drop 4 s)))) (sym e),
+      rw (small, whole) (ap (λ (k : ℕ). Ok (Some (take k (drop 4 s)))) (sym e)),
       moves (reading most s) small whole ∙ ap (λ (x : List ℕ). reading most x) (drop-drop (head w32 s) 4 s) ∙ ap (λ (k : ℕ). reading most (drop (4 + k) s)) (sym e),
     )
 
 pub refuses : (most : ℕ) (s : List ℕ) (n : ℕ) → n ≡ head w32 s → 4 ≤ length s → most < n → (next_packet (reading most s) ≡ Err (error.TooLong n)) × (without_next (reading most s) ≡ reading most s)
-refuses most s n e long h =
-    let big = long_is most s long (omega (arith, e, h)) in
-    (refused (reading most s) big ∙ ap (λ (k : ℕ). Err (error.TooLong k)) (sym e), stays (reading most s) big)
+refuses most s n e long h = rw (long_is most s long (omega (arith, e, h))) (ap (λ (k : ℕ). Err (error.TooLong k)) (sym e), refl)
 
 -- ---- the next packet is the first of those still to come
 

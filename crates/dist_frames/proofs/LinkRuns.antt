@@ -1,13 +1,13 @@
 -- A reader of packets is right after any calls.
-use Rattle.std.proofs.Common.{◌≡◌, ℕ, ◌≤◌, Bool, true, false, List, [], ◌∷◌, ◌++◌, length, drop, refl, sym, ap, subst, ◌∙◌, append_assoc}
+use Rattle.std.proofs.Common.{◌≡◌, ℕ, ◌≤◌, Bool, true, false, List, [], ◌∷◌, ◌++◌, length, refl, sym, ap, subst, ◌∙◌, append_assoc}
 use Rattle.std.specs.Int.{w32}
 use Rattle.std.specs.List.{flat_map, AllByRecursion}
 use Rattle.std.proofs.lemmas.List.{append-nil}
-use Rattle.std.proofs.lemmas.List.Concat.{flat_map-append}
 use Rattle.dist_names.specs.Bytes.{IsBytes}
-use Rattle.dist_names.proofs.Bytes.{IsBytes-drop, IsBytes-append}
+use Rattle.dist_names.proofs.Bytes.{IsBytes-append}
+use Rattle.dist_frames.proofs.Streams.{IsBytes-behind}
 use Rattle.dist_frames.specs.Stream.{body_frame, FitsWidth, head, has_first, front, behind, split_bodies}
-use Rattle.dist_frames.proofs.Splitting.{wide32, begins, bodies-framed}
+use Rattle.dist_frames.proofs.Splitting.{wide32, begins, bodies-framed, moved_too, all_and_one}
 use Rattle.dist_frames.specs.LinkReading.{Reading, reading, with_piece, is_too_long, next_packet, without_next, up_to, packets_within, to_come}
 use Rattle.dist_frames.specs.LinkHistory.{Call, Feed, Take, Seen, opening, packets_in, after_call, after_all, FeedBytes}
 use Rattle.dist_frames.proofs.LinkFronts.{answer_of, left_of, Short, up_to-front, is_short}
@@ -19,10 +19,6 @@ record Kept (most : ℕ) (reader : Reading) (stream : List ℕ) (moved : List (L
   pub fit : AllByRecursion (FitsWidth w32) moved
   pub short : Short most moved
   pub bytes : IsBytes reader.pending
-
-all_and_one : (P : List ℕ → Type 0) (xs : List (List ℕ)) (x : List ℕ) → AllByRecursion P xs → P x → AllByRecursion P (xs ++ x ∷ [])
-all_and_one P [] x h p = (p, tt)
-all_and_one P (y ∷ ys) x h p = (h.0, all_and_one P ys x h.1 p)
 
 kept_opening : (most : ℕ) (rest : List ℕ) → IsBytes rest → Kept most (reading most rest) rest []
 kept_opening most rest bytes = record { most_is = refl; whole = refl; fit = tt; short = tt; bytes = bytes }
@@ -40,14 +36,12 @@ kept_fed most r stream piece moved bytes k = record {
 kept_front : (most : ℕ) (r : Reading) (stream : List ℕ) (moved : List (List ℕ)) → Kept most r stream moved → is_too_long r ≡ false → has_first w32 r.pending ≡ true → Kept most (reading r.most (behind w32 r.pending)) stream (moved ++ front w32 r.pending ∷ [])
 kept_front most r stream moved k long whole =
     let packet = front w32 r.pending in
-    let b = begins w32 wide32 r.pending k.bytes whole in
-    let one : flat_map (body_frame w32) (moved ++ packet ∷ []) ≡ flat_map (body_frame w32) moved ++ body_frame w32 packet = flat_map-append (body_frame w32) moved (packet ∷ []) ∙ ap (λ (x : List ℕ). flat_map (body_frame w32) moved ++ x) (append-nil (body_frame w32 packet)) in
     record {
       most_is = k.most_is;
-      whole = k.whole ∙ ap (λ (x : List ℕ). flat_map (body_frame w32) moved ++ x) b.framed_front ∙ sym (append_assoc (flat_map (body_frame w32) moved) (body_frame w32 packet) (behind w32 r.pending)) ∙ ap (λ (x : List ℕ). x ++ behind w32 r.pending) (sym one);
-      fit = all_and_one (FitsWidth w32) moved packet k.fit b.fits;
+      whole = moved_too w32 wide32 stream moved r.pending k.bytes whole k.whole;
+      fit = all_and_one (FitsWidth w32) moved packet k.fit (begins w32 wide32 r.pending k.bytes whole).fits;
       short = all_and_one (λ p. length p ≤ most) moved packet k.short (subst (λ (n : ℕ). length packet ≤ n) k.most_is (is_short r long whole));
-      bytes = IsBytes-drop (head w32 r.pending) (drop 4 r.pending) (IsBytes-drop 4 r.pending k.bytes);
+      bytes = IsBytes-behind w32 r.pending k.bytes;
     }
 
 kept_same : (most : ℕ) (r : Reading) (stream : List ℕ) (moved : List (List ℕ)) → Kept most r stream moved → Kept most r stream (moved ++ [])

@@ -1,5 +1,5 @@
 -- The calls of a reader of packets so far, and what it returned.
-use Rattle.std.specs.Prelude.{ℕ, List, [], ◌∷◌, ◌++◌, Option, Some, None, Result, Ok, Err}
+use Rattle.std.specs.Prelude.{ℕ, List, [], ◌∷◌, ◌++◌, Option, Some, Result, Ok}
 pub use Rattle.dist_names.specs.Bytes.{IsBytes}
 use Rattle.dist_frames.specs.declared.packet_error.PacketError.{PacketError}
 use Rattle.dist_frames.specs.LinkReading.{Reading, reading, with_piece, next_packet, without_next}
@@ -24,8 +24,7 @@ opening most rest = record { reader = reading most rest; stream = rest; moved = 
 -- the packet that was returned, where there was one
 abbrev pub packets_in : Result (Option (List ℕ)) PacketError → List (List ℕ)
 packets_in (Ok (Some packet)) = packet ∷ []
-packets_in (Ok None) = []
-packets_in (Err error) = []
+packets_in _ = []
 
 -- the same after one more call
 abbrev pub after_call : Seen → Call → Seen

@@ -44,10 +44,6 @@ behind w stream = drop (head w stream) (drop (byte_len w) stream)
 abbrev pub first_body : Width → List ℕ → Option (List ℕ)
 first_body w stream = if has_first w stream then Some (front w stream) else None
 
--- what stands behind the first body, where there is one
-abbrev pub behind_first : Width → List ℕ → Option (List ℕ)
-behind_first w stream = if has_first w stream then Some (behind w stream) else None
-
 -- what stands behind the first body, or all bytes where there is none
 abbrev pub after_first : Width → List ℕ → List ℕ
 after_first w stream = if has_first w stream then behind w stream else stream

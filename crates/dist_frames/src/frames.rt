@@ -47,15 +47,6 @@ impl Frames {
         }
     }
 
-    fn next_body(&self) -> Option<&[u8]>
-        ensures { option_copied result ≡ next_body self.now }
-    {
-        match &self.stage {
-            ReadStage::Short(pending) => pending.front(),
-            ReadStage::Linked { .. } => None,
-        }
-    }
-
     /// The body that `next_short` would move out. `None` where there is no whole one, or the reader is linked.
     pub fn front(&self) -> Option<&[u8]>
         ensures next { option_copied result ≡ next_body self.now }
@@ -63,15 +54,9 @@ impl Frames {
         // It is the first of the bodies still to come.
         ensures first { MatchOption (option_copied result) (to_come self.now ≡ []) (λ body. to_come self.now ≡ body ∷ to_come (without_next self.now)) }
     {
-        self.next_body()
-    }
-
-    fn drop_next(&mut self)
-        ensures { self.new ≡ without_next self.old }
-    {
-        match &mut self.stage {
-            ReadStage::Short(pending) => pending.drop_front(),
-            ReadStage::Linked { .. } => {}
+        match &self.stage {
+            ReadStage::Short(pending) => pending.front(),
+            ReadStage::Linked { .. } => None,
         }
     }
 
@@ -80,7 +65,10 @@ impl Frames {
         ensures after { self.new ≡ without_next self.old }
         ensures rest { to_come self.new ≡ drop 1 (to_come self.old) }
     {
-        self.drop_next();
+        match &mut self.stage {
+            ReadStage::Short(pending) => pending.drop_front(),
+            ReadStage::Linked { .. } => {}
+        }
     }
 
     /// Takes the next piece of the stream, of any number of bytes. An `Err` changes nothing. A linked reader takes no memory,

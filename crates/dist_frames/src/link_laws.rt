@@ -1,5 +1,5 @@
-//! What holds of a reader of packets after any calls, and of the times of a link, whatever was read and written: each law is a
-//! function that does nothing, and whose contract is the law.
+//! Laws of a reader of packets, and of ticks: when a tick is due and when a silent peer is given up (kernel, net_ticktime; a
+//! quarter is a fourth of it). Each law is a function that does nothing, and whose contract is the law.
 
 ghost use Rattle.std.specs.Prelude.{◌≡◌, ◌≢◌, ◌+◌, ◌<◌, ◌≤◌, ◌*◌, ◌++◌, ◌∷◌, ℕ, List};
 ghost use Rattle.std.specs.List.{flat_map, AllByRecursion};
@@ -14,7 +14,7 @@ ghost use Rattle.dist_frames.specs.declared.ticker.Due.TheVariants as due;
 
 /// What holds after any calls of a reader, in whatever pieces the stream came, and with whatever bytes it began.
 pub fn packets_in_any_pieces()
-    // The packets moved out and those still to come are those of the stream: they do not depend on the pieces.
+    // The packets moved out and those still to come are those of the stream, up to the first that is too long, however it is cut.
     ensures right { (most : ℕ) (rest : List ℕ) (calls : List Call) → IsBytes rest → FeedBytes calls →
         (after_all (opening most rest) calls).moved ++ to_come (after_all (opening most rest) calls).reader
         ≡ packets_within most (after_all (opening most rest) calls).stream }

@@ -21,11 +21,6 @@ get_next [] (suc t) x rest e = cc
 get_next (y ∷ ys) zero x rest e = (cc, (cc), omega arith)
 get_next (y ∷ ys) (suc t) x rest e = let r = get_next ys t x rest e in (r.0, r.1, omega (arith, r.2))
 
-pub drop_more : (put : List DialOrder) (t : ℕ) (x : DialOrder) → t ≤ length put → drop t (put ++ x ∷ []) ≡ drop t put ++ x ∷ []
-drop_more put zero x h = refl
-drop_more [] (suc t) x h = absurd (omega arith)
-drop_more (y ∷ ys) (suc t) x h = drop_more ys t x (omega arith)
-
 agrees_more : (put : List DialOrder) (x : DialOrder) (taken : List Taken) → Agrees put taken → Agrees (put ++ x ∷ []) taken
 agrees_more put x taken h k d lt = get_more put (x ∷ []) (get_or taken k d).0 (get_or taken k d).1 (h k d lt)
 

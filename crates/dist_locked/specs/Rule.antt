@@ -48,16 +48,18 @@ with_taken v k x =
 abbrev pub Left : List DialOrder → List Taken → List Taken → List DialOrder → Type 0
 Left put a b items = (t : ℕ) × AreInTurn put a b t × (items ≡ drop t put)
 
--- one pass at most knows a list, and it knows it as it is
-abbrev pub Owned : {X : Type 0} → (View → Bool) → (View → X) → List View → ℕ → X → Type 0
-Owned knows_it list_of views owner xs =
-    (port : ℕ) (v : View) → get_elem? views port ≡ some v → knows_it v ≡ true → (port ≡ owner) × (list_of v ≡ xs)
+-- one pass at most knows the list, and it knows it as it is
+pub record Owned {X : Type 0} (knows_it : View → Bool) (list_of : View → X) (views : List View) (xs : X) : Type 0 where
+  -- the place of that pass
+  pub owner : ℕ
+  pub only : (port : ℕ) (v : View) → get_elem? views port ≡ some v → knows_it v ≡ true → (port ≡ owner) × (list_of v ≡ xs)
 
 -- what was put is what the workers took in turn, and then what the queue holds; each of the three lists is known to one pass
-abbrev pub Kept : List DialOrder → List View → Type 0
-Kept items views =
-    (putter : ℕ) × (first : ℕ) × (second : ℕ) × (put : List DialOrder) × (a : List Taken) × (b : List Taken)
-    × Left put a b items
-    × Owned (λ v. v.puts) (λ v. v.put) views putter put
-    × Owned (λ v. v.first) (λ v. v.by_first) views first a
-    × Owned (λ v. v.second) (λ v. v.by_second) views second b
+pub record Kept (items : List DialOrder) (views : List View) : Type 0 where
+  pub put : List DialOrder
+  pub first : List Taken
+  pub second : List Taken
+  pub left : Left put first second items
+  pub knows_put : Owned (λ v. v.puts) (λ v. v.put) views put
+  pub knows_first : Owned (λ v. v.first) (λ v. v.by_first) views first
+  pub knows_second : Owned (λ v. v.second) (λ v. v.by_second) views second

@@ -117,12 +117,7 @@ impl LockedNode {
     pub fn into_book(self) -> Book
         ensures { IsLegal result }
     {
-        let LockedNode {
-            book,
-            tickets: _,
-            alloc: _,
-        } = self;
-        let book = book.into_inner();
+        let book = self.book.into_inner();
         // that shows what the book keeps
         let _lines = book.history().len();
         book

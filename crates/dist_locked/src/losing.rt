@@ -20,20 +20,6 @@ pub fn lose<R: Wait>(rt: &R, node: &LockedNode, seat: &mut Seat, end_: EndId, wh
     let _ = node.step(rt, seat, &Event::Lost { end_, why }, 0);
 }
 
-// Once the turns of an end have run out: one that is not up is given up. Whether the end is over now.
-fn give_up<R: Wait>(rt: &R, node: &LockedNode, seat: &mut Seat, end_: EndId) -> bool
-    ensures given_up { IsGivenUp end_ Why.GaveUp seat.old.list seat.new.list result }
-    ensures seat { seat.new.number ≡ seat.old.number }
-{
-    match node.still(rt, end_) {
-        Still::Up => false,
-        _ => {
-            lose(rt, node, seat, end_, Why::GaveUp);
-            true
-        }
-    }
-}
-
 /// Loses an end that its driver left open and that is not up: with GaveUp where its turns have run out, with NoMemory
 /// where it was not driven at all. The seat comes back, and whether the end is over now. Source: our own choice.
 pub fn settle<R: Wait>(
@@ -47,14 +33,20 @@ pub fn settle<R: Wait>(
     ensures memory { IfErr driven (λ e. IsLost end_ Why.NoMemory e.1.list result.0.list × (result.1 ≡ true)) }
 {
     match driven {
-        Ok(driven) => {
-            let mut seat = driven.seat;
-            let is_over = match driven.outcome {
-                Outcome::Closed(_) => true,
-                Outcome::Limit => give_up(rt, node, &mut seat, end_),
-            };
-            (seat, is_over)
-        }
+        Ok(
+            Driven {
+                outcome: Outcome::Limit,
+                mut seat,
+                steps: _,
+            },
+        ) => match node.still(rt, end_) {
+            Still::Up => (seat, false),
+            _ => {
+                lose(rt, node, &mut seat, end_, Why::GaveUp);
+                (seat, true)
+            }
+        },
+        Ok(driven) => (driven.seat, true),
         Err((_, mut seat)) => {
             lose(rt, node, &mut seat, end_, Why::NoMemory);
             (seat, true)

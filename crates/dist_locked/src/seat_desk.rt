@@ -81,15 +81,7 @@ impl<'a, R: Wait> SeatDesk<'a, R> {
         ensures receipts { (kept : List Receipt) × (result.0.list ≡ self.entry.start ++ kept) × (map entry_of kept ≡ self.entry.list) }
         ensures steps { result.1.items ≡ self.entry.list }
     {
-        let SeatDesk {
-            rt: _,
-            node: _,
-            end_: _,
-            seat,
-            before: _,
-            steps,
-            lost: _,
-        } = self;
+        let SeatDesk { seat, steps, .. } = self;
         (seat, steps)
     }
 

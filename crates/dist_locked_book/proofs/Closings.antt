@@ -1,11 +1,10 @@
 -- The end of a list of receipts.
-use Rattle.std.proofs.Common.{◌≡◌, ◌↔◌, ℕ, ◌≤◌, List, [], true, false, IsTrue, nat_eq, drop, length, length-drop, sym, ap, ◌∙◌, subst, arith}
+use Rattle.std.proofs.Common.{◌≡◌, ◌↔◌, ℕ, ◌≤◌, List, [], true, false, IsTrue, nat_eq, drop, length, length-drop, sym, ap, ◌∙◌, arith}
 use Rattle.std.proofs.lemmas.Bool.{eqb-true, eq-eqb}
 use Rattle.std.proofs.Math.ListN.{drop_of_length-le}
 use Rattle.dist_locked_book.specs.declared.line.Line.{Line}
 use Rattle.dist_locked_book.specs.declared.seat.Receipt.{Receipt}
-use Rattle.dist_locked_book.specs.History.{SeatState}
-use Rattle.dist_locked_book.specs.Closing.{AreAll, AreKept, receipts_of}
+use Rattle.dist_locked_book.specs.Closing.{receipts_of}
 
 pub not_true : false ≡ true → ⊥
 not_true e = cc
@@ -27,9 +26,3 @@ all_seen list number next place history short done seen =
     let none : receipts_of number place (drop place history) ≡ [] = ap (receipts_of number place) (drop_of_length-le history done) in
     let e = ended list next short in
     (λ t. seen.1 (e.0 t ∙ sym none), λ h. e.1 (seen.0 h ∙ none))
-
-pub all_at : (m n : ℕ) (xs ys : List SeatState) → m ≡ n → xs ≡ ys → AreAll n ys → AreAll m xs
-all_at m n xs ys e f a = subst (λ (p : ℕ × List SeatState). AreAll p.0 p.1) (λ i. (sym e i, sym f i)) a
-
-pub kept_at : (m n : ℕ) (hs ls : List Line) (xs ys : List SeatState) → m ≡ n → hs ≡ ls → xs ≡ ys → AreKept n ls ys → AreKept m hs xs
-kept_at m n hs ls xs ys e f g a = subst (λ (p : ℕ × List Line × List SeatState). AreKept p.0 p.1 p.2) (λ i. (sym e i, sym f i, sym g i)) a

@@ -1,10 +1,8 @@
 -- Histories and lists of receipts that are one line longer.
-use Rattle.std.proofs.Common.{◌≡◌, ℕ, ◌+◌, ◌<◌, ◌≤◌, true, false, MatchBool, List, [], ◌∷◌, ◌++◌, Result, Ok, refl, sym, ap, ◌∙◌, subst, arith}
+use Rattle.std.proofs.Common.{◌≡◌, ℕ, ◌+◌, ◌<◌, ◌≤◌, true, false, MatchBool, List, [], ◌∷◌, ◌++◌, Ok, refl, sym, ap, ◌∙◌, subst, arith}
 use Rattle.dist_core.specs.declared.event.Event.{Event}
 use Rattle.dist_core.specs.declared.reply.Reply.{Reply}
 use Rattle.dist_core_setup.specs.declared.setup.Setup.{Setup}
-use Rattle.dist_core.specs.declared.step_error.StepError.{StepError}
-use Rattle.dist_core.specs.Answers.{reply_of}
 use Rattle.dist_core_ends.specs.Ends.{AreLegal}
 use Rattle.dist_core.specs.Losses.{is_loss}
 use Rattle.dist_core.specs.Node.{NodeState}
@@ -44,20 +42,12 @@ ends_in_loss-push (x ∷ y ∷ ys) r = ends_in_loss-push (y ∷ ys) r
 pub room_left : (rs kept : List Receipt) (r : Receipt) (n : ℕ) → kept ≡ rs ++ r ∷ [] → ends_in_loss kept ≡ false → MatchBool (is_loss r.line.event) (0 < n) (1 < n) → 1 < n
 room_left rs kept r n is h room = subst (λ b. MatchBool b (0 < n) (1 < n)) (sym (ends_in_loss-push rs r) ∙ ap ends_in_loss (sym is) ∙ h) room
 
-abbrev said : Reply → Result Reply StepError
-said r = Ok r
-
--- a step gives the reply that was answered beforehand
-pub replied : (n : NodeState) (event : Event) (fresh : ℕ) (a r : Reply) (m : NodeState) → reply_of (step n event fresh) ≡ Ok a → step n event fresh ≡ Ok (r, m) → step n event fresh ≡ Ok (a, m)
-replied n event fresh a r m h e = let same : said r ≡ said a = sym (ap reply_of e) ∙ h in let is : r ≡ a = cc in e ∙ ap (λ (x : Reply). Ok (x, m)) is
-
 -- a legal history with one more line is legal
-pub legal-push : KeepsSetup → (n : NodeState) (ls kept : List Line) (l : Line) (r : Reply) (m : NodeState) → IsReplay (opening n.setup) ls n → reply_of (step n l.event l.fresh) ≡ Ok l.reply → step n l.event l.fresh ≡ Ok (r, m) → kept ≡ ls ++ l ∷ [] → IsReplay (opening m.setup) kept m
-legal-push keeps n ls kept l r m legal h e is =
-    let e' = replied n l.event l.fresh l.reply r m h e in
+pub legal-push : KeepsSetup → (n : NodeState) (ls kept : List Line) (l : Line) (m : NodeState) → IsReplay (opening n.setup) ls n → step n l.event l.fresh ≡ Ok (l.reply, m) → kept ≡ ls ++ l ∷ [] → IsReplay (opening m.setup) kept m
+legal-push keeps n ls kept l m legal e is =
     let P : Setup → Type 0 = λ s. IsReplay (opening s) kept m in
     let Q : List Line → Type 0 = λ k. IsReplay (opening n.setup) k m in
-    subst P (sym (keeps n l.event l.fresh r m e)) (subst Q (sym is) (IsReplay-push (opening n.setup) ls n l m legal e'))
+    subst P (sym (keeps n l.event l.fresh l.reply m e)) (subst Q (sym is) (IsReplay-push (opening n.setup) ls n l m legal e))
 
 -- after a step there is room for its line, and then for one line for each open end
 pub room-step : OpensOne → ClosesOne → (n : NodeState) (event : Event) (fresh : ℕ) (r : Reply) (m : NodeState) (len cap : ℕ) → AreLegal n.ends → step n event fresh ≡ Ok (r, m) → len + open_count n ≤ cap → (is_loss event ≡ false → len + open_count n + 2 ≤ cap) → len + 1 + open_count m ≤ cap

@@ -1,5 +1,4 @@
 -- Lines that several holders share.
-use Rattle.std.specs.Prelude.{◌≡◌}
 use Rattle.std.specs.Arc.{arc_value}
 use Rattle.dist_core.specs.declared.event.Event.{Event}
 use Rattle.dist_core.specs.declared.event.Event.TheVariants as event
@@ -26,7 +25,3 @@ line_of (kept.Lost entry id why) = line_with entry (event.Lost id why) (loss_rep
 abbrev pub line_in : LineView → Line
 line_in (view.Lent line) = line.now
 line_in (view.Made line) = line
-
--- a line of this entry, with this event
-abbrev pub IsEntry : LineNumbers → Event → Line → Type 0
-IsEntry entry v l = (l.ticket ≡ entry.ticket) × (l.seat ≡ entry.seat) × (l.event ≡ v) × (l.fresh ≡ entry.fresh)

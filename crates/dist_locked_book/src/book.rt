@@ -9,7 +9,6 @@ ghost use Rattle.dist_core.specs.Answers.{Refuses};
 ghost use Rattle.dist_core.specs.Clauses.{loss_reply, silent_reply};
 ghost use Rattle.dist_core_ends.specs.Ends.{is_open};
 ghost use Rattle.dist_locked_book.specs.History.{IsAnswered, IsLegal, IsReplay, ends_in_loss};
-ghost use Rattle.dist_locked_book.specs.Lines.{IsEntry};
 ghost use Rattle.dist_locked_book.specs.Sharing.{AreLines};
 
 use super::seat::{Receipt, Seat};
@@ -85,66 +84,9 @@ impl Book {
         ensures parts { (result.0 ≡ self.node) × (result.1.items ≡ self.history) }
         ensures legal { IsReplay (opening result.0.setup) result.1.items result.0 }
     {
-        let Book {
-            node,
-            seats: _,
-            history,
-        } = self;
+        let Book { node, history, .. } = self;
         (node, history)
     }
-
-    // Makes a step, and adds its line.
-    #[inline(always)]
-    fn enter(
-        &mut self,
-        alloc: Global,
-        entry: LineNumbers,
-        event: &Event,
-    ) -> Result<Entered, StepError>
-        ensures step { IfOk result (λ r. step self.old.node event.now entry.fresh ≡ Ok (r.line.reply, self.new.node)) }
-        ensures line { IfOk result (λ r. IsEntry entry event.now r.line) }
-        ensures same { IfOk result (λ r. r.second ≡ r.line) }
-        ensures reply { IfOk result (λ r. r.reply ≡ r.line.reply) }
-        ensures history { IfOk result (λ r. (r.at_ ≡ length self.old.history) × (self.new.history ≡ self.old.history ++ r.line ∷ [])) }
-        ensures seats { self.new.seats ≡ self.old.seats }
-        ensures refused { IfErr result (λ e. Refuses e (step self.old.node event.now entry.fresh)) }
-        ensures err { OnErr result (self.new ≡ self.old) }
-        ensures gone { IsTrue (is_loss event.now) → IfErr result IsGone }
-        ensures open_end { (x : EndId) (w : Why) (e : End) → event.now ≡ Event.Lost x w
-            → slice_get self.old.node.ends x.0 ≡ Some e → is_open e ≡ true → IsOk result }
-        ensures legal { IsLegal self.old }
-    {
-        a_step_keeps();
-        open_ends_after_a_step();
-        let open_ends = self.node.open_ends();
-        let Ok(()) = make_room(&mut self.history, open_ends, event.is_lost()) else {
-            return Err(self.node.refusal_without_memory(alloc, event, entry.fresh));
-        };
-        let lines = make_step(alloc, &mut self.node, entry, event)?;
-        let LineCopies {
-            line,
-            second,
-            third,
-            reply,
-        } = lines;
-        let at_ = self.history.len();
-        self.history.push_reserved(third);
-        Ok(Entered {
-            at_,
-            line,
-            second,
-            reply,
-        })
-    }
-}
-
-// A line that was added: its place, the line itself twice, and a copy of its reply.
-#[derive(Drop)]
-struct Entered {
-    at_: usize,
-    line: SharedLine,
-    second: SharedLine,
-    reply: Reply,
 }
 
 // Makes room for the line of a step, and for one line for each end that is open then. Before a loss there is room already.
@@ -199,20 +141,29 @@ pub fn step_on(
     ensures room { OnOk result (is_loss event.now ≡ false → 0 < seat.new.spare) }
     ensures room_kept { OnErr result (seat.old.spare ≤ seat.new.spare) }
 {
-    let Ok(()) = seat.make_room(event.is_lost()) else {
-        return Err(book.node().refusal_without_memory(alloc, event, fresh));
+    a_step_keeps();
+    open_ends_after_a_step();
+    let lost = event.is_lost();
+    let Ok(()) = seat.make_room(lost) else {
+        return Err(book.node.refusal_without_memory(alloc, event, fresh));
+    };
+    let open_ends = book.node.open_ends();
+    let Ok(()) = make_room(&mut book.history, open_ends, lost) else {
+        return Err(book.node.refusal_without_memory(alloc, event, fresh));
     };
     let entry = LineNumbers {
         ticket,
         seat: seat.number(),
         fresh,
     };
-    let Entered {
-        at_,
+    let LineCopies {
         line,
         second,
+        third,
         reply,
-    } = book.enter(alloc, entry, event)?;
+    } = make_step(alloc, &mut book.node, entry, event)?;
+    let at_ = book.history.len();
+    book.history.push_reserved(third);
     seat.keep(Receipt { at_, line: second });
     Ok((Receipt { at_, line }, reply))
 }
@@ -243,7 +194,7 @@ fn make_step(
             node.lose(*id, *why)?;
             Ok(lines_of_loss(alloc, entry, *id, *why))
         }
-        _ => make_kept_step(alloc, node, entry, event),
+        _ => node.step_kept(alloc, &Sharing { entry, event }, event, entry.fresh),
     }
 }
 
@@ -269,20 +220,4 @@ fn lines_of_loss(alloc: Global, entry: LineNumbers, id: EndId, why: Why) -> Line
         third: SharedLine::of_loss(alloc, entry, id, why),
         reply: quiet(alloc, id, Some((id, why))),
     }
-}
-
-// Makes a step whose line takes memory.
-#[inline(always)]
-fn make_kept_step(
-    alloc: Global,
-    node: &mut Node,
-    entry: LineNumbers,
-    event: &Event,
-) -> Result<LineCopies, StepError>
-    ensures step { IfOk result (λ r. step node.old event.now entry.fresh ≡ Ok (r.reply, node.new)) }
-    ensures lines { IfOk result (λ r. AreLines entry event.now r.reply r) }
-    ensures refused { IfErr result (λ e. Refuses e (step node.old event.now entry.fresh)) }
-    ensures err { OnErr result (node.new ≡ node.old) }
-{
-    node.step_kept(alloc, &Sharing { entry, event }, event, entry.fresh)
 }

@@ -86,13 +86,7 @@ fn count_of(number: u32, seats: &[Seat]) -> usize
 fn are_kept(n: u32, history: &[SharedLine], seats: &[Seat]) -> bool
     ensures { IsTrue result ↔ AreKept n history.now seats.now }
 {
-    history.iter().all(|line| line.seat() < n) && all_kept(history, seats)
-}
-
-fn all_kept(history: &[SharedLine], seats: &[Seat]) -> bool
-    ensures { IsTrue result ↔ All (λ s. s.list ≡ receipts_of s.number 0 history.now) seats.now }
-{
-    seats.iter().all(|seat| is_kept(history, seat))
+    history.iter().all(|line| line.seat() < n) && seats.iter().all(|seat| is_kept(history, seat))
 }
 
 // Whether the seat has exactly the receipts of its lines.

@@ -36,14 +36,6 @@ impl Model for Seat {
 }
 
 impl Seat {
-    // A seat of this number with no receipt, and with room for one.
-    fn new(alloc: Global, number: u32) -> Result<Seat, AllocError>
-        ensures { IfOk result (λ s. (s.number ≡ number) × (s.list ≡ []) × (0 < s.spare)) }
-    {
-        let receipts = Vec::with_capacity(alloc, 1)?;
-        Ok(Seat { number, receipts })
-    }
-
     /// Its number, from 0 to one below the count of the node's seats.
     pub fn number(&self) -> u32
         ensures { result ≡ self.now.number }
@@ -87,7 +79,8 @@ pub fn fresh_seats(alloc: Global, count: u32) -> Result<Vec<Seat>, AllocError>
 {
     let mut all = Vec::new(alloc);
     for number in 0..count {
-        all.push(Seat::new(alloc, number)?)?;
+        let receipts = Vec::with_capacity(alloc, 1)?;
+        all.push(Seat { number, receipts })?;
     }
     Ok(all)
 }

@@ -1,17 +1,24 @@
 -- A body is read as a message exactly where it spells it.
-use Rattle.std.proofs.Common.{◌≡◌, ℕ, ◌^◌, ◌<◌, List, [], ◌∷◌, ◌++◌, length, Option, Some, Ok, refl, sym, ap, subst, ◌∙◌, arith}
-use Rattle.std.specs.Int.{w16, w32, w64, to_be_bytes}
+use Rattle.std.proofs.Common.{◌≡◌, ℕ, ◌^◌, ◌<◌, Bool, true, false, cond, eqb, List, [], ◌∷◌, ◌++◌, length, Option, Some, None, Result, Ok, Err, refl, sym, ap, subst, ◌∙◌, arith}
+use Rattle.std.specs.Int.{Width, w16, w32, w64, to_be_bytes}
 use Rattle.dist_messages.specs.declared.message.Message.{Message}
 use Rattle.dist_messages.specs.declared.message.Message.TheVariants as message
 use Rattle.dist_messages.specs.declared.message.Side.{Side}
 use Rattle.dist_messages.specs.declared.message.Side.TheVariants.{Dialler, Acceptor}
+use Rattle.dist_messages.specs.declared.message_error.MessageError.{MessageError}
+use Rattle.dist_messages.specs.declared.message_error.MessageError.TheVariants.{Long}
 use Rattle.dist_messages.specs.Spelling.{Spells, Fits}
 use Rattle.dist_names.specs.Bytes.{IsBytes}
-use Rattle.std.proofs.lemmas.List.{append-nil}
+use Rattle.std.proofs.lemmas.Bool.{eqb-true}
+use Rattle.std.proofs.lemmas.List.{append-nil, nil_from_length}
 use Rattle.dist_names.specs.Fields.{number_at, bytes_at}
-use Rattle.dist_names.proofs.Fields.{Takes-then, wide16, wide32, wide64, number_takes, number_again, bytes_take, bytes_again}
+use Rattle.dist_names.proofs.Fields.{IsWide, wide16, wide32, wide64, number_takes, number_again, bytes_take, bytes_again}
 use Rattle.dist_messages.specs.Reading.{◌>>=◌, value_at_end, old_name, new_name, old_challenge, new_challenge, complement, reply, ack}
-use Rattle.dist_messages.proofs.FieldLaws.{bind_ok, ok_is, ended_ok}
+
+-- ---- a body that spells a message is read as it
+
+digest_again : (digest : List ℕ) → length digest ≡ 16 → bytes_at 16 digest ≡ Some (digest, [])
+digest_again digest d = ap (bytes_at 16) (sym (append-nil digest)) ∙ bytes_again 16 digest [] d
 
 pub old_name_again : (version flags : ℕ) (name : List ℕ) → version < 2 ^ 16 → flags < 2 ^ 32 → old_name (to_be_bytes w16 version ++ to_be_bytes w32 flags ++ name) ≡ Ok (message.OldName flags name)
 unfolding old_name
@@ -39,15 +46,31 @@ complement_again high creation h c =
 
 pub reply_again : (challenge : ℕ) (digest : List ℕ) → challenge < 2 ^ 32 → length digest ≡ 16 → reply (to_be_bytes w32 challenge ++ digest) ≡ Ok (message.Reply challenge digest)
 unfolding reply
-reply_again challenge digest c d =
-    let whole : bytes_at 16 digest ≡ Some (digest, []) = ap (bytes_at 16) (sym (append-nil digest)) ∙ bytes_again 16 digest [] d in
-    rw (number_again w32 (2 ^ 32) wide32 challenge digest c, whole) refl
+reply_again challenge digest c d = rw (number_again w32 (2 ^ 32) wide32 challenge digest c, digest_again digest d) refl
 
 pub ack_again : (digest : List ℕ) → length digest ≡ 16 → ack digest ≡ Ok (message.Ack digest)
 unfolding ack
-ack_again digest d =
-    let whole : bytes_at 16 digest ≡ Some (digest, []) = ap (bytes_at 16) (sym (append-nil digest)) ∙ bytes_again 16 digest [] d in
-    rw whole refl
+ack_again digest d = rw (digest_again digest d) refl
+
+-- ---- what is read behind a field, and at the end of a body
+
+-- the value of a field that was whole
+bind_ok : {A B : Type 0} (r : Option A) (f : A → Result B MessageError) (y : B) → (r >>= f) ≡ Ok y → (x : A) × (r ≡ Some x) × (f x ≡ Ok y)
+bind_ok (Some x) f y e = (x, refl, e)
+bind_ok None f y e = absurd cc
+
+abbrev done : {A : Type 0} → A → Result A MessageError
+done x = Ok x
+
+pub ok_is : {A : Type 0} (x y : A) → done x ≡ done y → x ≡ y
+ok_is x y e = cc
+
+ended_cases : {A : Type 0} (b : Bool) (x y : A) → cond b (done x) (Err Long) ≡ Ok y → (b ≡ true) × (x ≡ y)
+ended_cases true x y e = (refl, cc)
+ended_cases false x y e = absurd cc
+
+ended_ok : {A : Type 0} (rest : List ℕ) (x y : A) → value_at_end rest x ≡ Ok y → (rest ≡ []) × (x ≡ y)
+ended_ok rest x y e = let p = ended_cases (eqb (length rest) 0) x y e in (nil_from_length rest (eqb-true (length rest) 0 p.0), p.1)
 
 -- ---- a body that is read as a message spells it
 
@@ -55,95 +78,85 @@ pub record Reads (side : Side) (tag : ℕ) (bytes : List ℕ) (m : Message) : Ty
   pub spelled : Spells side m (tag ∷ bytes)
   pub fits : Fits m
 
+-- behind the bytes in front a number is read, and then the rest
+number_step : (w : Width) (limit : ℕ) (wide : IsWide w limit) (side : Side) (tag : ℕ) (front bytes : List ℕ) (f : ℕ × List ℕ → Result Message MessageError) (m : Message) → IsBytes bytes → (number_at w bytes >>= f) ≡ Ok m
+    → ((n : ℕ) (rest : List ℕ) → n < limit → IsBytes rest → f (n, rest) ≡ Ok m → Reads side tag (front ++ (to_be_bytes w n ++ rest)) m) → Reads side tag (front ++ bytes) m
+number_step w limit wide side tag front bytes f m fits e reads =
+    let a = bind_ok (number_at w bytes) f m e in
+    let t = number_takes w limit wide bytes a.0.0 a.0.1 fits a.1 in
+    subst (λ (x : List ℕ). Reads side tag (front ++ x) m) (sym t.0.parts) (reads a.0.0 a.0.1 t.1 t.0.rest_fits a.2)
+
+-- the same of bytes of a known number
+bytes_step : (n : ℕ) (side : Side) (tag : ℕ) (front bytes : List ℕ) (f : List ℕ × List ℕ → Result Message MessageError) (m : Message) → IsBytes bytes → (bytes_at n bytes >>= f) ≡ Ok m
+    → ((text rest : List ℕ) → length text ≡ n → f (text, rest) ≡ Ok m → Reads side tag (front ++ (text ++ rest)) m) → Reads side tag (front ++ bytes) m
+bytes_step n side tag front bytes f m fits e reads =
+    let a = bind_ok (bytes_at n bytes) f m e in
+    let t = bytes_take n bytes a.0.0 a.0.1 fits a.1 in
+    subst (λ (x : List ℕ). Reads side tag (front ++ x) m) (sym t.0.parts) (reads a.0.0 a.0.1 t.1 a.2)
+
+-- it is the message that was made of the fields
+read_as : (side : Side) (tag : ℕ) (bytes : List ℕ) (made m : Message) → done made ≡ Ok m → Spells side made (tag ∷ bytes) → Fits made → Reads side tag bytes m
+read_as side tag bytes made m e spelled fits = subst (Reads side tag bytes) (ok_is made m e) (record { spelled = spelled; fits = fits })
+
+-- the same of a message behind which nothing stands
+ends_as : (side : Side) (tag : ℕ) (front rest : List ℕ) (made m : Message) → value_at_end rest made ≡ Ok m → Spells side made (tag ∷ front) → Fits made → Reads side tag (front ++ rest) m
+ends_as side tag front rest made m e spelled fits =
+    let g = ended_ok rest made m e in
+    let all : front ++ rest ≡ front = ap (λ (x : List ℕ). front ++ x) g.0 ∙ append-nil front in
+    subst (λ (x : List ℕ). Reads side tag x m) (sym all) (subst (Reads side tag front) g.1 (record { spelled = spelled; fits = fits }))
+
 pub old_name_takes : (bytes : List ℕ) (m : Message) → IsBytes bytes → old_name bytes ≡ Ok m → Reads Dialler 0x6e bytes m
 unfolding old_name
 old_name_takes bytes m fits e =
-    let a = bind_ok (number_at w16 bytes) (λ version. number_at w32 version.1 >>= λ flags. Ok (message.OldName flags.0 flags.1)) m e in
-    let b = bind_ok (number_at w32 a.0.1) (λ flags. Ok (message.OldName flags.0 flags.1)) m a.2 in
-    let t0 = number_takes w16 (2 ^ 16) wide16 bytes a.0.0 a.0.1 fits a.1 in
-    let t1 = number_takes w32 (2 ^ 32) wide32 a.0.1 b.0.0 b.0.1 t0.0.rest_fits b.1 in
-    let both = Takes-then bytes (to_be_bytes w16 a.0.0) a.0.1 (to_be_bytes w32 b.0.0) b.0.1 t0.0 t1.0 in
-    subst (λ (x : Message). Reads Dialler 0x6e bytes x) (ok_is (message.OldName b.0.0 b.0.1) m b.2) (record { spelled = (a.0.0, t0.1, ap (λ (x : List ℕ). 0x6e ∷ x) both.parts); fits = t1.1 })
+    number_step w16 (2 ^ 16) wide16 Dialler 0x6e [] bytes _ m fits e (λ version rest v fits1 e1.
+    number_step w32 (2 ^ 32) wide32 Dialler 0x6e (to_be_bytes w16 version) rest _ m fits1 e1 (λ flags name f _ e2.
+    read_as Dialler 0x6e _ (message.OldName flags name) m e2 (version, v, refl) f))
 
 pub new_name_takes : (bytes : List ℕ) (m : Message) → IsBytes bytes → new_name bytes ≡ Ok m → Reads Dialler 0x4e bytes m
 unfolding new_name
 new_name_takes bytes m fits e =
-    let a = bind_ok (number_at w64 bytes) (λ flags. number_at w32 flags.1 >>= λ creation. number_at w16 creation.1 >>= λ len. bytes_at len.0 len.1 >>= λ name. Ok (message.NewName (record { 0 = flags.0 }) (record { 0 = creation.0 }) name.0)) m e in
-    let b = bind_ok (number_at w32 a.0.1) (λ creation. number_at w16 creation.1 >>= λ len. bytes_at len.0 len.1 >>= λ name. Ok (message.NewName (record { 0 = a.0.0 }) (record { 0 = creation.0 }) name.0)) m a.2 in
-    let c = bind_ok (number_at w16 b.0.1) (λ len. bytes_at len.0 len.1 >>= λ name. Ok (message.NewName (record { 0 = a.0.0 }) (record { 0 = b.0.0 }) name.0)) m b.2 in
-    let d = bind_ok (bytes_at c.0.0 c.0.1) (λ name. Ok (message.NewName (record { 0 = a.0.0 }) (record { 0 = b.0.0 }) name.0)) m c.2 in
-    let t0 = number_takes w64 (2 ^ 64) wide64 bytes a.0.0 a.0.1 fits a.1 in
-    let t1 = number_takes w32 (2 ^ 32) wide32 a.0.1 b.0.0 b.0.1 t0.0.rest_fits b.1 in
-    let t2 = number_takes w16 (2 ^ 16) wide16 b.0.1 c.0.0 c.0.1 t1.0.rest_fits c.1 in
-    let t3 = bytes_take c.0.0 c.0.1 d.0.0 d.0.1 t2.0.rest_fits d.1 in
-    let e01 = Takes-then bytes (to_be_bytes w64 a.0.0) a.0.1 (to_be_bytes w32 b.0.0) b.0.1 t0.0 t1.0 in
-    let e02 = Takes-then bytes (to_be_bytes w64 a.0.0 ++ to_be_bytes w32 b.0.0) b.0.1 (to_be_bytes w16 c.0.0) c.0.1 e01 t2.0 in
-    let e03 = Takes-then bytes (to_be_bytes w64 a.0.0 ++ to_be_bytes w32 b.0.0 ++ to_be_bytes w16 c.0.0) c.0.1 d.0.0 d.0.1 e02 t3.0 in
-    let spelled : bytes ≡ to_be_bytes w64 a.0.0 ++ to_be_bytes w32 b.0.0 ++ to_be_bytes w16 (length d.0.0) ++ d.0.0 ++ d.0.1 = e03.parts ∙ ap (λ (k : ℕ). to_be_bytes w64 a.0.0 ++ to_be_bytes w32 b.0.0 ++ to_be_bytes w16 k ++ d.0.0 ++ d.0.1) (sym t3.1) in
-    subst (λ (x : Message). Reads Dialler 0x4e bytes x) (ok_is (message.NewName (record { 0 = a.0.0 }) (record { 0 = b.0.0 }) d.0.0) m d.2) (record { spelled = (d.0.1, omega (arith, t3.1, t2.1), ap (λ (x : List ℕ). 0x4e ∷ x) spelled); fits = (t0.1, t1.1) })
+    number_step w64 (2 ^ 64) wide64 Dialler 0x4e [] bytes _ m fits e (λ flags rest f fits1 e1.
+    number_step w32 (2 ^ 32) wide32 Dialler 0x4e (to_be_bytes w64 flags) rest _ m fits1 e1 (λ creation rest c fits2 e2.
+    number_step w16 (2 ^ 16) wide16 Dialler 0x4e (to_be_bytes w64 flags ++ to_be_bytes w32 creation) rest _ m fits2 e2 (λ len rest l fits3 e3.
+    bytes_step len Dialler 0x4e (to_be_bytes w64 flags ++ to_be_bytes w32 creation ++ to_be_bytes w16 len) rest _ m fits3 e3 (λ name ignored is e4.
+    read_as Dialler 0x4e _ (message.NewName (record { 0 = flags }) (record { 0 = creation }) name) m e4
+    (ignored, omega (arith, is, l), ap (λ (k : ℕ). 0x4e ∷ to_be_bytes w64 flags ++ to_be_bytes w32 creation ++ to_be_bytes w16 k ++ name ++ ignored) (sym is)) (f, c)))))
 
 pub old_challenge_takes : (bytes : List ℕ) (m : Message) → IsBytes bytes → old_challenge bytes ≡ Ok m → Reads Acceptor 0x6e bytes m
 unfolding old_challenge
 old_challenge_takes bytes m fits e =
-    let a = bind_ok (number_at w16 bytes) (λ version. number_at w32 version.1 >>= λ flags. number_at w32 flags.1 >>= λ challenge. Ok (message.OldChallenge flags.0 challenge.0 challenge.1)) m e in
-    let b = bind_ok (number_at w32 a.0.1) (λ flags. number_at w32 flags.1 >>= λ challenge. Ok (message.OldChallenge flags.0 challenge.0 challenge.1)) m a.2 in
-    let c = bind_ok (number_at w32 b.0.1) (λ challenge. Ok (message.OldChallenge b.0.0 challenge.0 challenge.1)) m b.2 in
-    let t0 = number_takes w16 (2 ^ 16) wide16 bytes a.0.0 a.0.1 fits a.1 in
-    let t1 = number_takes w32 (2 ^ 32) wide32 a.0.1 b.0.0 b.0.1 t0.0.rest_fits b.1 in
-    let t2 = number_takes w32 (2 ^ 32) wide32 b.0.1 c.0.0 c.0.1 t1.0.rest_fits c.1 in
-    let e01 = Takes-then bytes (to_be_bytes w16 a.0.0) a.0.1 (to_be_bytes w32 b.0.0) b.0.1 t0.0 t1.0 in
-    let e02 = Takes-then bytes (to_be_bytes w16 a.0.0 ++ to_be_bytes w32 b.0.0) b.0.1 (to_be_bytes w32 c.0.0) c.0.1 e01 t2.0 in
-    subst (λ (x : Message). Reads Acceptor 0x6e bytes x) (ok_is (message.OldChallenge b.0.0 c.0.0 c.0.1) m c.2) (record { spelled = (a.0.0, t0.1, ap (λ (x : List ℕ). 0x6e ∷ x) e02.parts); fits = (t1.1, t2.1) })
+    number_step w16 (2 ^ 16) wide16 Acceptor 0x6e [] bytes _ m fits e (λ version rest v fits1 e1.
+    number_step w32 (2 ^ 32) wide32 Acceptor 0x6e (to_be_bytes w16 version) rest _ m fits1 e1 (λ flags rest f fits2 e2.
+    number_step w32 (2 ^ 32) wide32 Acceptor 0x6e (to_be_bytes w16 version ++ to_be_bytes w32 flags) rest _ m fits2 e2 (λ challenge name h _ e3.
+    read_as Acceptor 0x6e _ (message.OldChallenge flags challenge name) m e3 (version, v, refl) (f, h))))
 
 pub new_challenge_takes : (bytes : List ℕ) (m : Message) → IsBytes bytes → new_challenge bytes ≡ Ok m → Reads Acceptor 0x4e bytes m
 unfolding new_challenge
 new_challenge_takes bytes m fits e =
-    let a = bind_ok (number_at w64 bytes) (λ flags. number_at w32 flags.1 >>= λ challenge. number_at w32 challenge.1 >>= λ creation. number_at w16 creation.1 >>= λ len. bytes_at len.0 len.1 >>= λ name. Ok (message.NewChallenge (record { 0 = flags.0 }) challenge.0 (record { 0 = creation.0 }) name.0)) m e in
-    let h = bind_ok (number_at w32 a.0.1) (λ challenge. number_at w32 challenge.1 >>= λ creation. number_at w16 creation.1 >>= λ len. bytes_at len.0 len.1 >>= λ name. Ok (message.NewChallenge (record { 0 = a.0.0 }) challenge.0 (record { 0 = creation.0 }) name.0)) m a.2 in
-    let b = bind_ok (number_at w32 h.0.1) (λ creation. number_at w16 creation.1 >>= λ len. bytes_at len.0 len.1 >>= λ name. Ok (message.NewChallenge (record { 0 = a.0.0 }) h.0.0 (record { 0 = creation.0 }) name.0)) m h.2 in
-    let c = bind_ok (number_at w16 b.0.1) (λ len. bytes_at len.0 len.1 >>= λ name. Ok (message.NewChallenge (record { 0 = a.0.0 }) h.0.0 (record { 0 = b.0.0 }) name.0)) m b.2 in
-    let d = bind_ok (bytes_at c.0.0 c.0.1) (λ name. Ok (message.NewChallenge (record { 0 = a.0.0 }) h.0.0 (record { 0 = b.0.0 }) name.0)) m c.2 in
-    let t0 = number_takes w64 (2 ^ 64) wide64 bytes a.0.0 a.0.1 fits a.1 in
-    let th = number_takes w32 (2 ^ 32) wide32 a.0.1 h.0.0 h.0.1 t0.0.rest_fits h.1 in
-    let t1 = number_takes w32 (2 ^ 32) wide32 h.0.1 b.0.0 b.0.1 th.0.rest_fits b.1 in
-    let t2 = number_takes w16 (2 ^ 16) wide16 b.0.1 c.0.0 c.0.1 t1.0.rest_fits c.1 in
-    let t3 = bytes_take c.0.0 c.0.1 d.0.0 d.0.1 t2.0.rest_fits d.1 in
-    let e00 = Takes-then bytes (to_be_bytes w64 a.0.0) a.0.1 (to_be_bytes w32 h.0.0) h.0.1 t0.0 th.0 in
-    let e01 = Takes-then bytes (to_be_bytes w64 a.0.0 ++ to_be_bytes w32 h.0.0) h.0.1 (to_be_bytes w32 b.0.0) b.0.1 e00 t1.0 in
-    let e02 = Takes-then bytes (to_be_bytes w64 a.0.0 ++ to_be_bytes w32 h.0.0 ++ to_be_bytes w32 b.0.0) b.0.1 (to_be_bytes w16 c.0.0) c.0.1 e01 t2.0 in
-    let e03 = Takes-then bytes (to_be_bytes w64 a.0.0 ++ to_be_bytes w32 h.0.0 ++ to_be_bytes w32 b.0.0 ++ to_be_bytes w16 c.0.0) c.0.1 d.0.0 d.0.1 e02 t3.0 in
-    let spelled : bytes ≡ to_be_bytes w64 a.0.0 ++ to_be_bytes w32 h.0.0 ++ to_be_bytes w32 b.0.0 ++ to_be_bytes w16 (length d.0.0) ++ d.0.0 ++ d.0.1 = e03.parts ∙ ap (λ (k : ℕ). to_be_bytes w64 a.0.0 ++ to_be_bytes w32 h.0.0 ++ to_be_bytes w32 b.0.0 ++ to_be_bytes w16 k ++ d.0.0 ++ d.0.1) (sym t3.1) in
-    subst (λ (x : Message). Reads Acceptor 0x4e bytes x) (ok_is (message.NewChallenge (record { 0 = a.0.0 }) h.0.0 (record { 0 = b.0.0 }) d.0.0) m d.2) (record { spelled = (d.0.1, omega (arith, t3.1, t2.1), ap (λ (x : List ℕ). 0x4e ∷ x) spelled); fits = (t0.1, th.1, t1.1) })
+    number_step w64 (2 ^ 64) wide64 Acceptor 0x4e [] bytes _ m fits e (λ flags rest f fits1 e1.
+    number_step w32 (2 ^ 32) wide32 Acceptor 0x4e (to_be_bytes w64 flags) rest _ m fits1 e1 (λ challenge rest h fits2 e2.
+    number_step w32 (2 ^ 32) wide32 Acceptor 0x4e (to_be_bytes w64 flags ++ to_be_bytes w32 challenge) rest _ m fits2 e2 (λ creation rest c fits3 e3.
+    number_step w16 (2 ^ 16) wide16 Acceptor 0x4e (to_be_bytes w64 flags ++ to_be_bytes w32 challenge ++ to_be_bytes w32 creation) rest _ m fits3 e3 (λ len rest l fits4 e4.
+    bytes_step len Acceptor 0x4e (to_be_bytes w64 flags ++ to_be_bytes w32 challenge ++ to_be_bytes w32 creation ++ to_be_bytes w16 len) rest _ m fits4 e4 (λ name ignored is e5.
+    read_as Acceptor 0x4e _ (message.NewChallenge (record { 0 = flags }) challenge (record { 0 = creation }) name) m e5
+    (ignored, omega (arith, is, l), ap (λ (k : ℕ). 0x4e ∷ to_be_bytes w64 flags ++ to_be_bytes w32 challenge ++ to_be_bytes w32 creation ++ to_be_bytes w16 k ++ name ++ ignored) (sym is)) (f, h, c))))))
 
 pub complement_takes : (bytes : List ℕ) (m : Message) → IsBytes bytes → complement bytes ≡ Ok m → Reads Dialler 0x63 bytes m
 unfolding complement
 complement_takes bytes m fits e =
-    let a = bind_ok (number_at w32 bytes) (λ high. number_at w32 high.1 >>= λ creation. value_at_end creation.1 (message.Complement high.0 (record { 0 = creation.0 }))) m e in
-    let b = bind_ok (number_at w32 a.0.1) (λ creation. value_at_end creation.1 (message.Complement a.0.0 (record { 0 = creation.0 }))) m a.2 in
-    let g = ended_ok b.0.1 (message.Complement a.0.0 (record { 0 = b.0.0 })) m b.2 in
-    let t0 = number_takes w32 (2 ^ 32) wide32 bytes a.0.0 a.0.1 fits a.1 in
-    let t1 = number_takes w32 (2 ^ 32) wide32 a.0.1 b.0.0 b.0.1 t0.0.rest_fits b.1 in
-    let both = Takes-then bytes (to_be_bytes w32 a.0.0) a.0.1 (to_be_bytes w32 b.0.0) b.0.1 t0.0 t1.0 in
-    let whole : bytes ≡ to_be_bytes w32 a.0.0 ++ to_be_bytes w32 b.0.0 = both.parts ∙ ap (λ (x : List ℕ). (to_be_bytes w32 a.0.0 ++ to_be_bytes w32 b.0.0) ++ x) g.0 ∙ append-nil (to_be_bytes w32 a.0.0 ++ to_be_bytes w32 b.0.0) in
-    subst (λ (x : Message). Reads Dialler 0x63 bytes x) g.1 (record { spelled = ap (λ (x : List ℕ). 0x63 ∷ x) whole; fits = (t0.1, t1.1) })
+    number_step w32 (2 ^ 32) wide32 Dialler 0x63 [] bytes _ m fits e (λ high rest h fits1 e1.
+    number_step w32 (2 ^ 32) wide32 Dialler 0x63 (to_be_bytes w32 high) rest _ m fits1 e1 (λ creation rest c _ e2.
+    ends_as Dialler 0x63 (to_be_bytes w32 high ++ to_be_bytes w32 creation) rest (message.Complement high (record { 0 = creation })) m e2 refl (h, c)))
 
 pub reply_takes : (bytes : List ℕ) (m : Message) → IsBytes bytes → reply bytes ≡ Ok m → Reads Dialler 0x72 bytes m
 unfolding reply
 reply_takes bytes m fits e =
-    let a = bind_ok (number_at w32 bytes) (λ challenge. bytes_at 16 challenge.1 >>= λ digest. value_at_end digest.1 (message.Reply challenge.0 digest.0)) m e in
-    let b = bind_ok (bytes_at 16 a.0.1) (λ digest. value_at_end digest.1 (message.Reply a.0.0 digest.0)) m a.2 in
-    let g = ended_ok b.0.1 (message.Reply a.0.0 b.0.0) m b.2 in
-    let t0 = number_takes w32 (2 ^ 32) wide32 bytes a.0.0 a.0.1 fits a.1 in
-    let t1 = bytes_take 16 a.0.1 b.0.0 b.0.1 t0.0.rest_fits b.1 in
-    let both = Takes-then bytes (to_be_bytes w32 a.0.0) a.0.1 b.0.0 b.0.1 t0.0 t1.0 in
-    let whole : bytes ≡ to_be_bytes w32 a.0.0 ++ b.0.0 = both.parts ∙ ap (λ (x : List ℕ). (to_be_bytes w32 a.0.0 ++ b.0.0) ++ x) g.0 ∙ append-nil (to_be_bytes w32 a.0.0 ++ b.0.0) in
-    subst (λ (x : Message). Reads Dialler 0x72 bytes x) g.1 (record { spelled = ap (λ (x : List ℕ). 0x72 ∷ x) whole; fits = (t0.1, t1.1) })
+    number_step w32 (2 ^ 32) wide32 Dialler 0x72 [] bytes _ m fits e (λ challenge rest c fits1 e1.
+    bytes_step 16 Dialler 0x72 (to_be_bytes w32 challenge) rest _ m fits1 e1 (λ digest rest d e2.
+    ends_as Dialler 0x72 (to_be_bytes w32 challenge ++ digest) rest (message.Reply challenge digest) m e2 refl (c, d)))
 
 pub ack_takes : (bytes : List ℕ) (m : Message) → IsBytes bytes → ack bytes ≡ Ok m → Reads Acceptor 0x61 bytes m
 unfolding ack
 ack_takes bytes m fits e =
-    let a = bind_ok (bytes_at 16 bytes) (λ digest. value_at_end digest.1 (message.Ack digest.0)) m e in
-    let g = ended_ok a.0.1 (message.Ack a.0.0) m a.2 in
-    let t0 = bytes_take 16 bytes a.0.0 a.0.1 fits a.1 in
-    let whole : bytes ≡ a.0.0 = t0.0.parts ∙ ap (λ (x : List ℕ). a.0.0 ++ x) g.0 ∙ append-nil a.0.0 in
-    subst (λ (x : Message). Reads Acceptor 0x61 bytes x) g.1 (record { spelled = ap (λ (x : List ℕ). 0x61 ∷ x) whole; fits = t0.1 })
+    bytes_step 16 Acceptor 0x61 [] bytes _ m fits e (λ digest rest d e1.
+    ends_as Acceptor 0x61 digest rest (message.Ack digest) m e1 refl d)

@@ -1,4 +1,3 @@
-pub mod FieldLaws
 pub mod Readers
 pub mod Bodies
 pub mod Messages

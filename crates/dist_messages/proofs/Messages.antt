@@ -1,10 +1,8 @@
 -- The laws of reading and spelling, over all messages.
-use Rattle.std.proofs.Common.{◌≡◌, ℕ, ◌^◌, ◌<◌, ◌≤◌, Bool, true, false, cond, eqb, ltb, lit<, List, [], ◌∷◌, ◌++◌, length, codes, Option, Some, None, Result, Ok, Err, refl, sym, ap, subst, ◌∙◌, arith}
-use Rattle.std.specs.Prelude.{IsTrue, IfOk}
-use Rattle.std.specs.Str.{bytes_eq}
-use Rattle.std.specs.Int.{w16, w32, w64, to_be_bytes}
-use Rattle.std.proofs.lemmas.Bool.{eqb-true, and_parts, ltb-false}
-use Rattle.std.proofs.lemmas.List.{append-nil}
+use Rattle.std.proofs.Common.{◌≡◌, ℕ, true, false, eqb, List, [], ◌∷◌, Option, Some, None, Result, Ok, Err, refl, sym, ap, subst, ◌∙◌}
+use Rattle.std.specs.Prelude.{◌==◌, IsTrue, IfOk, IfSome}
+use Rattle.std.specs.Cmp.Lexicographic.{pointwise, same_text}
+use Rattle.std.proofs.lemmas.Bool.{eqb-true, eqb-false, and_parts}
 use Rattle.dist_messages.specs.declared.message.Side.{Side}
 use Rattle.dist_messages.specs.declared.message.Side.TheVariants.{Dialler, Acceptor}
 use Rattle.dist_messages.specs.declared.message.Status.{Status}
@@ -15,13 +13,14 @@ use Rattle.dist_messages.specs.declared.message_error.MessageError.{MessageError
 use Rattle.dist_messages.specs.declared.message_error.MessageError.TheVariants as errors
 use Rattle.dist_messages.specs.Answer.{Answers}
 use Rattle.dist_messages.specs.Spelling.{Spells, Fits, text_of, is_said_by}
-use Rattle.dist_messages.specs.Canonical.{own_spelling}
 use Rattle.dist_names.specs.Bytes.{IsBytes}
 use Rattle.dist_names.proofs.Bytes.{IsBytes-rest}
-use Rattle.dist_messages.specs.Reading.{read, old_name, new_name, old_challenge, new_challenge, complement, reply, ack, status_of, status_message, has_name_tag}
+use Rattle.dist_names.proofs.Naming.{found-passes}
+use Rattle.dist_messages.specs.Reading.{read, has_text, all_statuses, status_named, status_of, status_message, has_name_tag}
 use Rattle.dist_messages.specs.Views.{has_name}
-use Rattle.dist_messages.proofs.FieldLaws.{ok_is}
-use Rattle.dist_messages.proofs.Bodies.{Reads, old_name_again, new_name_again, old_challenge_again, new_challenge_again, complement_again, reply_again, ack_again, old_name_takes, new_name_takes, old_challenge_takes, new_challenge_takes, complement_takes, reply_takes, ack_takes}
+use Rattle.dist_messages.specs.Causes.{status_tag}
+use Rattle.dist_messages.proofs.Readers.{Read, IsReader, old_name_reader, new_name_reader, old_challenge_reader, new_challenge_reader, complement_reader, reply_reader, ack_reader}
+use Rattle.dist_messages.proofs.Bodies.{Reads, ok_is, old_name_again, new_name_again, old_challenge_again, new_challenge_again, complement_again, reply_again, ack_again, old_name_takes, new_name_takes, old_challenge_takes, new_challenge_takes, complement_takes, reply_takes, ack_takes}
 
 -- ---- a body that spells a message is read as it
 
@@ -29,18 +28,10 @@ pub status_again : (side : Side) (s : Status) → IsTrue (is_said_by s side) →
 unfolding status_of
 status_again Dialler status.True h = refl
 status_again Dialler status.False h = refl
-status_again Dialler status.Ok h = absurd cc
-status_again Dialler status.OkSimultaneous h = absurd cc
-status_again Dialler status.Nok h = absurd cc
-status_again Dialler status.NotAllowed h = absurd cc
-status_again Dialler status.Alive h = absurd cc
+status_again Dialler s h = absurd cc
 status_again Acceptor status.True h = absurd cc
 status_again Acceptor status.False h = absurd cc
-status_again Acceptor status.Ok h = refl
-status_again Acceptor status.OkSimultaneous h = refl
-status_again Acceptor status.Nok h = refl
-status_again Acceptor status.NotAllowed h = refl
-status_again Acceptor status.Alive h = refl
+status_again Acceptor s h = refl
 
 -- a body that spells a message is read as this message
 pub spelled_is_read : (side : Side) (m : Message) (body : List ℕ) → Fits m → Spells side m body → read side body ≡ Ok m
@@ -50,86 +41,87 @@ spelled_is_read Dialler (message.NewName flags creation name) body f (ignored, l
 spelled_is_read Dialler (message.Complement high creation) body f e = ap (read Dialler) e ∙ complement_again high creation.0 f.0 f.1
 spelled_is_read Dialler (message.Reply challenge digest) body f e = ap (read Dialler) e ∙ reply_again challenge digest f.0 f.1
 spelled_is_read Dialler (message.Status s) body f (h, e) = ap (read Dialler) e ∙ status_again Dialler s h
-spelled_is_read Dialler (message.OldChallenge flags challenge name) body f e = absurd e
-spelled_is_read Dialler (message.NewChallenge flags challenge creation name) body f e = absurd e
-spelled_is_read Dialler (message.Ack digest) body f e = absurd e
 spelled_is_read Acceptor (message.OldChallenge flags challenge name) body f (version, v, e) = ap (read Acceptor) e ∙ old_challenge_again version flags challenge name v f.0 f.1
 spelled_is_read Acceptor (message.NewChallenge flags challenge creation name) body f (ignored, l, e) = ap (read Acceptor) e ∙ new_challenge_again flags.0 challenge creation.0 name ignored f.0 f.1 f.2 l
 spelled_is_read Acceptor (message.Ack digest) body f e = ap (read Acceptor) e ∙ ack_again digest f
 spelled_is_read Acceptor (message.Status s) body f (h, e) = ap (read Acceptor) e ∙ status_again Acceptor s h
-spelled_is_read Acceptor (message.OldName flags name) body f e = absurd e
-spelled_is_read Acceptor (message.NewName flags creation name) body f e = absurd e
-spelled_is_read Acceptor (message.Complement high creation) body f e = absurd e
-spelled_is_read Acceptor (message.Reply challenge digest) body f e = absurd e
+spelled_is_read side m body f e = absurd e
 
 -- ---- a body that is read as a message spells it
 
-same_bytes : (xs ys : List ℕ) → bytes_eq xs ys ≡ true → xs ≡ ys
-same_bytes [] [] e = refl
-same_bytes [] (y ∷ ys) e = absurd cc
-same_bytes (x ∷ xs) [] e = absurd cc
-same_bytes (x ∷ xs) (y ∷ ys) e =
-    let p = and_parts (eqb x y) (bytes_eq xs ys) e in
-    let first : x ≡ y = eqb-true x y p.0 in
-    let rest : xs ≡ ys = same_bytes xs ys p.1 in
-    cc
+-- this side sends the status, and the text is its text
+abbrev pub HasText : Side → List ℕ → Status → Type 0
+HasText side text s = IsTrue (is_said_by s side) × (text ≡ text_of s)
 
-status_reads : (side : Side) (text : List ℕ) (s : Status) → IsTrue (is_said_by s side) → text ≡ text_of s → Reads side 0x73 text (message.Status s)
-status_reads Dialler text s said e = record { spelled = (said, ap (λ (x : List ℕ). 0x73 ∷ x) e); fits = tt }
-status_reads Acceptor text s said e = record { spelled = (said, ap (λ (x : List ℕ). 0x73 ∷ x) e); fits = tt }
+pub status_found : (side : Side) (text : List ℕ) → IfSome (status_named side text) (HasText side text)
+status_found side text =
+    found-passes (has_text side text) (HasText side text)
+    (λ s t. let p = and_parts (is_said_by s side) (pointwise ◌==◌ (text_of s) text) t in (p.0, sym (same_text (text_of s) text (sym p.1))))
+    all_statuses
 
-abbrev known_as : Option Status → Message → Type 0
-known_as found m = status_message found ≡ Ok m
+status_reads : (side : Side) (text : List ℕ) (m : Message) (o : Option Status) → IfSome o (HasText side text) → status_message o ≡ Ok m → Reads side 0x73 text m
+status_reads side text m None found e = absurd cc
+status_reads Dialler text m (Some s) found e = subst (Reads Dialler 0x73 text) (ok_is (message.Status s) m e) (record { spelled = (found.0, ap (λ (x : List ℕ). 0x73 ∷ x) found.1); fits = tt })
+status_reads Acceptor text m (Some s) found e = subst (Reads Acceptor 0x73 text) (ok_is (message.Status s) m e) (record { spelled = (found.0, ap (λ (x : List ℕ). 0x73 ∷ x) found.1); fits = tt })
 
-at_text : (side : Side) (text : List ℕ) (s : Status) (others : Option Status) (m : Message) → IsTrue (is_said_by s side) → (known_as others m → Reads side 0x73 text m) → known_as (cond (bytes_eq text (text_of s)) (Some s) others) m → Reads side 0x73 text m
-at_text side text s others m said there e =
-    elim (bytes_eq text (text_of s)) as (λ v. bytes_eq text (text_of s) ≡ v → known_as (cond v (Some s) others) m → Reads side 0x73 text m) [
-      | true ↦ λ (t : bytes_eq text (text_of s) ≡ true) (k : known_as (Some s) m). subst (λ (x : Message). Reads side 0x73 text x) (ok_is (message.Status s) m k) (status_reads side text s said (same_bytes text (text_of s) t))
-      | false ↦ λ (t : bytes_eq text (text_of s) ≡ false) (k : known_as others m). there k
-    ] refl e
-
-no_status : (side : Side) (text : List ℕ) (m : Message) → known_as None m → Reads side 0x73 text m
-no_status side text m e = absurd cc
-
-pub status_takes : (side : Side) (text : List ℕ) (m : Message) → status_of side text ≡ Ok m → Reads side 0x73 text m
+status_takes : (side : Side) (text : List ℕ) (m : Message) → status_of side text ≡ Ok m → Reads side 0x73 text m
 unfolding status_of
-status_takes Dialler text m e =
-    at_text Dialler text status.True (cond (bytes_eq text (codes "false")) (Some status.False) None) m refl
-    (at_text Dialler text status.False None m refl (no_status Dialler text m)) e
-status_takes Acceptor text m e =
-    at_text Acceptor text status.Ok (cond (bytes_eq text (codes "ok_simultaneous")) (Some status.OkSimultaneous) (cond (bytes_eq text (codes "nok")) (Some status.Nok) (cond (bytes_eq text (codes "not_allowed")) (Some status.NotAllowed) (cond (bytes_eq text (codes "alive")) (Some status.Alive) None)))) m refl
-    (at_text Acceptor text status.OkSimultaneous (cond (bytes_eq text (codes "nok")) (Some status.Nok) (cond (bytes_eq text (codes "not_allowed")) (Some status.NotAllowed) (cond (bytes_eq text (codes "alive")) (Some status.Alive) None))) m refl
-    (at_text Acceptor text status.Nok (cond (bytes_eq text (codes "not_allowed")) (Some status.NotAllowed) (cond (bytes_eq text (codes "alive")) (Some status.Alive) None)) m refl
-    (at_text Acceptor text status.NotAllowed (cond (bytes_eq text (codes "alive")) (Some status.Alive) None) m refl
-    (at_text Acceptor text status.Alive None m refl (no_status Acceptor text m))))) e
+status_takes side text m e = status_reads side text m (status_named side text) (status_found side text) e
 
-abbrev gives : Result Message MessageError → Message → Type 0
-gives r m = r ≡ Ok m
+abbrev pub done : Message → Result Message MessageError
+done m = Ok m
 
-at_tag : (side : Side) (tag k : ℕ) (rest : List ℕ) (m : Message) (x y : Result Message MessageError) → (gives x m → Reads side k rest m) → (gives y m → Reads side tag rest m) → gives (cond (eqb tag k) x y) m → Reads side tag rest m
-at_tag side tag k rest m x y here there e =
-    elim (eqb tag k) as (λ v. eqb tag k ≡ v → gives (cond v x y) m → Reads side tag rest m) [
-      | true ↦ λ (t : eqb tag k ≡ true) (g : gives x m). subst (λ (n : ℕ). Reads side n rest m) (sym (eqb-true tag k t)) (here g)
-      | false ↦ λ (t : eqb tag k ≡ false) (g : gives y m). there g
-    ] refl e
+abbrev pub refused : MessageError → Result Message MessageError
+refused e = Err e
 
-no_tag : (side : Side) (tag : ℕ) (rest : List ℕ) (m : Message) → gives (Err errors.UnknownTag) m → Reads side tag rest m
-no_tag side tag rest m e = absurd cc
+pub never_both : (m : Message) (e : MessageError) → done m ≡ refused e → ⊥
+never_both m e h = cc
+
+pub read_of_text : (side : Side) (text : List ℕ) → read side (status_tag ∷ text) ≡ status_of side text
+unfolding read
+read_of_text Dialler text = refl
+read_of_text Acceptor text = refl
+
+-- ---- the layout of a first byte
+
+-- what is read behind a first byte
+abbrev pub behind : Side → ℕ → Read
+behind side tag rest = read side (tag ∷ rest)
+
+-- what follows the first byte is fields, a text, or nothing that can be read
+pub data Row (side : Side) (tag : ℕ) : Type 0 where
+  Fields : IsReader (behind side tag) → ((rest : List ℕ) (m : Message) → IsBytes rest → behind side tag rest ≡ Ok m → Reads side tag rest m) → (tag ≡ status_tag → ⊥) → Row side tag
+  Text : tag ≡ status_tag → Row side tag
+  Nothing : ((rest : List ℕ) → behind side tag rest ≡ Err errors.UnknownTag) → (tag ≡ status_tag → ⊥) → Row side tag
+
+by_test : (side : Side) (tag k : ℕ) → Row side k → (eqb tag k ≡ false → Row side tag) → Row side tag
+by_test side tag k here there =
+    elim (eqb tag k) as (λ v. eqb tag k ≡ v → Row side tag) [
+      | true ↦ λ (t : eqb tag k ≡ true). subst (Row side) (sym (eqb-true tag k t)) here
+      | false ↦ there
+    ] refl
+
+pub row_of : (side : Side) (tag : ℕ) → Row side tag
+unfolding read
+row_of Dialler tag =
+    by_test Dialler tag 0x6e (Fields old_name_reader old_name_takes (eqb-false 0x6e status_tag refl)) (λ e1.
+    by_test Dialler tag 0x4e (Fields new_name_reader new_name_takes (eqb-false 0x4e status_tag refl)) (λ e2.
+    by_test Dialler tag 0x73 (Text refl) (λ e3.
+    by_test Dialler tag 0x63 (Fields complement_reader complement_takes (eqb-false 0x63 status_tag refl)) (λ e4.
+    by_test Dialler tag 0x72 (Fields reply_reader reply_takes (eqb-false 0x72 status_tag refl)) (λ e5.
+    Nothing (λ rest. rw (e1, e2, e3, e4, e5) refl) (eqb-false tag 0x73 e3))))))
+row_of Acceptor tag =
+    by_test Acceptor tag 0x73 (Text refl) (λ e1.
+    by_test Acceptor tag 0x6e (Fields old_challenge_reader old_challenge_takes (eqb-false 0x6e status_tag refl)) (λ e2.
+    by_test Acceptor tag 0x4e (Fields new_challenge_reader new_challenge_takes (eqb-false 0x4e status_tag refl)) (λ e3.
+    by_test Acceptor tag 0x61 (Fields ack_reader ack_takes (eqb-false 0x61 status_tag refl)) (λ e4.
+    Nothing (λ rest. rw (e1, e2, e3, e4) refl) (eqb-false tag 0x73 e1)))))
 
 -- the first byte and what follows it
-tagged : (side : Side) (tag : ℕ) (rest : List ℕ) (m : Message) → IsBytes rest → read side (tag ∷ rest) ≡ Ok m → Reads side tag rest m
-unfolding read
-tagged Dialler tag rest m fits e =
-    at_tag Dialler tag 0x6e rest m (old_name rest) _ (old_name_takes rest m fits)
-    (at_tag Dialler tag 0x4e rest m (new_name rest) _ (new_name_takes rest m fits)
-    (at_tag Dialler tag 0x73 rest m (status_of Dialler rest) _ (status_takes Dialler rest m)
-    (at_tag Dialler tag 0x63 rest m (complement rest) _ (complement_takes rest m fits)
-    (at_tag Dialler tag 0x72 rest m (reply rest) (Err errors.UnknownTag) (reply_takes rest m fits) (no_tag Dialler tag rest m))))) e
-tagged Acceptor tag rest m fits e =
-    at_tag Acceptor tag 0x73 rest m (status_of Acceptor rest) _ (status_takes Acceptor rest m)
-    (at_tag Acceptor tag 0x6e rest m (old_challenge rest) _ (old_challenge_takes rest m fits)
-    (at_tag Acceptor tag 0x4e rest m (new_challenge rest) _ (new_challenge_takes rest m fits)
-    (at_tag Acceptor tag 0x61 rest m (ack rest) (Err errors.UnknownTag) (ack_takes rest m fits) (no_tag Acceptor tag rest m)))) e
+tagged : (side : Side) (tag : ℕ) (rest : List ℕ) (m : Message) → IsBytes rest → read side (tag ∷ rest) ≡ Ok m → Row side tag → Reads side tag rest m
+tagged side tag rest m fits e (Fields _ takes _) = takes rest m fits e
+tagged side tag rest m fits e (Text is) = subst (λ (t : ℕ). read side (t ∷ rest) ≡ Ok m → Reads side t rest m) (sym is) (λ k. status_takes side rest m (sym (read_of_text side rest) ∙ k)) e
+tagged side tag rest m fits e (Nothing none _) = absurd (never_both m errors.UnknownTag (sym e ∙ none rest))
 
 empty_reads : (side : Side) (m : Message) → read side [] ≡ Ok m → ⊥
 unfolding read
@@ -138,65 +130,11 @@ empty_reads Acceptor m e = cc
 
 pub read_is_spelled : (side : Side) (body : List ℕ) (m : Message) → IsBytes body → read side body ≡ Ok m → Spells side m body × Fits m
 read_is_spelled side [] m fits e = absurd (empty_reads side m e)
-read_is_spelled side (tag ∷ rest) m fits e = let r = tagged side tag rest m (IsBytes-rest tag rest fits) e in (r.spelled, r.fits)
-
--- ---- what is written
-
-abbrev fine : List ℕ → Result (List ℕ) MessageError
-fine x = Ok x
-
-abbrev refused : MessageError → Result (List ℕ) MessageError
-refused e = Err e
-
-bounded_ok : (b : Bool) (x y : List ℕ) → cond b (refused errors.BadName) (fine x) ≡ Ok y → (b ≡ false) × (x ≡ y)
-bounded_ok true x y e = absurd cc
-bounded_ok false x y e = (refl, cc)
-
-said_ok : (b : Bool) (x y : List ℕ) → cond b (fine x) (refused errors.UnknownStatus) ≡ Ok y → (b ≡ true) × (x ≡ y)
-said_ok true x y e = (refl, cc)
-said_ok false x y e = absurd cc
-
-fine_is : (x y : List ℕ) → fine x ≡ Ok y → x ≡ y
-fine_is x y e = cc
-
-few : (name : List ℕ) → ltb 255 (length name) ≡ false → length name < 2 ^ 16
-few name h = let le : length name ≤ 255 = ltb-false 255 (length name) h in omega arith
-
--- what is written is one of the spellings
-pub written_is_spelled : (side : Side) (m : Message) (body : List ℕ) → own_spelling side m ≡ Ok body → Spells side m body
-written_is_spelled Dialler (message.OldName flags name) body e =
-    let p = bounded_ok (ltb 255 (length name)) (0x6e ∷ to_be_bytes w16 5 ++ to_be_bytes w32 flags ++ name) body e in
-    (5, lit< tt, sym p.1)
-written_is_spelled Dialler (message.NewName flags creation name) body e =
-    let text : List ℕ = 0x4e ∷ to_be_bytes w64 flags.0 ++ to_be_bytes w32 creation.0 ++ to_be_bytes w16 (length name) ++ name in
-    let p = bounded_ok (ltb 255 (length name)) text body e in
-    ([], few name p.0, sym p.1 ∙ sym (append-nil text))
-written_is_spelled Dialler (message.Complement high creation) body e = sym (fine_is _ body e)
-written_is_spelled Dialler (message.Reply challenge digest) body e = sym (fine_is (0x72 ∷ to_be_bytes w32 challenge ++ digest) body e)
-written_is_spelled Dialler (message.Status s) body e = let p = said_ok (is_said_by s Dialler) (0x73 ∷ text_of s) body e in (p.0, sym p.1)
-written_is_spelled Dialler (message.OldChallenge flags challenge name) body e = absurd cc
-written_is_spelled Dialler (message.NewChallenge flags challenge creation name) body e = absurd cc
-written_is_spelled Dialler (message.Ack digest) body e = absurd cc
-written_is_spelled Acceptor (message.OldChallenge flags challenge name) body e =
-    let p = bounded_ok (ltb 255 (length name)) (0x6e ∷ to_be_bytes w16 5 ++ to_be_bytes w32 flags ++ to_be_bytes w32 challenge ++ name) body e in
-    (5, lit< tt, sym p.1)
-written_is_spelled Acceptor (message.NewChallenge flags challenge creation name) body e =
-    let text : List ℕ = 0x4e ∷ to_be_bytes w64 flags.0 ++ to_be_bytes w32 challenge ++ to_be_bytes w32 creation.0 ++ to_be_bytes w16 (length name) ++ name in
-    let p = bounded_ok (ltb 255 (length name)) text body e in
-    ([], few name p.0, sym p.1 ∙ sym (append-nil text))
-written_is_spelled Acceptor (message.Ack digest) body e = sym (fine_is (0x61 ∷ digest) body e)
-written_is_spelled Acceptor (message.Status s) body e = let p = said_ok (is_said_by s Acceptor) (0x73 ∷ text_of s) body e in (p.0, sym p.1)
-written_is_spelled Acceptor (message.OldName flags name) body e = absurd cc
-written_is_spelled Acceptor (message.NewName flags creation name) body e = absurd cc
-written_is_spelled Acceptor (message.Complement high creation) body e = absurd cc
-written_is_spelled Acceptor (message.Reply challenge digest) body e = absurd cc
+read_is_spelled side (tag ∷ rest) m fits e = let r = tagged side tag rest m (IsBytes-rest tag rest fits) e (row_of side tag) in (r.spelled, r.fits)
 
 -- a body spells one message
 pub one_message_lem : (side : Side) (m n : Message) (body : List ℕ) → Fits m → Fits n → Spells side m body → Spells side n body → m ≡ n
 one_message_lem side m n body fm fn sm sn = ok_is m n (sym (spelled_is_read side m body fm sm) ∙ spelled_is_read side n body fn sn)
-
-pub written_is_read_lem : (side : Side) (m : Message) (body : List ℕ) → Fits m → own_spelling side m ≡ Ok body → read side body ≡ Ok m
-written_is_read_lem side m body f e = spelled_is_read side m body f (written_is_spelled side m body e)
 
 -- ---- in the words of the answers
 
@@ -215,14 +153,11 @@ tag_of_named Dialler (message.OldName flags name) body (version, v, e) h = rw e 
 tag_of_named Dialler (message.NewName flags creation name) body (ignored, l, e) h = rw e refl
 tag_of_named Acceptor (message.OldChallenge flags challenge name) body (version, v, e) h = rw e refl
 tag_of_named Acceptor (message.NewChallenge flags challenge creation name) body (ignored, l, e) h = rw e refl
-tag_of_named Dialler (message.OldChallenge flags challenge name) body e h = absurd e
-tag_of_named Dialler (message.NewChallenge flags challenge creation name) body e h = absurd e
-tag_of_named Acceptor (message.OldName flags name) body e h = absurd e
-tag_of_named Acceptor (message.NewName flags creation name) body e h = absurd e
 tag_of_named side (message.Status s) body e h = absurd cc
 tag_of_named side (message.Complement high creation) body e h = absurd cc
 tag_of_named side (message.Reply challenge digest) body e h = absurd cc
 tag_of_named side (message.Ack digest) body e h = absurd cc
+tag_of_named side m body e h = absurd e
 
 -- the same for a message that was read
 pub named_has_tag : (side : Side) (body : List ℕ) (m : Message) → IsBytes body → read side body ≡ Ok m → IsTrue (has_name m) → IsTrue (has_name_tag body)

@@ -15,14 +15,14 @@ use Rattle.dist_messages.specs.Spelling.{Spells, is_said_by}
 use Rattle.dist_messages.specs.Canonical.{canonical, own_spelling}
 use Rattle.dist_messages.specs.Writing.{name_in, nameless, HasRow, IsPlain, IsWritten, HasNoRow, HasLongName, IsOtherStatus}
 
-abbrev fine : List ℕ → Result (List ℕ) MessageError
+abbrev pub fine : List ℕ → Result (List ℕ) MessageError
 fine x = Ok x
 
-abbrev refused : MessageError → Result (List ℕ) MessageError
+abbrev pub refused : MessageError → Result (List ℕ) MessageError
 refused e = Err e
 
 -- what an answer to a message says of it
-abbrev Judged : Side → Message → Result (List ℕ) MessageError → Type 0
+abbrev pub Judged : Side → Message → Result (List ℕ) MessageError → Type 0
 Judged side m (Ok body) = IsWritten side m body
 Judged side m (Err errors.UnknownTag) = HasNoRow side m
 Judged side m (Err errors.BadName) = HasLongName side m
@@ -34,20 +34,9 @@ Judged side m (Err e) = ⊥
 row_of : (side : Side) (m : Message) (body : List ℕ) → Spells side m body → HasRow side m
 row_of Dialler (message.OldName flags name) body s = record { body = canonical (nameless (message.OldName flags name)); row = (5, lit< tt, refl) }
 row_of Dialler (message.NewName flags creation name) body s = record { body = canonical (nameless (message.NewName flags creation name)); row = ([], lit< tt, sym (append-nil (canonical (message.NewName flags creation [])))) }
-row_of Dialler (message.Status t) body s = record { body = body; row = s }
-row_of Dialler (message.OldChallenge flags challenge name) body s = absurd s
-row_of Dialler (message.NewChallenge flags challenge creation name) body s = absurd s
-row_of Dialler (message.Complement high creation) body s = record { body = body; row = s }
-row_of Dialler (message.Reply challenge digest) body s = record { body = body; row = s }
-row_of Dialler (message.Ack digest) body s = absurd s
-row_of Acceptor (message.OldName flags name) body s = absurd s
-row_of Acceptor (message.NewName flags creation name) body s = absurd s
-row_of Acceptor (message.Status t) body s = record { body = body; row = s }
 row_of Acceptor (message.OldChallenge flags challenge name) body s = record { body = canonical (nameless (message.OldChallenge flags challenge name)); row = (5, lit< tt, refl) }
 row_of Acceptor (message.NewChallenge flags challenge creation name) body s = record { body = canonical (nameless (message.NewChallenge flags challenge creation name)); row = ([], lit< tt, sym (append-nil (canonical (message.NewChallenge flags challenge creation [])))) }
-row_of Acceptor (message.Complement high creation) body s = absurd s
-row_of Acceptor (message.Reply challenge digest) body s = absurd s
-row_of Acceptor (message.Ack digest) body s = record { body = body; row = s }
+row_of side m body s = record { body = body; row = s }
 
 no_bytes : (bytes : List ℕ) → length bytes ≡ 0 → bytes ≡ []
 no_bytes [] e = refl
@@ -68,13 +57,8 @@ plain_once Dialler (message.NewName flags creation name) body s p =
     let len : length body ≡ length (canonical (message.NewName flags creation name)) = p ∙ omega arith in
     none_behind (canonical (message.NewName flags creation name)) s.0 body s.2 len
 plain_once Dialler (message.Status t) body s p = s.1
-plain_once Dialler (message.OldChallenge flags challenge name) body s p = absurd s
-plain_once Dialler (message.NewChallenge flags challenge creation name) body s p = absurd s
 plain_once Dialler (message.Complement high creation) body s p = s
 plain_once Dialler (message.Reply challenge digest) body s p = s
-plain_once Dialler (message.Ack digest) body s p = absurd s
-plain_once Acceptor (message.OldName flags name) body s p = absurd s
-plain_once Acceptor (message.NewName flags creation name) body s p = absurd s
 plain_once Acceptor (message.Status t) body s p = s.1
 plain_once Acceptor (message.OldChallenge flags challenge name) body s p =
     let version : to_be_bytes w16 s.0 ≡ to_be_bytes w16 5 = sym (ap (λ (x : List ℕ). take 2 (drop 1 x)) s.2) ∙ p in
@@ -82,9 +66,8 @@ plain_once Acceptor (message.OldChallenge flags challenge name) body s p =
 plain_once Acceptor (message.NewChallenge flags challenge creation name) body s p =
     let len : length body ≡ length (canonical (message.NewChallenge flags challenge creation name)) = p ∙ omega arith in
     none_behind (canonical (message.NewChallenge flags challenge creation name)) s.0 body s.2 len
-plain_once Acceptor (message.Complement high creation) body s p = absurd s
-plain_once Acceptor (message.Reply challenge digest) body s p = absurd s
 plain_once Acceptor (message.Ack digest) body s p = s
+plain_once side m body s p = absurd s
 
 -- ---- each message
 
@@ -106,13 +89,8 @@ judged Dialler (message.NewName flags creation name) =
     named_judged Dialler (message.NewName flags creation name) (ltb 255 (length name)) refl (record { body = canonical (nameless (message.NewName flags creation name)); row = ([], lit< tt, sym (append-nil (canonical (message.NewName flags creation [])))) })
     (λ h. let few : length name < 2 ^ 16 = omega arith in record { spelled = ([], few, sym (append-nil (canonical (message.NewName flags creation name)))); plain = omega arith; short = h })
 judged Dialler (message.Status t) = status_judged Dialler t (is_said_by t Dialler) refl
-judged Dialler (message.OldChallenge flags challenge name) = record { no_status = λ s e. cc; no_row = λ r. r.row }
-judged Dialler (message.NewChallenge flags challenge creation name) = record { no_status = λ s e. cc; no_row = λ r. r.row }
 judged Dialler (message.Complement high creation) = record { spelled = refl; plain = tt; short = lit≤ tt }
 judged Dialler (message.Reply challenge digest) = record { spelled = refl; plain = tt; short = lit≤ tt }
-judged Dialler (message.Ack digest) = record { no_status = λ s e. cc; no_row = λ r. r.row }
-judged Acceptor (message.OldName flags name) = record { no_status = λ s e. cc; no_row = λ r. r.row }
-judged Acceptor (message.NewName flags creation name) = record { no_status = λ s e. cc; no_row = λ r. r.row }
 judged Acceptor (message.Status t) = status_judged Acceptor t (is_said_by t Acceptor) refl
 judged Acceptor (message.OldChallenge flags challenge name) =
     named_judged Acceptor (message.OldChallenge flags challenge name) (ltb 255 (length name)) refl (record { body = canonical (nameless (message.OldChallenge flags challenge name)); row = (5, lit< tt, refl) })
@@ -120,50 +98,37 @@ judged Acceptor (message.OldChallenge flags challenge name) =
 judged Acceptor (message.NewChallenge flags challenge creation name) =
     named_judged Acceptor (message.NewChallenge flags challenge creation name) (ltb 255 (length name)) refl (record { body = canonical (nameless (message.NewChallenge flags challenge creation name)); row = ([], lit< tt, sym (append-nil (canonical (message.NewChallenge flags challenge creation [])))) })
     (λ h. let few : length name < 2 ^ 16 = omega arith in record { spelled = ([], few, sym (append-nil (canonical (message.NewChallenge flags challenge creation name)))); plain = omega arith; short = h })
-judged Acceptor (message.Complement high creation) = record { no_status = λ s e. cc; no_row = λ r. r.row }
-judged Acceptor (message.Reply challenge digest) = record { no_status = λ s e. cc; no_row = λ r. r.row }
 judged Acceptor (message.Ack digest) = record { spelled = refl; plain = tt; short = lit≤ tt }
-
--- ---- each cause leads to its answer
-
-written_back : (side : Side) (m : Message) (body : List ℕ) → IsWritten side m body → (r : Result (List ℕ) MessageError) → Judged side m r → r ≡ Ok body
-written_back side m body h (Ok b) j = ap fine (plain_once side m b j.spelled j.plain ∙ sym (plain_once side m body h.spelled h.plain))
-written_back side m body h (Err errors.UnknownTag) j = absurd (j.no_row (row_of side m body h.spelled))
-written_back side m body h (Err errors.BadName) j = absurd (omega (arith, j.long, h.short))
-written_back side m body h (Err errors.UnknownStatus) j = absurd (j.no_row (row_of side m body h.spelled))
-written_back side m body h (Err e) j = absurd j
-
-tag_back : (side : Side) (m : Message) → HasNoRow side m → (r : Result (List ℕ) MessageError) → Judged side m r → r ≡ Err errors.UnknownTag
-tag_back side m h (Ok b) j = absurd (h.no_row (row_of side m b j.spelled))
-tag_back side m h (Err errors.UnknownTag) j = refl
-tag_back side m h (Err errors.BadName) j = absurd (h.no_row j.has_row)
-tag_back side m h (Err errors.UnknownStatus) j = absurd (h.no_status j.status j.is)
-tag_back side m h (Err e) j = absurd j
-
-name_back : (side : Side) (m : Message) → HasLongName side m → (r : Result (List ℕ) MessageError) → Judged side m r → r ≡ Err errors.BadName
-name_back side m h (Ok b) j = absurd (omega (arith, h.long, j.short))
-name_back side m h (Err errors.UnknownTag) j = absurd (j.no_row h.has_row)
-name_back side m h (Err errors.BadName) j = refl
-name_back side m h (Err errors.UnknownStatus) j = absurd (j.no_row h.has_row)
-name_back side m h (Err e) j = absurd j
-
-status_back : (side : Side) (m : Message) → IsOtherStatus side m → (r : Result (List ℕ) MessageError) → Judged side m r → r ≡ Err errors.UnknownStatus
-status_back side m h (Ok b) j = absurd (h.no_row (row_of side m b j.spelled))
-status_back side m h (Err errors.UnknownTag) j = absurd (j.no_status h.status h.is)
-status_back side m h (Err errors.BadName) j = absurd (h.no_row j.has_row)
-status_back side m h (Err errors.UnknownStatus) j = refl
-status_back side m h (Err e) j = absurd j
+judged side m = record { no_status = λ s e. cc; no_row = λ r. r.row }
 
 -- ---- each answer comes exactly where its cause holds
 
-pub written_law : (side : Side) (m : Message) (body : List ℕ) → (own_spelling side m ≡ Ok body) ↔ IsWritten side m body
-written_law side m body = (λ e. subst (Judged side m) e (judged side m), λ h. written_back side m body h (own_spelling side m) (judged side m))
+once : (side : Side) (m : Message) (r q : Result (List ℕ) MessageError) → Judged side m r → Judged side m q → r ≡ q
+once side m (Ok b) (Ok c) j k = ap fine (plain_once side m b j.spelled j.plain ∙ sym (plain_once side m c k.spelled k.plain))
+once side m (Ok b) (Err errors.UnknownTag) j k = absurd (k.no_row (row_of side m b j.spelled))
+once side m (Ok b) (Err errors.BadName) j k = absurd (omega (arith, j.short, k.long))
+once side m (Ok b) (Err errors.UnknownStatus) j k = absurd (k.no_row (row_of side m b j.spelled))
+once side m (Err errors.UnknownTag) (Ok c) j k = absurd (j.no_row (row_of side m c k.spelled))
+once side m (Err errors.UnknownTag) (Err errors.UnknownTag) j k = refl
+once side m (Err errors.UnknownTag) (Err errors.BadName) j k = absurd (j.no_row k.has_row)
+once side m (Err errors.UnknownTag) (Err errors.UnknownStatus) j k = absurd (j.no_status k.status k.is)
+once side m (Err errors.BadName) (Ok c) j k = absurd (omega (arith, j.long, k.short))
+once side m (Err errors.BadName) (Err errors.UnknownTag) j k = absurd (k.no_row j.has_row)
+once side m (Err errors.BadName) (Err errors.BadName) j k = refl
+once side m (Err errors.BadName) (Err errors.UnknownStatus) j k = absurd (k.no_row j.has_row)
+once side m (Err errors.UnknownStatus) (Ok c) j k = absurd (j.no_row (row_of side m c k.spelled))
+once side m (Err errors.UnknownStatus) (Err errors.UnknownTag) j k = absurd (k.no_status j.status j.is)
+once side m (Err errors.UnknownStatus) (Err errors.BadName) j k = absurd (j.no_row k.has_row)
+once side m (Err errors.UnknownStatus) (Err errors.UnknownStatus) j k = refl
+once side m (Ok b) (Err d) j k = absurd k
+once side m (Err errors.UnknownTag) (Err d) j k = absurd k
+once side m (Err errors.BadName) (Err d) j k = absurd k
+once side m (Err errors.UnknownStatus) (Err d) j k = absurd k
+once side m (Err e) q j k = absurd j
 
-pub tag_law : (side : Side) (m : Message) → (own_spelling side m ≡ Err errors.UnknownTag) ↔ HasNoRow side m
-tag_law side m = (λ e. subst (Judged side m) e (judged side m), λ h. tag_back side m h (own_spelling side m) (judged side m))
+pub answers_law : (side : Side) (m : Message) (r : Result (List ℕ) MessageError) → (own_spelling side m ≡ r) ↔ Judged side m r
+answers_law side m r = (λ e. subst (Judged side m) e (judged side m), λ h. once side m (own_spelling side m) r (judged side m) h)
 
-pub name_law : (side : Side) (m : Message) → (own_spelling side m ≡ Err errors.BadName) ↔ HasLongName side m
-name_law side m = (λ e. subst (Judged side m) e (judged side m), λ h. name_back side m h (own_spelling side m) (judged side m))
-
-pub status_law : (side : Side) (m : Message) → (own_spelling side m ≡ Err errors.UnknownStatus) ↔ IsOtherStatus side m
-status_law side m = (λ e. subst (Judged side m) e (judged side m), λ h. status_back side m h (own_spelling side m) (judged side m))
+-- what is written is one of the spellings
+pub written_is_spelled : (side : Side) (m : Message) (body : List ℕ) → own_spelling side m ≡ Ok body → Spells side m body
+written_is_spelled side m body e = let w : IsWritten side m body = subst (Judged side m) e (judged side m) in w.spelled

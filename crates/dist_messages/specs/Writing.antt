@@ -28,12 +28,9 @@ AnswersCheck m (Err error) answer = RefusedBut (is_message_memory_error error) e
 abbrev pub nameless : Message → Message
 nameless (message.OldName flags name) = message.OldName flags []
 nameless (message.NewName flags creation name) = message.NewName flags creation []
-nameless (message.Status s) = message.Status s
 nameless (message.OldChallenge flags challenge name) = message.OldChallenge flags challenge []
 nameless (message.NewChallenge flags challenge creation name) = message.NewChallenge flags challenge creation []
-nameless (message.Complement high creation) = message.Complement high creation
-nameless (message.Reply challenge digest) = message.Reply challenge digest
-nameless (message.Ack digest) = message.Ack digest
+nameless m = m
 
 -- this side has a row for the message, whatever its name
 pub record HasRow (side : Side) (m : Message) : Type 0 where

@@ -1,7 +1,6 @@
 //! Whether a side writes a message: the side has that kind of message, and the name has at most 255 bytes.
 
 ghost use Rattle.std.specs.Prelude.{◌≡◌};
-ghost use Rattle.dist_messages.specs.declared.message.Side.TheVariants.{Dialler, Acceptor};
 ghost use Rattle.dist_messages.specs.declared.message.Message.{Message};
 ghost use Rattle.dist_messages.specs.declared.message.Message.TheVariants as message;
 ghost use Rattle.dist_messages.specs.Canonical.{own_spelling, spelling_with_name};
@@ -30,37 +29,19 @@ fn check_status(side: Side, status: Status) -> Result<(), MessageError>
     Ok(())
 }
 
-fn check_diallers(message: &Message) -> Result<(), MessageError>
-    ensures { AnswersCheck message.now result (own_spelling Dialler message.now) }
-{
-    match message {
-        Message::OldName { name, .. } => check_name(name.as_slice()),
-        Message::NewName { name, .. } => check_name(name.as_slice()),
-        Message::Status(status) => check_status(Side::Dialler, *status),
-        Message::Complement { .. } => Ok(()),
-        Message::Reply { .. } => Ok(()),
-        _ => Err(MessageError::UnknownTag),
-    }
-}
-
-fn check_acceptors(message: &Message) -> Result<(), MessageError>
-    ensures { AnswersCheck message.now result (own_spelling Acceptor message.now) }
-{
-    match message {
-        Message::Status(status) => check_status(Side::Acceptor, *status),
-        Message::OldChallenge { name, .. } => check_name(name.as_slice()),
-        Message::NewChallenge { name, .. } => check_name(name.as_slice()),
-        Message::Ack { .. } => Ok(()),
-        _ => Err(MessageError::UnknownTag),
-    }
-}
-
 /// The first reason for which this side does not write the message, if there is one.
 pub fn check(side: Side, message: &Message) -> Result<(), MessageError>
     ensures { AnswersCheck message.now result (own_spelling side message.now) }
 {
-    match side {
-        Side::Dialler => check_diallers(message),
-        Side::Acceptor => check_acceptors(message),
+    match (side, message) {
+        (_, Message::Status(status)) => check_status(side, *status),
+        (Side::Dialler, Message::OldName { name, .. }) => check_name(name.as_slice()),
+        (Side::Dialler, Message::NewName { name, .. }) => check_name(name.as_slice()),
+        (Side::Dialler, Message::Complement { .. }) => Ok(()),
+        (Side::Dialler, Message::Reply { .. }) => Ok(()),
+        (Side::Acceptor, Message::OldChallenge { name, .. }) => check_name(name.as_slice()),
+        (Side::Acceptor, Message::NewChallenge { name, .. }) => check_name(name.as_slice()),
+        (Side::Acceptor, Message::Ack { .. }) => Ok(()),
+        _ => Err(MessageError::UnknownTag),
     }
 }

@@ -11,9 +11,7 @@ use crate::message_error::MessageError;
 pub fn u16_at(bytes: &[u8]) -> Result<(u16, &[u8]), MessageError>
     ensures { MatchResult result (λ x. number_at w16 bytes.now ≡ Some (x.0, x.1.now)) (IsShortOf (number_at w16 bytes.now)) }
 {
-    let Some((head, rest)) = bytes.split_first_chunk::<2>() else {
-        return Err(MessageError::Short);
-    };
+    let (head, rest) = bytes.split_first_chunk::<2>().ok_or(MessageError::Short)?;
     Ok((u16::from_be_bytes(*head), rest))
 }
 
@@ -21,9 +19,7 @@ pub fn u16_at(bytes: &[u8]) -> Result<(u16, &[u8]), MessageError>
 pub fn u32_at(bytes: &[u8]) -> Result<(u32, &[u8]), MessageError>
     ensures { MatchResult result (λ x. number_at w32 bytes.now ≡ Some (x.0, x.1.now)) (IsShortOf (number_at w32 bytes.now)) }
 {
-    let Some((head, rest)) = bytes.split_first_chunk::<4>() else {
-        return Err(MessageError::Short);
-    };
+    let (head, rest) = bytes.split_first_chunk::<4>().ok_or(MessageError::Short)?;
     Ok((u32::from_be_bytes(*head), rest))
 }
 
@@ -31,9 +27,7 @@ pub fn u32_at(bytes: &[u8]) -> Result<(u32, &[u8]), MessageError>
 pub fn u64_at(bytes: &[u8]) -> Result<(u64, &[u8]), MessageError>
     ensures { MatchResult result (λ x. number_at w64 bytes.now ≡ Some (x.0, x.1.now)) (IsShortOf (number_at w64 bytes.now)) }
 {
-    let Some((head, rest)) = bytes.split_first_chunk::<8>() else {
-        return Err(MessageError::Short);
-    };
+    let (head, rest) = bytes.split_first_chunk::<8>().ok_or(MessageError::Short)?;
     Ok((u64::from_be_bytes(*head), rest))
 }
 
@@ -41,9 +35,7 @@ pub fn u64_at(bytes: &[u8]) -> Result<(u64, &[u8]), MessageError>
 pub fn digest_at(bytes: &[u8]) -> Result<([u8; 16], &[u8]), MessageError>
     ensures { MatchResult result (λ x. bytes_at 16 bytes.now ≡ Some (x.0, x.1.now)) (IsShortOf (bytes_at 16 bytes.now)) }
 {
-    let Some((head, rest)) = bytes.split_first_chunk::<16>() else {
-        return Err(MessageError::Short);
-    };
+    let (head, rest) = bytes.split_first_chunk::<16>().ok_or(MessageError::Short)?;
     Ok((*head, rest))
 }
 

@@ -13,59 +13,42 @@ use std::alloc::{AllocError, Global};
 pub enum MessageView<'a> {
     /// The dialling side's name in the form of version 5.
     OldName {
-        /// The lower half of the flags.
         flags: u32,
-        /// The name, which may have no bytes.
         name: &'a [u8],
     },
     /// The dialling side's name in the form of version 6.
     NewName {
-        /// All flags.
         flags: Flags,
-        /// The incarnation of the node that sends this.
         creation: Creation,
-        /// The name, which may have no bytes.
         name: &'a [u8],
     },
     /// What one side answers to a name, or to `alive`.
     Status(Status),
     /// The accepting side's name and challenge in the form of version 5.
     OldChallenge {
-        /// The lower half of the flags.
         flags: u32,
-        /// The number that the dialling side has to digest.
         challenge: u32,
-        /// The name, which may have no bytes.
         name: &'a [u8],
     },
     /// The accepting side's name and challenge in the form of version 6.
     NewChallenge {
-        /// All flags.
         flags: Flags,
-        /// The number that the dialling side has to digest.
         challenge: u32,
-        /// The incarnation of the node that sends this.
         creation: Creation,
-        /// The name, which may have no bytes.
         name: &'a [u8],
     },
     /// What an old name left out.
     Complement {
-        /// The upper half of the flags.
         high: u32,
-        /// The incarnation of the node that sends this.
         creation: Creation,
     },
     /// The dialling side's answer to a challenge, and its own challenge.
     Reply {
-        /// The number that the accepting side has to digest.
         challenge: u32,
-        /// The digest of the cookie and the accepting side's challenge.
         digest: [u8; 16],
     },
     /// The accepting side's answer to the dialling side's challenge.
     Ack {
-        /// The digest of the cookie and the dialling side's challenge.
         digest: [u8; 16],
     },
 }

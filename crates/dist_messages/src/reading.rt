@@ -13,7 +13,7 @@ use crate::message::{Message, Side};
 use crate::message_error::MessageError;
 use crate::message_view::MessageView;
 use crate::reading_named::{read_new_challenge, read_new_name, read_old_challenge, read_old_name};
-use crate::status::{acceptors_status, diallers_status};
+use crate::status::status_named;
 use dist_names::Creation;
 use std::alloc::Global;
 
@@ -63,11 +63,8 @@ fn read_status(side: Side, text: &[u8]) -> Result<MessageView<'_>, MessageError>
     ensures exact { Answers message_of result (status_of side text.now) }
     ensures memory { ¬ (IsErrOf result MessageError.NoMemory) }
 {
-    let status = match side {
-        Side::Dialler => diallers_status(text),
-        Side::Acceptor => acceptors_status(text),
-    };
-    Ok(MessageView::Status(status.ok_or(MessageError::UnknownStatus)?))
+    let status = status_named(side, text).ok_or(MessageError::UnknownStatus)?;
+    Ok(MessageView::Status(status))
 }
 
 /// The message that a body of this side spells, read in place: the same that [`decode`] returns, without a copy of the name. It

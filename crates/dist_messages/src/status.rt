@@ -1,8 +1,9 @@
 //! The texts of statuses.
 
 ghost use Rattle.std.specs.Prelude.{◌≡◌};
+ghost use Rattle.std.specs.List.{find};
 ghost use Rattle.dist_messages.specs.Spelling.{text_of, is_said_by};
-ghost use Rattle.dist_messages.specs.Reading.{diallers_status, acceptors_status};
+ghost use Rattle.dist_messages.specs.Reading.{has_text, status_named};
 
 use crate::message::{Side, Status};
 
@@ -31,36 +32,36 @@ impl Status {
             _ => side == Side::Acceptor,
         }
     }
-}
 
-/// The status of the dialling side that has this text.
-pub fn diallers_status(text: &[u8]) -> Option<Status>
-    ensures { result ≡ diallers_status text.now }
-{
-    if text == b"true".as_slice() {
-        Some(Status::True)
-    } else if text == b"false".as_slice() {
-        Some(Status::False)
-    } else {
-        None
+    fn has_text(self, side: Side, text: &[u8]) -> bool
+        ensures { result ≡ has_text side text.now self }
+    {
+        self.is_said_by(side) && self.text() == text
     }
 }
 
-/// The status of the accepting side that has this text.
-pub fn acceptors_status(text: &[u8]) -> Option<Status>
-    ensures { result ≡ acceptors_status text.now }
+// The first of these that this side sends with this text.
+fn first_named(side: Side, text: &[u8], statuses: &[Status]) -> Option<Status>
+    ensures { result ≡ find (has_text side text.now) statuses.now }
 {
-    if text == b"ok".as_slice() {
-        Some(Status::Ok)
-    } else if text == b"ok_simultaneous".as_slice() {
-        Some(Status::OkSimultaneous)
-    } else if text == b"nok".as_slice() {
-        Some(Status::Nok)
-    } else if text == b"not_allowed".as_slice() {
-        Some(Status::NotAllowed)
-    } else if text == b"alive".as_slice() {
-        Some(Status::Alive)
-    } else {
-        None
-    }
+    statuses
+        .iter()
+        .copied()
+        .find(|status| status.has_text(side, text))
+}
+
+/// The status of this side that has this text.
+pub fn status_named(side: Side, text: &[u8]) -> Option<Status>
+    ensures { result ≡ status_named side text.now }
+{
+    let all = [
+        Status::Ok,
+        Status::OkSimultaneous,
+        Status::Nok,
+        Status::NotAllowed,
+        Status::Alive,
+        Status::True,
+        Status::False,
+    ];
+    first_named(side, text, &all)
 }

@@ -16,9 +16,6 @@ below m n h = grind (arith, nat_tests)
 pub is_below : (m n : ℕ) → m < n → nat_lt m n ≡ true
 is_below m n h = grind (arith, nat_tests)
 
-within : (m n : ℕ) → nat_le m n ≡ true → m ≤ n
-within m n h = grind (arith, nat_tests)
-
 is_within : (m n : ℕ) → m ≤ n → nat_le m n ≡ true
 is_within m n h = grind (arith, nat_tests)
 
@@ -57,12 +54,9 @@ short_numeral : (word : List ℕ) → AllDigits 16 word → length word ≤ 16 �
 short_numeral word digits short = let most : 16 ^ length word ≤ 16 ^ 16 = pow-le-pow_right {n = 16} (omega arith) short in omega (arith, digits_value-lt 16 word digits, most)
 
 -- flags are read exactly where the word has 1 to 16 hexadecimal digits
-pub short_read : (r : Option ℕ) (word : List ℕ) → length word ≤ 16 → SomeIff r (IsNumeral 16 word × (digits_value 16 word < 2 ^ 64)) (digits_value 16 word) → SomeIff r (IsNumeral 16 word × (length word ≤ 16)) (digits_value 16 word)
-short_read None word short h = λ p. h (p.0, short_numeral word p.0.1 short)
-short_read (Some v) word short h = ((h.0.0, short), h.1)
-
-pub flags_read : (word : List ℕ) (r : Option ℕ) → SomeIff r (IsNumeral 16 word × (length word ≤ 16)) (digits_value 16 word) → r ≡ (if is_numeral 16 word && nat_le (length word) 16 then Some (digits_value 16 word) else None)
-flags_read word =
-    by_test (IsNumeral 16 word × (length word ≤ 16)) (is_numeral 16 word && nat_le (length word) 16) (digits_value 16 word)
-    (λ e. let p = and_parts (is_numeral 16 word) (nat_le (length word) 16) e in (numeral 16 word p.0, within (length word) 16 p.1))
-    (λ p. both (is_numeral 16 word) (nat_le (length word) 16) (a_numeral 16 word p.0) (is_within (length word) 16 p.1))
+pub flags_read : (word : List ℕ) (r : Option ℕ) → length word ≤ 16 → SomeIff r (IsNumeral 16 word × (digits_value 16 word < 2 ^ 64)) (digits_value 16 word)
+    → r ≡ (if is_numeral 16 word && nat_le (length word) 16 then Some (digits_value 16 word) else None)
+flags_read word r short =
+    by_test (IsNumeral 16 word × (digits_value 16 word < 2 ^ 64)) (is_numeral 16 word && nat_le (length word) 16) (digits_value 16 word)
+    (λ e. let n = numeral 16 word (and_parts (is_numeral 16 word) (nat_le (length word) 16) e).0 in (n, short_numeral word n.1 short))
+    (λ p. both (is_numeral 16 word) (nat_le (length word) 16) (a_numeral 16 word p.0) (is_within (length word) 16 short)) r

@@ -4,7 +4,7 @@ use Rattle.std.specs.Prelude.{IfSome}
 use Rattle.std.specs.List.{find}
 use Rattle.std.specs.Cmp.Lexicographic.{pointwise, same_text}
 
-found-passes : {A : Type 0} (test : A → Bool) (P : A → Type 0) → ((x : A) → test x ≡ true → P x) → (all : List A) → IfSome (find test all) P
+pub found-passes : {A : Type 0} (test : A → Bool) (P : A → Type 0) → ((x : A) → test x ≡ true → P x) → (all : List A) → IfSome (find test all) P
 found-passes test P h [] = tt
 found-passes test P h (x ∷ all) =
     elim (test x) as (λ b. test x ≡ b → IfSome (cond b (Some x) (find test all)) P) [ true ↦ λ e. h x e | false ↦ λ e. found-passes test P h all ] refl

@@ -82,9 +82,11 @@ pub fn escape_lines(alloc: Global, bytes: &[u8]) -> Result<String, AllocError>
     Ok(text)
 }
 
-// The escapes of the bytes between double quotes.
-fn between_quotes(alloc: Global, bytes: &[u8]) -> Result<String, AllocError>
-    ensures { IfOk result (λ text. string_bytes text ≡ in_double_quotes bytes.now) }
+/// The bytes between double quotes, escaped as by `escape`, and a double quote among them as `\x22`, so that one sees where they
+/// end.
+pub fn quote(alloc: Global, bytes: &[u8]) -> Result<String, AllocError>
+    ensures text { IfOk result (λ text. string_bytes text ≡ in_double_quotes bytes.now) }
+    ensures printable { IfOk result (λ text. All IsPrintable (string_bytes text)) }
 {
     let mut text = String::from_str(alloc, "\"")?;
     for byte in bytes {
@@ -92,13 +94,4 @@ fn between_quotes(alloc: Global, bytes: &[u8]) -> Result<String, AllocError>
     }
     text.push('"')?;
     Ok(text)
-}
-
-/// The bytes between double quotes, escaped as by `escape`, and a double quote among them as `\x22`, so that one sees where they
-/// end.
-pub fn quote(alloc: Global, bytes: &[u8]) -> Result<String, AllocError>
-    ensures text { IfOk result (λ text. string_bytes text ≡ in_double_quotes bytes.now) }
-    ensures printable { IfOk result (λ text. All IsPrintable (string_bytes text)) }
-{
-    between_quotes(alloc, bytes)
 }

@@ -19,10 +19,10 @@ use std::sync::Arc;
 /// copy takes no further memory.
 #[derive(Debug, Drop)]
 pub struct NodeName {
-    // The first eight bytes as a number, which decides most comparisons without a look at the text.
-    front: u64,
-    // The next eight: of nodes of one short name, as a cluster has them, these decide most.
-    next: u64,
+    // The first sixteen bytes as a number, which decides most comparisons without a look at the text.
+    front: u128,
+    // The next sixteen: of nodes of one short name, as a cluster has them, these decide most.
+    next: u128,
     text: Arc<SmallVec<u8, 32>>,
 }
 
@@ -105,7 +105,7 @@ impl NodeName {
     }
 
     // Its first bytes as a number.
-    pub(crate) fn front(&self) -> u64
+    pub(crate) fn front(&self) -> u128
         ensures same { result ≡ front_number self.now }
         ensures good { IsNodeName self.now }
     {
@@ -113,7 +113,7 @@ impl NodeName {
     }
 
     // Its next bytes as a number.
-    pub(crate) fn next(&self) -> u64
+    pub(crate) fn next(&self) -> u128
         ensures same { result ≡ next_number self.now }
         ensures good { IsNodeName self.now }
     {

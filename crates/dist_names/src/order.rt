@@ -1,5 +1,5 @@
-//! Names are compared as strings of unsigned bytes, a proper prefix being smaller (our own choice). Their first
-//! bytes are compared as numbers, and their texts only where these are equal, eight bytes at a time.
+//! Names are compared as strings of unsigned bytes, a proper prefix being smaller (our own choice). Their first 32 bytes are
+//! compared as two numbers, and what stands behind these only where both are equal, sixteen bytes at a time.
 
 ghost use Rattle.std.specs.Prelude.{◌≡◌, ◌==◌};
 ghost use Rattle.std.proofs.Common.{rules};
@@ -14,15 +14,21 @@ use crate::front::front_number;
 use crate::name::NodeName;
 use std::cmp::Ordering;
 
-// The order of two texts. Eight bytes with which both begin don't count.
+// The order of two texts, sixteen bytes at a time. Sixteen with which both begin don't count. It stays a call of its own, so that two
+// numbers are compared without the room that this takes.
+#[inline(never)]
 fn order_of(ours: &[u8], theirs: &[u8]) -> Ordering
     requires bytes { IsBytes ours.now × IsBytes theirs.now }
     ensures { result ≡ name_cmp ours.now theirs.now }
 {
-    if ours.len() < 8 || theirs.len() < 8 || front_number(ours) != front_number(theirs) {
+    if ours.len() < 16 || theirs.len() < 16 {
         return ours.cmp(theirs);
     }
-    order_of(&ours[8..], &theirs[8..])
+    let (our_front, their_front) = (front_number(ours), front_number(theirs));
+    if our_front != their_front {
+        return our_front.cmp(&their_front);
+    }
+    order_of(&ours[16..], &theirs[16..])
 }
 
 impl PartialEq for NodeName {
@@ -57,7 +63,11 @@ impl Ord for NodeName {
         if our_next != their_next {
             return our_next.cmp(&their_next);
         }
-        order_of(self.bytes(), other.bytes())
+        let (our_text, their_text) = (self.bytes(), other.bytes());
+        if our_text.len() < 32 || their_text.len() < 32 {
+            return our_text.cmp(their_text);
+        }
+        order_of(&our_text[32..], &their_text[32..])
     }
 }
 

@@ -73,18 +73,6 @@ pub fn put_row(
     }
 }
 
-/// Gives another entry to a name that has one. It takes no memory.
-pub fn set_row(entries: &mut BTreeMap<NodeName, Entry>, name: &NodeName, entry: Entry)
-    requires there { IsSome (get name_cmp entries.old name.now) }
-    ensures changed { Updates name_cmp entries.old entries.new name.now (Some entry) }
-    ensures len { btree_map_len entries.new ≡ btree_map_len entries.old }
-    ensures ordered { IsOrdered name_cmp entries.new }
-{
-    if let Some(place) = entries.get_mut(name) {
-        *place = entry;
-    }
-}
-
 /// Gives another entry to a name that has one, and returns the old one. It takes no memory.
 pub fn change_row(
     entries: &mut BTreeMap<NodeName, Entry>,

@@ -6,10 +6,10 @@ ghost use Rattle.dist_peers.specs.Table.{entry_of, is_waiting, replaced_by, left
 ghost use Rattle.dist_peers.specs.Verdicts.{is_full, is_greater, ruling, table_after_dial, table_after_name, verdict_on, Does};
 
 use crate::by_name::{
-    change_row, drop_row, entry_in, leave_row, put_row, row_at, set_row, up_behind, up_count, up_in,
+    change_row, drop_row, entry_in, leave_row, put_row, row_at, up_behind, up_count, up_in,
 };
 use crate::entry::{EndId, Entry, PeersError, Verdict};
-use crate::verdict::{left_over, replaced_end, ruling_of, verdict_by, waits_for};
+use crate::verdict::{left_over, replaced_end, ruling_of, waits_for};
 use dist_names::NodeName;
 use std::alloc::{AllocError, Global};
 use std::collections::BTreeMap;
@@ -29,13 +29,12 @@ pub struct Peers {
 }
 
 impl Model for Peers {
-    ghost use Rattle.std.specs.Prelude.{◌≡◌, true};
+    ghost use Rattle.std.specs.BTreeMap.{IsOrdered};
     ghost use Rattle.std.specs.FinMap as map;
     ghost use Rattle.std.specs.Coded.{coded_list, coded_ℕ};
     ghost use Rattle.dist_names.specs.Order.{name_cmp};
     ghost use Rattle.dist_peers.specs.declared.entry.Entry.{Entry};
     ghost use Rattle.dist_peers.specs.contracts.entry.Entry as entry;
-    ghost use Rattle.dist_peers.specs.Rows.{IsInOrder};
 
     ghost Value = { map.FinMap name_cmp Entry };
 
@@ -43,7 +42,7 @@ impl Model for Peers {
 
     ghost view = { λ p. map.from_sorted p.by_name.entries };
 
-    ghost invariant = { λ p. IsInOrder p.by_name.entries };
+    ghost invariant = { λ p. IsOrdered name_cmp p.by_name };
 }
 
 impl Peers {
@@ -135,7 +134,7 @@ impl Peers {
     pub fn verdict(&self, me: &NodeName, peer: &NodeName, id: EndId) -> Verdict
         ensures { result ≡ verdict_on self.now me.now peer.now id }
     {
-        verdict_by(me, peer, id, self.entry(peer))
+        ruling_of(me.cmp(peer).is_gt(), id, self.entry(peer)).verdict
     }
 
     /// A dial to this peer begins on this end: the idle peer's entry becomes `Out`.
@@ -213,7 +212,7 @@ impl Peers {
         let was = self.put(peer, Entry::In(id))?;
         if was.is_some() {
             let ruling = ruling_of(me.cmp(peer).is_gt(), id, was);
-            self.set(peer, ruling.entry);
+            let _ = self.change(peer, ruling.entry);
         }
         Ok(())
     }
@@ -238,7 +237,9 @@ impl Peers {
         ensures others { OthersStay peer.now self.old self.new }
     {
         match left_over(self.entry(peer), id) {
-            Some(entry) => self.set(peer, entry),
+            Some(entry) => {
+                let _ = self.change(peer, entry);
+            }
             None => self.remove(peer),
         }
     }
@@ -259,14 +260,6 @@ impl Peers {
         ensures err { OnErr result (self.new ≡ self.old) }
     {
         put_row(&mut self.by_name, self.alloc, peer, entry)
-    }
-
-    // Gives another entry to a peer that has one.
-    fn set(&mut self, peer: &NodeName, entry: Entry)
-        requires { IsSome (entry_of self.old peer.now) }
-        ensures { self.new ≡ map.insert self.old peer.now entry }
-    {
-        set_row(&mut self.by_name, peer, entry);
     }
 
     // Gives another entry to a peer that has one, and returns the old one.

@@ -72,14 +72,10 @@ pub record Exchanges (text : List ℕ) (h : ReceivedMessage) (old new : StreamSt
 abbrev pub Asks : List ℕ → ReceivedMessage → StreamState → StreamState → ℕ → ℕ → Type 0
 Asks text h old new turns left = (Rests old new turns left × (h ≡ heard.NoMemory)) ⊎ Exchanges text h old new turns left
 
--- the bytes of `false`, or a first part of them where the stream takes no more
-pub record SaysFalse (old new : StreamState) (turns left : ℕ) : Type 0 where
-  pub stop : Option TurnError
-  pub said : SaysFront old new turns left stop (status_text status.False)
-
--- after `alive` the answer is `false`, so that the node keeps the connection that it has; after any other refusal nothing is sent
+-- after `alive` the answer is `false`, or a first part of it where the stream takes no more, so that the node keeps the connection that
+-- it has; after any other refusal nothing is sent
 abbrev pub Leaves : ProbeVerdict → StreamState → StreamState → ℕ → ℕ → Type 0
-Leaves verdict.AlreadyUp old new turns left = SaysFalse old new turns left
+Leaves verdict.AlreadyUp old new turns left = (stop : Option TurnError) × SaysFront old new turns left stop (status_text status.False)
 Leaves other old new turns left = Rests old new turns left
 
 -- ---- the talk, from its end back to its beginning
@@ -91,15 +87,11 @@ pub record Replies (setup : Setup) (target : List ℕ)
   pub asked : Asks (reply_text setup form.New target fresh challenge) third old new turns left
   pub is : outcome ≡ outcome_of (ack_verdict (lacking setup) (own_digest setup target fresh) third)
 
--- after the challenge of the node that was dialled: a reply where one is to be made
-abbrev pub BehindChallenge : Bool → Setup → List ℕ → ℕ → ℕ → StreamState → StreamState → ℕ → ℕ → Result (Unit {0}) ProbeVerdict → Type 0
-BehindChallenge false setup target fresh challenge old new turns left outcome = Rests old new turns left × (outcome ≡ Err verdict.Reached)
-BehindChallenge true setup target fresh challenge old new turns left outcome = Replies setup target fresh challenge old new turns left outcome
-
--- after what was received where the challenge was due
+-- after what was received where the challenge was due: after that of the node that was dialled a reply, where one is to be made
 abbrev pub Decides : Option ProbeVerdict → Bool → Setup → List ℕ → ℕ → ℕ → StreamState → StreamState → ℕ → ℕ → Result (Unit {0}) ProbeVerdict → Type 0
 Decides (Some v) replies setup target fresh challenge old new turns left outcome = Rests old new turns left × (outcome ≡ Err v)
-Decides None replies setup target fresh challenge old new turns left outcome = BehindChallenge replies setup target fresh challenge old new turns left outcome
+Decides None false setup target fresh challenge old new turns left outcome = Rests old new turns left × (outcome ≡ Err verdict.Reached)
+Decides None true setup target fresh challenge old new turns left outcome = Replies setup target fresh challenge old new turns left outcome
 
 -- The status let the handshake go on: one message was received where the challenge is due, and the table says how it goes on.
 pub record GoesOn (replies : Bool) (setup : Setup) (target : List ℕ) (fresh : ℕ) (old new : StreamState) (turns left : ℕ) (report : Report) : Type 0 where

@@ -6,7 +6,6 @@ use Rattle.dist_frames.specs.Stream.{body_frame}
 use Rattle.dist_messages.specs.Spelling.{Spells}
 use Rattle.dist_messages.specs.Causes.{IsCause}
 use Rattle.dist_messages.specs.declared.message.Side.TheVariants.{Acceptor}
-use Rattle.dist_messages.specs.declared.message.Message.{Message}
 use Rattle.dist_stream.specs.Stream.{StreamState}
 use Rattle.dist_stream.specs.Turns.{Hears}
 use Rattle.dist_stream.specs.declared.turn_error.TurnError.{TurnError}
@@ -28,10 +27,6 @@ heard_instead fault.WriteFailed count = heard.Broken
 heard_instead fault.Ended count = heard.Gone
 heard_instead fault.Limit count = heard.Silent count
 
--- The bytes are the frame of a message of the accepting side.
-abbrev pub Frames : Message → List ℕ → Type 0
-Frames m bytes = (body : List ℕ) × (bytes ≡ body_frame w16 body) × Spells Acceptor m body
-
 -- a body, and what is received in it
 abbrev pub IsHeardIn : ReceivedMessage → List ℕ → Type 0
 IsHeardIn (heard.Said m) body = Spells Acceptor m body
@@ -41,11 +36,9 @@ IsHeardIn other body = ⊥
 
 -- what these bytes are read as, where no read failed
 abbrev pub IsWhole : ReceivedMessage → List ℕ → Type 0
-IsWhole (heard.Said m) bytes = Frames m bytes
-IsWhole (heard.NoMessage error) bytes = (body : List ℕ) × (bytes ≡ body_frame w16 body) × IsCause Acceptor body error
 IsWhole (heard.Length front) bytes = (first : ℕ) × (bytes ≡ number w16 front ++ first ∷ []) × (is_one_of tags first ≡ false)
 IsWhole heard.NoMemory bytes = Unit {0}
-IsWhole other bytes = ⊥
+IsWhole h bytes = (body : List ℕ) × (bytes ≡ body_frame w16 body) × IsHeardIn h body
 
 -- these bytes came, and this was received: a message, or that the stream gave no more inside a frame
 abbrev pub IsHeardAs : Option TurnError → ReceivedMessage → List ℕ → Type 0

@@ -6,6 +6,5 @@ pub mod Verdicts
 pub mod Hearing
 pub mod Ending
 pub mod Unreached
-pub mod Places
 pub mod Reaching
 pub mod Sentences

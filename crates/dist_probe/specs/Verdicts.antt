@@ -21,10 +21,6 @@ use Rattle.dist_probe.specs.Styles.{style_of}
 abbrev pub not_allowed : Bool → Flags → ProbeVerdict
 not_allowed is_own lacking = if is_own then verdict.OwnName else if lacking.0 == 0 then verdict.NotOnList else verdict.LacksFlags party.Probe lacking
 
--- `nok`: the name is the node's own, or the node is dialling it just now
-abbrev pub refused_nok : Bool → ProbeVerdict
-refused_nok is_own = if is_own then verdict.OwnName else verdict.Busy
-
 -- the flags of the node that was dialled: each release refuses them, and OTP 23 requires the least; or some release accepts them
 abbrev pub flags_verdict : Flags → Option ProbeVerdict
 flags_verdict flags =
@@ -40,11 +36,11 @@ verdict_of_other a heard.Broken = verdict.Reset a
 verdict_of_other a (heard.Silent count) = verdict.Silent a count
 verdict_of_other a heard.NoMemory = verdict.NoMemory
 
--- after the own name
+-- after the own name; `nok`: the name is the node's own, or the node is dialling it just now
 abbrev pub status_verdict : Bool → Flags → ReceivedMessage → Option ProbeVerdict
 status_verdict is_own lacking (heard.Said (message.Status status.Ok)) = None
 status_verdict is_own lacking (heard.Said (message.Status status.OkSimultaneous)) = None
-status_verdict is_own lacking (heard.Said (message.Status status.Nok)) = Some (refused_nok is_own)
+status_verdict is_own lacking (heard.Said (message.Status status.Nok)) = Some (if is_own then verdict.OwnName else verdict.Busy)
 status_verdict is_own lacking (heard.Said (message.Status status.NotAllowed)) = Some (not_allowed is_own lacking)
 status_verdict is_own lacking (heard.Said (message.Status status.Alive)) = Some verdict.AlreadyUp
 status_verdict is_own lacking other = Some (verdict_of_other awaited.Status other)

@@ -3,8 +3,8 @@
 ghost use Rattle.std.specs.Prelude.{◌≡◌, Err, IfErr, IsOk, None};
 ghost use Rattle.dist_messages.specs.declared.form.Form.TheVariants as form;
 ghost use Rattle.dist_core_setup.specs.Saying.{name_text, reply_text};
-ghost use Rattle.dist_probe.specs.Ending.{Asks, BehindChallenge, Ends, Exchanges, GoesOn, Leaves};
-ghost use Rattle.dist_probe.specs.Ending.{SaysFalse, challenge_in, lacking, outcome_of, peer_in, status_in};
+ghost use Rattle.dist_probe.specs.Ending.{Asks, Decides, Ends, Exchanges, GoesOn, Leaves};
+ghost use Rattle.dist_probe.specs.Ending.{challenge_in, lacking, outcome_of, peer_in, status_in};
 
 use crate::hearing::{ReceivedMessage, hear, heard_instead};
 use crate::judging::{ack_verdict, challenge_verdict, status_verdict};
@@ -156,14 +156,6 @@ fn reply<S: Stream>(
 // The frame of `false`, which takes no memory.
 const FALSE: [u8; 8] = [0, 6, 0x73, 0x66, 0x61, 0x6c, 0x73, 0x65];
 
-// Sends `false`, so that the node keeps the connection that it has with the own name.
-fn leave_alone<S: Stream>(limited: &mut Limited<'_, S>)
-    ensures says { SaysFalse (S.meaning limited.old.stream.now) (S.meaning limited.new.stream.now) limited.old.left limited.new.left }
-    ensures loan { limited.new.stream.ghost_name ≡ limited.old.stream.ghost_name }
-{
-    let _ = limited.write_all(&FALSE);
-}
-
 // What the challenge of the node that was dialled leads to.
 fn answer_challenge<S: Stream>(
     alloc: Global,
@@ -174,7 +166,7 @@ fn answer_challenge<S: Stream>(
     replies: bool,
     challenge: u32,
 ) -> Result<(), ProbeVerdict>
-    ensures tries { BehindChallenge replies setup.now target.now fresh challenge
+    ensures tries { Decides None replies setup.now target.now fresh challenge
         (S.meaning limited.old.stream.now) (S.meaning limited.new.stream.now) limited.old.left limited.new.left result }
     ensures loan { limited.new.stream.ghost_name ≡ limited.old.stream.ghost_name }
 {
@@ -212,6 +204,14 @@ fn go_on<S: Stream>(
         peer: peer_in(heard),
         outcome,
     }
+}
+
+// Sends `false`, so that the node keeps the connection that it has with the own name.
+fn leave_alone<S: Stream>(limited: &mut Limited<'_, S>)
+    ensures says { Leaves ProbeVerdict.AlreadyUp (S.meaning limited.old.stream.now) (S.meaning limited.new.stream.now) limited.old.left limited.new.left }
+    ensures loan { limited.new.stream.ghost_name ≡ limited.old.stream.ghost_name }
+{
+    let _ = limited.write_all(&FALSE);
 }
 
 // Ends a talk that the node refused after the own name.

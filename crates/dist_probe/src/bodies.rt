@@ -1,11 +1,13 @@
 //! One frame, read where what comes may not be a frame at all.
 
-ghost use Rattle.std.specs.Prelude.{◌≡◌, ◌<◌, ◌∷◌, IfErr, IfOk, length};
-ghost use Rattle.dist_probe.specs.Bodies.{Fills, HearsBehind, HearsByte, HearsFrameOf, HearsLen, HearsRest};
+ghost use Rattle.std.specs.Prelude.{◌≡◌, ◌<◌, IfErr, length};
+ghost use Rattle.std.specs.Int.{w16};
+ghost use Rattle.dist_names.specs.Bytes.{number};
+ghost use Rattle.dist_probe.specs.Bodies.{Fills, HearsBehind, HearsFrameOf};
 
 use dist_names::ByteString;
 use dist_stream::{Limited, Stream, TurnError};
-use std::alloc::{AllocError, Global};
+use std::alloc::Global;
 
 /// What came where a frame was awaited.
 #[derive(Drop)]
@@ -37,53 +39,12 @@ fn fill<S: Stream>(limited: &mut Limited<'_, S>, room: &mut [u8]) -> Result<(), 
     Ok(())
 }
 
-// Reads the length of the next frame into the header.
-fn read_len<S: Stream>(
-    limited: &mut Limited<'_, S>,
-    header: &mut [u8],
-) -> Result<u16, (TurnError, usize)>
-    requires { length header.old ≡ 2 }
-    ensures hears { HearsLen (S.meaning limited.old.stream.now) (S.meaning limited.new.stream.now) limited.old.left limited.new.left result }
-    ensures loan { limited.new.stream.ghost_name ≡ limited.old.stream.ghost_name }
+// The number in the two bytes of a length.
+#[tactic(auto, using(std::proofs::lemmas::Nat::be_bytes_2))]
+fn header_length(header: [u8; 2]) -> u16
+    ensures { number w16 result ≡ header }
 {
-    fill(limited, header)?;
-    Ok(u16::from_be_bytes([header[0], header[1]]))
-}
-
-fn read_byte<S: Stream>(limited: &mut Limited<'_, S>) -> Result<u8, TurnError>
-    ensures hears { HearsByte (S.meaning limited.old.stream.now) (S.meaning limited.new.stream.now) limited.old.left limited.new.left result }
-    ensures loan { limited.new.stream.ghost_name ≡ limited.old.stream.ghost_name }
-{
-    let mut byte = [0u8; 1];
-    limited.read_exact(&mut byte)?;
-    Ok(byte[0])
-}
-
-// The body of this tag and this rest.
-fn body_of(alloc: Global, tag: u8, rest: &[u8]) -> Result<ByteString, AllocError>
-    ensures { IfOk result (λ body. body ≡ tag ∷ rest.now) }
-{
-    let mut body = ByteString::from_slice(alloc, &[tag])?;
-    body.append(rest)?;
-    Ok(body)
-}
-
-// Reads the rest of a body of this many bytes, whose first byte is this tag.
-fn read_rest<S: Stream>(alloc: Global, limited: &mut Limited<'_, S>, len: u16, tag: u8) -> Came
-    requires { 0 < len }
-    ensures hears { HearsRest (S.meaning limited.old.stream.now) (S.meaning limited.new.stream.now) limited.old.left limited.new.left len tag result }
-    ensures loan { limited.new.stream.ghost_name ≡ limited.old.stream.ghost_name }
-{
-    let Ok(mut rest) = vec![in alloc; 0u8; len as usize - 1] else {
-        return Came::NoMemory;
-    };
-    if let Err((fault, at)) = fill(limited, &mut rest) {
-        return Came::Stopped(fault, at + 3);
-    }
-    match body_of(alloc, tag, &rest) {
-        Ok(body) => Came::Body(body),
-        Err(AllocError) => Came::NoMemory,
-    }
+    u16::from_be_bytes(header)
 }
 
 // Reads what stands behind a length: this many bytes where one of these tags begins them, else only the first.
@@ -97,15 +58,19 @@ fn read_behind<S: Stream>(
     ensures hears { HearsBehind (S.meaning limited.old.stream.now) (S.meaning limited.new.stream.now) limited.old.left limited.new.left len tags.now result }
     ensures loan { limited.new.stream.ghost_name ≡ limited.old.stream.ghost_name }
 {
-    match read_byte(limited) {
-        Ok(tag) => {
-            if tags.contains(&tag) {
-                read_rest(alloc, limited, len, tag)
-            } else {
-                Came::Front(len)
-            }
-        }
-        Err(fault) => Came::Stopped(fault, 2),
+    let mut tag = [0];
+    if let Err((fault, _)) = fill(limited, &mut tag) {
+        return Came::Stopped(fault, 2);
+    }
+    if !tags.contains(&tag[0]) {
+        return Came::Front(len);
+    }
+    let Ok(mut body) = vec![in alloc; tag[0]; len as usize] else {
+        return Came::NoMemory;
+    };
+    match fill(limited, &mut body[1..]) {
+        Ok(()) => Came::Body(ByteString::from_vec(body)),
+        Err((fault, at)) => Came::Stopped(fault, at + 3),
     }
 }
 
@@ -118,9 +83,12 @@ pub fn read_frame_of<S: Stream>(alloc: Global, limited: &mut Limited<'_, S>, tag
     ensures hears { HearsFrameOf (S.meaning limited.old.stream.now) (S.meaning limited.new.stream.now) limited.old.left limited.new.left tags.now result }
     ensures loan { limited.new.stream.ghost_name ≡ limited.old.stream.ghost_name }
 {
-    match read_len(limited, &mut [0; 2]) {
-        Ok(0) => Came::Body(ByteString::new(alloc)),
-        Ok(len) => read_behind(alloc, limited, len, tags),
-        Err((fault, at)) => Came::Stopped(fault, at),
+    let mut header = [0; 2];
+    if let Err((fault, at)) = fill(limited, &mut header) {
+        return Came::Stopped(fault, at);
+    }
+    match header_length(header) {
+        0 => Came::Body(ByteString::new(alloc)),
+        len => read_behind(alloc, limited, len, tags),
     }
 }

@@ -1,7 +1,7 @@
 //! The table of verdicts: what it means that this was received.
 
 ghost use Rattle.std.specs.Prelude.{◌≡◌};
-ghost use Rattle.dist_probe.specs.Verdicts.{ack_verdict, challenge_verdict, flags_verdict, not_allowed, verdict_of_other, refused_nok, status_verdict};
+ghost use Rattle.dist_probe.specs.Verdicts.{ack_verdict, challenge_verdict, flags_verdict, not_allowed, verdict_of_other, status_verdict};
 
 use crate::hearing::ReceivedMessage;
 use crate::names::style_of;
@@ -20,17 +20,6 @@ fn meaning_of_not_allowed(is_own: bool, lacking: Flags) -> ProbeVerdict
         ProbeVerdict::NotOnList
     } else {
         ProbeVerdict::LacksFlags(Party::Probe, lacking)
-    }
-}
-
-// What `nok` means.
-fn refused_nok(is_own: bool) -> ProbeVerdict
-    ensures { result ≡ refused_nok is_own }
-{
-    if is_own {
-        ProbeVerdict::OwnName
-    } else {
-        ProbeVerdict::Busy
     }
 }
 
@@ -69,7 +58,8 @@ pub fn status_verdict(is_own: bool, lacking: Flags, heard: &ReceivedMessage) -> 
     match heard {
         ReceivedMessage::Said(Message::Status(status)) => match status {
             Status::Ok | Status::OkSimultaneous => None,
-            Status::Nok => Some(refused_nok(is_own)),
+            Status::Nok if is_own => Some(ProbeVerdict::OwnName),
+            Status::Nok => Some(ProbeVerdict::Busy),
             Status::NotAllowed => Some(meaning_of_not_allowed(is_own, lacking)),
             Status::Alive => Some(ProbeVerdict::AlreadyUp),
             Status::True | Status::False => Some(ProbeVerdict::Unexpected(AwaitedMessage::Status)),

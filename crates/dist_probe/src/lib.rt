@@ -11,7 +11,6 @@ mod hearing;
 mod judging;
 mod knocking;
 mod names;
-mod places;
 mod reaching;
 mod service;
 mod unreached;

@@ -69,13 +69,6 @@ pub fn is_found(verdict: ProbeVerdict) -> bool
     12 <= reach(verdict)
 }
 
-// Whether the first of the two got further.
-fn is_further(first: ProbeVerdict, second: ProbeVerdict) -> bool
-    ensures { result ≡ is_further first second }
-{
-    reach(second) < reach(first)
-}
-
 /// The position of the first of these verdicts, at least one, that got furthest.
 pub fn furthest(verdicts: &[ProbeVerdict]) -> usize
     // The caller has at least one verdict.
@@ -84,7 +77,7 @@ pub fn furthest(verdicts: &[ProbeVerdict]) -> usize
 {
     let mut best = 0;
     for at in 1..verdicts.len() {
-        if is_further(verdicts[at], verdicts[best]) {
+        if reach(verdicts[best]) < reach(verdicts[at]) {
             best = at;
         }
     }

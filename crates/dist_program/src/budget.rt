@@ -1,7 +1,7 @@
 //! How long each step on the way to a node may take, where its host has several addresses: the time of a step is shared by all of
 //! them.
 
-ghost use Rattle.std.specs.Prelude.{◌≡◌, ◌-◌, ◌≤◌};
+ghost use Rattle.std.specs.Prelude.{◌≡◌, ◌-◌};
 ghost use Rattle.std.specs.Duration.{as_nanos};
 ghost use Rattle.dist_program.specs.Budgets.{left_of, share_of, spent_of};
 
@@ -35,13 +35,6 @@ pub struct Budget {
     pub addresses: u32,
 }
 
-// What is left of a time once this much of it is spent.
-fn less(left: Duration, spent: Duration) -> Duration
-    ensures { as_nanos result ≡ as_nanos left - as_nanos spent }
-{
-    left.saturating_sub(spent)
-}
-
 impl Budget {
     /// This many seconds for each step, for this many addresses in all.
     pub fn new(seconds: u16, addresses: u32) -> Budget
@@ -73,9 +66,6 @@ impl Budget {
     pub fn share(&self, step: TimedStep) -> Duration
         ensures share { as_nanos result ≡ share_of (as_nanos (left_of self.now step)) self.now.addresses }
     {
-        if self.addresses == 0 {
-            return Duration::ZERO;
-        }
         match self.left(step).checked_div(self.addresses) {
             Some(part) => part,
             None => Duration::ZERO,
@@ -88,10 +78,10 @@ impl Budget {
         ensures count { self.new.addresses ≡ self.old.addresses }
     {
         match step {
-            TimedStep::Mapper => self.mapper = less(self.mapper, spent),
-            TimedStep::Lookup => self.lookup = less(self.lookup, spent),
-            TimedStep::Port => self.port = less(self.port, spent),
-            TimedStep::Talk => self.talk = less(self.talk, spent),
+            TimedStep::Mapper => self.mapper = self.mapper.saturating_sub(spent),
+            TimedStep::Lookup => self.lookup = self.lookup.saturating_sub(spent),
+            TimedStep::Port => self.port = self.port.saturating_sub(spent),
+            TimedStep::Talk => self.talk = self.talk.saturating_sub(spent),
         }
     }
 
@@ -100,7 +90,7 @@ impl Budget {
         ensures left { as_nanos (left_of self.new step) ≡ as_nanos (left_of self.old step) - spent_of self.old step (as_nanos unused) }
         ensures count { self.new.addresses ≡ self.old.addresses }
     {
-        let spent = less(self.share(step), unused);
+        let spent = self.share(step).saturating_sub(unused);
         self.spend(step, spent)
     }
 

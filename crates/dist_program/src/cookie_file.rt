@@ -26,10 +26,8 @@ pub fn is_private(mode: u32) -> bool
 
 // Whether nobody but its owner may use an open file: false where the system does not give its mode.
 fn is_private_file(file: &File) -> bool {
-    match file.metadata() {
-        Ok(metadata) => is_private(metadata.permissions().mode()),
-        Err(_) => false,
-    }
+    let metadata = file.metadata();
+    metadata.is_ok_and(|it| is_private(it.permissions().mode()))
 }
 
 // Whether a file of this kind stands on a disk. The bytes of a pipe, a socket or a device come when somebody else sends them. (A
@@ -49,10 +47,7 @@ pub fn open_cookie(rt: &HostRuntime, path: &str) -> Result<File, CookieFault> {
     if !is_stored(metadata.file_type()) {
         return Err(CookieFault::NotStored);
     }
-    match File::open(rt, path) {
-        Ok(file) => Ok(file),
-        Err(_) => Err(CookieFault::OpenFailed),
-    }
+    File::open(rt, path).map_err(|_| CookieFault::OpenFailed)
 }
 
 /// The cookie in an open file.

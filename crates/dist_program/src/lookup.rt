@@ -67,14 +67,6 @@ fn push_new(addresses: &mut Vec<SocketAddr>, address: SocketAddr) -> Result<(), 
     Ok(())
 }
 
-// The addresses that were found, or `NoName` where there are none.
-fn one_at_least(addresses: Vec<SocketAddr>) -> Addresses {
-    if addresses.is_empty() {
-        return Err(HostError::NoName);
-    }
-    Ok(addresses)
-}
-
 // The resolver's answer, however long it takes: each address once, in its order.
 fn ask_resolver<R: Net>(rt: &R, alloc: Global, host: &str) -> Addresses {
     let found = match (host, 0u16).to_socket_addrs(rt) {
@@ -85,7 +77,10 @@ fn ask_resolver<R: Net>(rt: &R, alloc: Global, host: &str) -> Addresses {
     for address in found {
         push_new(&mut addresses, address)?;
     }
-    one_at_least(addresses)
+    if addresses.is_empty() {
+        return Err(HostError::NoName);
+    }
+    Ok(addresses)
 }
 
 // Leaves the answer where the caller waits for it.
@@ -169,8 +164,10 @@ pub fn without_brackets(host: &str) -> &str {
 }
 
 /// All addresses of a host at port 0, in the resolver's order, each once: those that it gives within this time. An address, also an
-/// IPv6 one in square brackets, stands for itself, and nobody is asked. The first handle is for the thread and the waiting; the
-/// second one, for the same runtime, is what the thread asks.
+/// IPv6 one in square brackets, stands for itself, and nobody is asked.
+///
+/// `rt` starts a thread, waits for it and reads the clock. `own` goes into that thread, which asks the resolver through it; memory is
+/// taken from it too. Both are handles of one runtime.
 pub fn lookup_host<R: Resolving>(
     rt: &R,
     own: HostRuntime,

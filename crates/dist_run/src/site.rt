@@ -25,7 +25,7 @@ pub struct Site<'a, R, G> {
     pub mapper_port: u16,
     /// How the descriptors of the process are shared out.
     pub places: Places,
-    /// The most turns of a connection and of a lookup.
+    /// How many turns, of some 10 milliseconds at most, a connection or a lookup gets, and a listener waits for the next one.
     pub turns: usize,
     /// Where the workers ask whether to go on.
     pub gate: &'a G,

@@ -169,8 +169,8 @@ fn accept_and_dial<'s, E, R: Machine, G: Gate + Sync>(
     })
 }
 
-/// Starts all threads of the nodes, and returns once they have ended. ThreadFailed comes where a node gets none, NoMemory
-/// where something could not be kept.
+/// Starts all threads of the nodes, and returns once they have ended. Returns `ThreadFailed` if the accepting thread of a node
+/// could not be started, `NoMemory` if memory ran out.
 pub fn run_threads<R: Machine, G: Gate + Sync>(
     site: Site<'_, R, G>,
     pools: Pools,

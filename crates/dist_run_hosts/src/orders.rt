@@ -106,17 +106,6 @@ fn is_peer_obeyed(
     }
 }
 
-fn is_order_obeyed(
-    orders: &[DialPlan],
-    faults: &[OrderFault],
-    closed: &Closed,
-    order: &DialPlan,
-) -> bool
-    ensures { IsTrue result ↔ OrderIsObeyed orders.now faults.now closed.now order.now }
-{
-    is_obeyed(orders, faults, closed, &order.to)
-}
-
 fn is_line_obeyed(
     orders: &[DialPlan],
     faults: &[OrderFault],
@@ -127,6 +116,17 @@ fn is_line_obeyed(
 {
     let view = line.read();
     is_peer_obeyed(orders, faults, closed, &view.line().event)
+}
+
+fn is_order_obeyed(
+    orders: &[DialPlan],
+    faults: &[OrderFault],
+    closed: &Closed,
+    order: &DialPlan,
+) -> bool
+    ensures { IsTrue result ↔ OrderIsObeyed orders.now faults.now closed.now order.now }
+{
+    is_obeyed(orders, faults, closed, &order.to)
 }
 
 // The same of all peers that some orders name.
@@ -203,23 +203,10 @@ fn rise_within(least: usize, most: usize, faults: &[OrderFault]) -> bool
     }
 }
 
-// Whether each fault is of an order of the file, and no two of one.
-fn are_numbered(plan: &Plan, faults: &[OrderFault]) -> bool
-    ensures { IsTrue result ↔ RiseWithin 0 (length plan.now.dial) faults.now }
-{
-    rise_within(0, plan.dial.as_slice().len(), faults)
-}
-
-fn are_both(plan: &Plan, faults: &[OrderFault], closed: &[Closed]) -> bool
-    ensures { IsTrue result ↔ (RiseWithin 0 (length plan.now.dial) faults.now × All (IsObedient plan.now faults.now) closed.now) }
-{
-    are_numbered(plan, faults) && are_obedient(plan, faults, closed)
-}
-
 /// Whether each order of the file was followed once, with the opening of its peer's version where the peer is of the file, or is
 /// reported and was not, and no node made another dial.
 pub fn are_obeyed(plan: &Plan, faults: &[OrderFault], closed: &[Closed]) -> bool
     ensures { IsTrue result ↔ AreObeyed plan.now faults.now closed.now }
 {
-    are_both(plan, faults, closed)
+    rise_within(0, plan.dial.as_slice().len(), faults) && are_obedient(plan, faults, closed)
 }

@@ -6,7 +6,7 @@ use crate::waiting::{MOST_TURNS, wait_for_input};
 use dist_program::{connect_here, one_turn};
 use dist_stream::SocketStream;
 use std::io::ErrorKind;
-use std::net::{Ipv4Addr, Net, SocketAddr, TcpListener, TcpStream};
+use std::net::{Ipv4Addr, Net, TcpListener, TcpStream};
 use std::os::fd::{AsRawFd, RawFd};
 use std::time::Clock;
 use std::{io, thread};
@@ -30,17 +30,13 @@ pub fn say_goodbye(stream: &SocketStream) {
     let _ = stream.shut();
 }
 
-fn port_of(address: SocketAddr) -> u16 {
-    address.port()
-}
-
 /// A connection to a port of this host.
 pub fn connect_to_port<R: Net<Listener = TcpListener, Stream = TcpStream>>(
     rt: &R,
     port: u16,
 ) -> io::Result<LinkStream> {
     let stream = connect_here(rt, port)?;
-    let dialler_port = port_of(stream.get_ref().local_addr()?);
+    let dialler_port = stream.get_ref().local_addr()?.port();
     Ok(LinkStream {
         stream,
         dialler_port,
@@ -67,7 +63,7 @@ pub fn listen<R: Net<Listener = TcpListener, Stream = TcpStream>>(
 {
     let socket = TcpListener::bind(rt, (Ipv4Addr::LOCALHOST, port))?;
     socket.set_nonblocking(true)?;
-    let port = port_asked_for(port, port_of(socket.local_addr()?))?;
+    let port = port_asked_for(port, socket.local_addr()?.port())?;
     Ok(LocalListener { socket, port })
 }
 
@@ -75,7 +71,7 @@ fn take_connection(listener: &TcpListener) -> io::Result<LinkStream> {
     let (socket, from) = listener.accept()?;
     Ok(LinkStream {
         stream: SocketStream::with_turn(socket, one_turn())?,
-        dialler_port: port_of(from),
+        dialler_port: from.port(),
     })
 }
 

@@ -1,7 +1,6 @@
 -- Lists of values that are read one at a time.
-use Rattle.std.proofs.Common.{◌≡◌, ℕ, suc, ◌+◌, ◌<◌, ◌≤◌, List, [], ◌∷◌, ◌++◌, length, map, get_or, drop, Option, Some, None, option_map, refl, sym, ap, ◌∙◌}
-use Rattle.std.proofs.lemmas.List.{append-nil, append_assoc, drop_more}
-use Rattle.std.proofs.Math.ListN.{drop_of_length-le}
+use Rattle.std.proofs.Common.{◌≡◌, ℕ, suc, ◌+◌, ◌<◌, List, [], ◌∷◌, ◌++◌, length, map, get_or, drop, Option, Some, None, option_map, refl, sym, ap, ◌∙◌}
+use Rattle.std.proofs.lemmas.List.{append_assoc, drop_more}
 use Rattle.toml.specs.Data.{Data}
 use Rattle.toml.specs.View.{view, items_view}
 use Rattle.toml.specs.declared.value.Value.{Value}
@@ -16,10 +15,6 @@ pub length_view : (vs : List Value) → length (map view vs) ≡ length vs
 length_view [] = refl
 length_view (v ∷ vs) = ap suc (length_view vs)
 
-none_added : {T : Type 0} (o : Option (List T)) → o ≡ option_map (λ rest. [] ++ rest) o
-none_added None = refl
-none_added (Some x) = refl
-
 one_added : {T : Type 0} (found : List T) (x : T) (o : Option (List T)) → option_map (λ rest. found ++ rest) (option_map (λ rest. x ∷ rest) o) ≡ option_map (λ rest. (found ++ x ∷ []) ++ rest) o
 one_added found x None = refl
 one_added found x (Some rest) = ap Some (sym (append_assoc found (x ∷ []) rest))
@@ -29,21 +24,8 @@ abbrev pub SoFar : {T : Type 0} → (Data → Option T) → List Value → ℕ �
 SoFar says vs i found = all_some (map says (map view vs)) ≡ option_map (λ rest. found ++ rest) (all_some (map says (map view (drop i vs))))
 
 module _ {T : Type 0} (says : Data → Option T) (vs : List Value) where
-  pub begun : SoFar says vs 0 []
-  begun = none_added (all_some (map says (map view vs)))
-
   module _ (i : ℕ) (found : List T) (s : SoFar says vs i found) where
     pub one_more : (d : Value) (x : T) → i < length vs → says (view (get_or vs i d)) ≡ Some x → SoFar says vs (i + 1) (found ++ x ∷ [])
     one_more d x h e =
         let left : all_some (map says (map view (drop i vs))) ≡ option_map (λ rest. x ∷ rest) (all_some (map says (map view (drop (i + 1) vs)))) = rw (drop_more vs i d h, e) in
         s ∙ ap (option_map (λ rest. found ++ rest)) left ∙ one_added found x (all_some (map says (map view (drop (i + 1) vs))))
-
-    pub stopped : (d : Value) → i < length vs → says (view (get_or vs i d)) ≡ None → all_some (map says (map view vs)) ≡ None
-    stopped d h e =
-        let left : all_some (map says (map view (drop i vs))) ≡ None = rw (drop_more vs i d h, e) in
-        s ∙ ap (option_map (λ rest. found ++ rest)) left
-
-    pub all_said : length vs ≤ i → all_some (map says (map view vs)) ≡ Some found
-    all_said h =
-        let left : all_some (map says (map view (drop i vs))) ≡ Some [] = rw (drop_of_length-le vs h) in
-        s ∙ ap (option_map (λ rest. found ++ rest)) left ∙ ap Some (append-nil found)

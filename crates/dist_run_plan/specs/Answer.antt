@@ -6,7 +6,3 @@ use Rattle.dist_run_plan.specs.declared.plan_error.PlanError.TheVariants.{Bad}
 -- Unless memory runs out, the answer is what is there, and Bad comes exactly where nothing is.
 abbrev pub Reads : {T : Type 0} → Result T PlanError → Option T → Type 0
 Reads result there = MatchResult result (λ value. there ≡ Some value) (λ error. error ≡ Bad → there ≡ None)
-
--- The same of a call that takes no memory: Bad is its one refusal.
-abbrev pub ReadsPlainly : {T : Type 0} → Result T PlanError → Option T → Type 0
-ReadsPlainly result there = MatchResult result (λ value. there ≡ Some value) (λ error. (error ≡ Bad) × (there ≡ None))

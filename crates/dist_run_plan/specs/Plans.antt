@@ -7,8 +7,6 @@ use Rattle.toml.specs.Parse.{parse_document}
 use Rattle.dist_names.specs.NodeName.{short_of}
 use Rattle.dist_names.specs.Order.{same_name}
 use Rattle.dist_run_plan.specs.declared.plan.NodePlan.{NodePlan}
-use Rattle.dist_run_plan.specs.declared.plan.Identity.{Identity}
-use Rattle.dist_run_plan.specs.declared.plan.Terms.{Terms}
 use Rattle.dist_run_plan.specs.declared.plan.DialPlan.{DialPlan}
 use Rattle.dist_run_plan.specs.declared.plan.Plan.{Plan}
 use Rattle.dist_secret.specs.Cookies.{CookieTable}
@@ -46,51 +44,31 @@ or_usual says usual (Some value) = says value
 abbrev pub node_keys : List (List ℕ)
 node_keys = codes "name" ∷ codes "cookie" ∷ codes "cookies" ∷ codes "version" ∷ codes "flags" ∷ codes "required" ∷ codes "listen" ∷ codes "allow" ∷ []
 
--- a port
-abbrev pub port_in : Data → Option ℕ
-port_in = number_in 0 65535
-
 -- this cookie for every peer
 abbrev pub usual_alone : List ℕ → CookieTable
 usual_alone cookie = record { usual = cookie; own = [] }
 
--- who the node of a table is, and its secrets
-abbrev pub identity_of : Members → Option Identity
-identity_of table =
-    needed_member name_in (codes "name") table >>= (λ name.
-    needed_member cookie_in (codes "cookie") table >>= (λ cookie.
-    or_usual (cookies_in (usual_alone cookie)) (usual_alone cookie) (get_member (codes "cookies") table) >>= (λ cookies.
-    Some (record { name = name; cookie = cookie; cookies = cookies }))))
-
--- how the node of a table is met
-abbrev pub terms_of : Members → Option Terms
-terms_of table =
-    or_usual version_in versions.Six (get_member (codes "version") table) >>= (λ version.
-    needed_member flags_in (codes "flags") table >>= (λ flags.
-    or_usual flags_in (record { 0 = 0 }) (get_member (codes "required") table) >>= (λ required.
-    or_usual port_in 0 (get_member (codes "listen") table) >>= (λ listen.
-    Some (record { version = version; flags = flags; required = required; listen = listen })))))
-
--- the peers that may connect, where there is a list of them
-abbrev pub allowed_of : Members → Option (Option (List (List ℕ)))
-allowed_of table = or_usual (λ value. option_map Some (names_in value)) None (get_member (codes "allow") table)
-
 -- the node of a table whose keys are a node's
 abbrev pub node_of : Members → Option NodePlan
-node_of table =
-    identity_of table >>= (λ i.
-    terms_of table >>= (λ t.
-    allowed_of table >>= (λ allow.
-    Some (record {
-      name = i.name;
-      cookie = i.cookie;
-      cookies = i.cookies;
-      version = t.version;
-      flags = t.flags;
-      required = t.required;
-      listen = t.listen;
-      allow = allow;
-    }))))
+node_of table = do
+  name ← needed_member name_in (codes "name") table
+  cookie ← needed_member cookie_in (codes "cookie") table
+  cookies ← or_usual (cookies_in (usual_alone cookie)) (usual_alone cookie) (get_member (codes "cookies") table)
+  version ← or_usual version_in versions.Six (get_member (codes "version") table)
+  flags ← needed_member flags_in (codes "flags") table
+  required ← or_usual flags_in (record { 0 = 0 }) (get_member (codes "required") table)
+  listen ← or_usual (number_in 0 65535) 0 (get_member (codes "listen") table)
+  allow ← or_usual (λ value. option_map Some (names_in value)) None (get_member (codes "allow") table)
+  Some (record {
+    name = name;
+    cookie = cookie;
+    cookies = cookies;
+    version = version;
+    flags = flags;
+    required = required;
+    listen = listen;
+    allow = allow;
+  })
 
 -- a table that is a node
 abbrev pub node_in : Data → Option NodePlan
@@ -102,10 +80,10 @@ dial_keys = codes "from" ∷ codes "to" ∷ []
 
 -- the dial of a table whose keys are a dial's
 abbrev pub dial_of : Members → Option DialPlan
-dial_of table =
-    needed_member name_in (codes "from") table >>= (λ from.
-    needed_member name_in (codes "to") table >>= (λ to.
-    Some (record { from = from; to = to })))
+dial_of table = do
+  from ← needed_member name_in (codes "from") table
+  to ← needed_member name_in (codes "to") table
+  Some (record { from = from; to = to })
 
 -- a table that is a dial
 abbrev pub dial_in : Data → Option DialPlan
@@ -144,12 +122,12 @@ plan_keys = codes "port" ∷ codes "turns" ∷ codes "node" ∷ codes "dial" ∷
 
 -- what the keys of the file say
 abbrev pub parts_of : Members → Option Plan
-parts_of table =
-    or_usual port_in 0 (get_member (codes "port") table) >>= (λ port.
-    or_usual (number_in 1 1000000) 200 (get_member (codes "turns") table) >>= (λ turns.
-    needed_member nodes_in (codes "node") table >>= (λ nodes.
-    or_usual dials_in [] (get_member (codes "dial") table) >>= (λ dials.
-    Some (record { port = port; turns = turns; node = nodes; dial = dials })))))
+parts_of table = do
+  port ← or_usual (number_in 0 65535) 0 (get_member (codes "port") table)
+  turns ← or_usual (number_in 1 1000000) 200 (get_member (codes "turns") table)
+  nodes ← needed_member nodes_in (codes "node") table
+  dials ← or_usual dials_in [] (get_member (codes "dial") table)
+  Some (record { port = port; turns = turns; node = nodes; dial = dials })
 
 -- the plan, where the nodes and dials fit together
 abbrev pub sound_plan : Plan → Option Plan

@@ -10,7 +10,7 @@ mod plan;
 mod plan_error;
 mod reading;
 
-pub use lists::{DialList, NodeList};
+pub use lists::PlanList;
 pub use plan::{DialPlan, NodePlan, Plan};
 pub use plan_error::PlanError;
 pub use reading::plan_of;

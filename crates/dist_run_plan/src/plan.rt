@@ -1,6 +1,6 @@
 //! What a nodes file says.
 
-use crate::lists::{DialList, NodeList};
+use crate::lists::PlanList;
 use dist_core_setup::{NameList, Version};
 use dist_names::{Flags, NodeName};
 use dist_secret::{Cookie, Cookies};
@@ -14,9 +14,9 @@ pub struct Plan {
     /// 1 to 1,000,000 of them, 200 where the file doesn't say.
     pub turns: u32,
     /// The 1 to 16 nodes, in the order of the file.
-    pub node: NodeList,
+    pub node: PlanList<NodePlan>,
     /// Who dials whom, in the order of the file: at most 64 dials, none where the file doesn't say.
-    pub dial: DialList,
+    pub dial: PlanList<DialPlan>,
 }
 
 /// A node of the file.
@@ -38,30 +38,6 @@ pub struct NodePlan {
     pub listen: u16,
     /// The peers that may connect. All may where the file doesn't say, and none where its list is empty.
     pub allow: Option<NameList>,
-}
-
-/// Who a node is, and its secrets.
-#[derive(Drop)]
-pub struct Identity {
-    /// Its name.
-    pub name: NodeName,
-    /// The secret that it shares with peers that have no cookie of their own.
-    pub cookie: Cookie,
-    /// That secret, and the cookies of peers that have their own.
-    pub cookies: Cookies,
-}
-
-/// How a node is met: what it announces and asks for, and where it listens.
-#[derive(Clone, Copy)]
-pub struct Terms {
-    /// The highest version of the handshake that it knows.
-    pub version: Version,
-    /// What it announces.
-    pub flags: Flags,
-    /// What it asks of a peer.
-    pub required: Flags,
-    /// The port at which it listens, 0 for any.
-    pub listen: u16,
 }
 
 /// A node that dials a peer.

@@ -1,12 +1,16 @@
 -- The lines of a script, one after the other.
-use Rattle.std.proofs.Common.{◌≡◌, ℕ, suc, ◌+◌, ◌<◌, ◌≤◌, Bool, true, false, cond, List, [], ◌∷◌, ◌++◌, length, drop, Option, Some, None, Result, Ok, Err, refl, sym, ap, subst, ◌∙◌, arith, length-append, Bor, option_copied, ◌⊎◌, inl, inr}
-use Rattle.std.specs.Prelude.{codes, ◌==◌, slice_index, MatchOption, MatchResult, IsErrAnd}
+use Rattle.std.proofs.Common.{◌≡◌, ℕ, suc, ◌+◌, ◌<◌, ◌≤◌, Bool, true, false, cond, List, [], ◌∷◌, ◌++◌, length, drop, Option, Some, None, Result, Ok, Err, refl, sym, ap, subst, ◌∙◌, arith, length-append, ◌⊎◌, inl, inr}
+use Rattle.std.specs.Prelude.{codes, is_some, ◌||◌, MatchResult, IsErrAnd}
 use Rattle.dist_core_setup.specs.declared.setup.Setup.{Setup}
 use Rattle.dist_script.specs.Words.{words_of, lines_of, parts_in, is_skipped}
 use Rattle.dist_script.specs.declared.fault.ScriptFault.{ScriptFault}
 use Rattle.dist_script.specs.declared.fault.ScriptFault.TheVariants.{BadLine, NoNode, NoMemory}
+use Rattle.std.proofs.lemmas.Bool.{cond-true, cond-false}
 use Rattle.dist_script.specs.declared.words.LineFault.{LineFault}
 use Rattle.dist_script.specs.declared.words.LineFault.TheVariants.{Bad}
+use Rattle.dist_script.specs.Fields.{Makes}
+use Rattle.dist_script.specs.Events.{line_in}
+use Rattle.dist_script.specs.Happenings.{happening_line}
 use Rattle.dist_world_model.specs.declared.happening.Happening.{Happening}
 use Rattle.dist_script.specs.declared.script.ScriptLine.{ScriptLine}
 use Rattle.dist_script.specs.Scripts.{SoFar, nothing, with_node, with_event, with_happening, is_either, with_reported, with_words, with_line, unless_bad, with_lines, Events, Happenings, whole, all_good, script_in}
@@ -21,33 +25,23 @@ by_node b s words = cond b (with_node s (drop 1 words)) (with_reported s.nodes (
 pub a_node : (s : SoFar) (words rest : List (List ℕ)) → words ≡ codes "node" ∷ rest → with_words s words ≡ with_node s rest
 a_node s words rest e = ap (λ b. by_node b s words) (begun (codes "node") words rest e) ∙ ap (λ ws. with_node s (drop 1 ws)) e
 
-no_node : (s : SoFar) (words : List (List ℕ)) → ((rest : List (List ℕ)) → words ≡ codes "node" ∷ rest → ⊥) → with_words s words ≡ with_reported s.nodes (record s { has_lines = true }) words
+-- a line that sets no node up
+pub no_node : (s : SoFar) (words : List (List ℕ)) → ((rest : List (List ℕ)) → words ≡ codes "node" ∷ rest → ⊥) → with_words s words ≡ with_reported s.nodes (record s { has_lines = true }) words
 no_node s words h = ap (λ b. by_node b s words) (not_begun (codes "node") words h)
 
-none_there : (nodes : List Setup) (s : SoFar) (words : List (List ℕ)) → length nodes ≡ 0 → with_reported nodes s words ≡ cond (is_either words) (Some s) None
+pub none_there : (nodes : List Setup) (s : SoFar) (words : List (List ℕ)) → length nodes ≡ 0 → with_reported nodes s words ≡ cond (is_either words) (Some s) None
 none_there [] s words e = refl
 none_there (node ∷ nodes) s words e = absurd (omega arith)
 
-one_there : (nodes : List Setup) (s : SoFar) (words : List (List ℕ)) → length nodes ≡ 1 → with_reported nodes s words ≡ with_event s words
+pub one_there : (nodes : List Setup) (s : SoFar) (words : List (List ℕ)) → length nodes ≡ 1 → with_reported nodes s words ≡ with_event s words
 one_there [] s words e = absurd (omega arith)
 one_there (node ∷ []) s words e = refl
 one_there (node ∷ other ∷ nodes) s words e = absurd (omega arith)
 
-more_there : (nodes : List Setup) (s : SoFar) (words : List (List ℕ)) → 1 < length nodes → with_reported nodes s words ≡ with_happening s words
+pub more_there : (nodes : List Setup) (s : SoFar) (words : List (List ℕ)) → 1 < length nodes → with_reported nodes s words ≡ with_happening s words
 more_there [] s words lt = absurd (omega arith)
 more_there (node ∷ []) s words lt = absurd (omega arith)
 more_there (node ∷ other ∷ nodes) s words lt = refl
-
--- a line that sets no node up, by how many nodes stand before it
-module _ (s : SoFar) (words : List (List ℕ)) (other : (rest : List (List ℕ)) → words ≡ codes "node" ∷ rest → ⊥) where
-  pub behind_none : length s.nodes ≡ 0 → with_words s words ≡ cond (is_either words) (Some (record s { has_lines = true })) None
-  behind_none e = no_node s words other ∙ none_there s.nodes (record s { has_lines = true }) words e
-
-  pub behind_one : length s.nodes ≡ 1 → with_words s words ≡ with_event (record s { has_lines = true }) words
-  behind_one e = no_node s words other ∙ one_there s.nodes (record s { has_lines = true }) words e
-
-  pub behind_more : 1 < length s.nodes → with_words s words ≡ with_happening (record s { has_lines = true }) words
-  behind_more lt = no_node s words other ∙ more_there s.nodes (record s { has_lines = true }) words lt
 
 -- ---- all lines in turn
 
@@ -66,16 +60,20 @@ module _ (all : Result SoFar ScriptFault) (s : SoFar) (number : ℕ) (text line 
   line_bad fault (inl e) = inl e
   line_bad fault (inr e) = inr (by_line None e.1 ∙ ap Err (sym e.0))
 
--- ---- one line, from what its words do
+-- a line that may be of either form
+pub by_either : {A : Type 0} (r : Result A LineFault) (is : Bool) (line : Option SoFar) (more : SoFar) → line ≡ cond is (Some more) None → MatchResult r (λ _. is ≡ true) (λ fault. fault ≡ Bad → is ≡ false) → Makes r more line
+by_either (Ok u) is line more e h = e ∙ cond-true is _ _ h
+by_either (Err fault) is line more e h = λ bad. e ∙ cond-false is _ _ (h bad)
 
--- an answer that a step gives, of a line that takes that step
-pub by_step : {A : Type 0} (r : Result A LineFault) (step line : Option SoFar) (more : SoFar) → line ≡ step → MatchResult r (λ _. step ≡ Some more) (λ fault. fault ≡ Bad → step ≡ None) → MatchResult r (λ _. line ≡ Some more) (λ fault. fault ≡ Bad → line ≡ None)
-by_step r step line more e h = subst (λ (o : Option SoFar). MatchResult r (λ _. o ≡ Some more) (λ fault. fault ≡ Bad → o ≡ None)) (sym e) h
+-- a line that is of one form
+pub an_event : (words : List (List ℕ)) (line : ScriptLine) → line_in words ≡ Some line → is_either words ≡ true
+an_event words line e = ap (λ (o : Option ScriptLine). is_some o || is_some (happening_line words)) e
 
--- the same of a line that may be of either form
-pub by_either : {A : Type 0} (r : Result A LineFault) (is : Bool) (line : Option SoFar) (more : SoFar) → line ≡ cond is (Some more) None → MatchResult r (λ _. is ≡ true) (λ fault. fault ≡ Bad → is ≡ false) → MatchResult r (λ _. line ≡ Some more) (λ fault. fault ≡ Bad → line ≡ None)
-by_either (Ok u) is line more e h = e ∙ ap (λ b. cond b (Some more) None) h
-by_either (Err fault) is line more e h = λ bad. e ∙ ap (λ b. cond b (Some more) None) (h bad)
+-- of the other, or of none
+pub no_event : {A : Type 0} (r : Result A LineFault) (words : List (List ℕ)) → line_in words ≡ None
+    → MatchResult r (λ _. is_some (happening_line words) ≡ true) (λ fault. fault ≡ Bad → happening_line words ≡ None) → MatchResult r (λ _. is_either words ≡ true) (λ fault. fault ≡ Bad → is_either words ≡ false)
+no_event (Ok u) words none h = ap (λ o. is_some o || is_some (happening_line words)) none ∙ h
+no_event (Err fault) words none h = λ bad. ap (λ o. is_some o || is_some (happening_line words)) none ∙ ap is_some (h bad)
 
 pub skipped : (s : SoFar) (line : List ℕ) → is_skipped line ≡ true → with_line s line ≡ Some s
 skipped s line e = ap (λ b. cond b (Some s) (with_words s (words_of line))) e

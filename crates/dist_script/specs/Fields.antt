@@ -1,5 +1,5 @@
 -- What the words of a line say.
-use Rattle.std.specs.Prelude.{◌≡◌, ℕ, zero, suc, ◌&&◌, ◌^◌, nat_lt, if◌then◌else◌, List, [], ◌∷◌}
+use Rattle.std.specs.Prelude.{◌≡◌, ℕ, ◌&&◌, ◌^◌, nat_lt, if◌then◌else◌, List, [], ◌∷◌}
 use Rattle.std.specs.Prelude.{drop, codes, Option, Some, None, option_map, option_and_then, Result, MatchResult}
 use Rattle.std.specs.Result.{result_ok}
 use Rattle.std.specs.Str.Parse.{digits_value}
@@ -22,26 +22,37 @@ use Rattle.dist_script.specs.declared.words.LineFault.TheVariants.{Bad}
 abbrev pub Reads : {T : Type 0} → Result T LineFault → Option T → Type 0
 Reads result there = MatchResult result (λ value. there ≡ Some value) (λ fault. fault ≡ Bad → there ≡ None)
 
--- The same of a call that takes no memory: Bad is its one refusal.
-abbrev pub ReadsPlainly : {T : Type 0} → Result T LineFault → Option T → Type 0
-ReadsPlainly result there = MatchResult result (λ value. there ≡ Some value) (λ fault. (fault ≡ Bad) × (there ≡ None))
+-- The same of a call that changes what it is given: it is then what is there.
+abbrev pub Makes : {A T : Type 0} → Result A LineFault → T → Option T → Type 0
+Makes result new there = MatchResult result (λ _. there ≡ Some new) (λ fault. fault ≡ Bad → there ≡ None)
 
--- what there is says, where there is something
+-- what the first words say, and the words behind them
+abbrev pub Read : Type 0 → Type 0
+Read T = Option (T × List (List ℕ))
+
+-- The same of a call that reads some words, with those that it leaves.
+abbrev pub ReadsUpTo : {T : Type 0} → Result T LineFault → List (List ℕ) → Read T → Type 0
+ReadsUpTo result left there = MatchResult result (λ value. there ≡ Some (value, left)) (λ fault. fault ≡ Bad → there ≡ None)
+
+-- ---- words in a row
+
+-- the second, applied to the value of the first; nothing if the first has none
 infixl 10 ◌>>=◌
 abbrev pub ◌>>=◌ : {A B : Type 0} → Option A → (A → Option B) → Option B
 o >>= f = option_and_then f o
-
--- ---- words in a row
 
 -- what the first word says, where one is left
 abbrev pub first_in : {T : Type 0} → (List ℕ → Option T) → List (List ℕ) → Option T
 first_in says [] = None
 first_in says (word ∷ words) = says word
 
--- the words behind this many from the front
-abbrev pub behind : ℕ → List (List ℕ) → List (List ℕ)
-behind zero words = words
-behind (suc count) words = behind count (drop 1 words)
+-- what the first word says, and then the words behind it
+abbrev pub next : {A B : Type 0} → (List ℕ → Option A) → (A → List (List ℕ) → Option B) → List (List ℕ) → Option B
+next says others words = first_in says words >>= (λ x. others x (drop 1 words))
+
+-- this, whatever words are left
+abbrev pub give : {T : Type 0} → T → List (List ℕ) → Read T
+give x words = Some (x, words)
 
 -- no word is left
 abbrev pub if_done : {T : Type 0} → List (List ℕ) → T → Option T
@@ -52,6 +63,10 @@ if_done (word ∷ words) x = None
 abbrev pub meaning_in : {T : Type 0} → List (List ℕ × T) → List ℕ → Option T
 meaning_in [] word = None
 meaning_in (row ∷ rows) word = if same_name row.0 word then Some row.1 else meaning_in rows word
+
+-- a line of one of several kinds: the first word of one, what stands behind it, and no word more
+abbrev pub whole_line : {K T : Type 0} → List (List ℕ × K) → (K → List (List ℕ) → Read T) → List (List ℕ) → Option T
+whole_line kinds behind words = next (meaning_in kinds) (λ kind others. behind kind others >>= (λ x. if_done x.1 x.0)) words
 
 -- ---- single words
 

@@ -13,7 +13,7 @@ use Rattle.dist_core_setup.specs.Limits.{usual_limits}
 use Rattle.dist_core_setup.specs.declared.version.Version.{Version}
 use Rattle.dist_core_setup.specs.declared.version.Version.TheVariants as version
 use Rattle.dist_script.specs.declared.node_line.NodeTerms.{NodeTerms}
-use Rattle.dist_script.specs.Fields.{◌>>=◌, behind, first_in, creation_in, name_in}
+use Rattle.dist_script.specs.Fields.{◌>>=◌, Read, next, give, creation_in, name_in}
 
 -- ---- words that may stand there
 
@@ -23,21 +23,15 @@ begins wanted [] = false
 begins wanted (word ∷ words) = same_name word wanted
 
 -- version 5, which is named, or version 6
-abbrev pub version_in : List (List ℕ) → Option Version
+abbrev pub version_in : List (List ℕ) → Read Version
 version_in words =
-    if begins (codes "version") words then (if begins (codes "5") (drop 1 words) then Some version.Five else None) else Some version.Six
-
--- the words behind that
-abbrev pub behind_version : List (List ℕ) → List (List ℕ)
-behind_version words = if begins (codes "version") words then behind 2 words else words
+    if begins (codes "version") words
+    then (if begins (codes "5") (drop 1 words) then give version.Five (drop 1 (drop 1 words)) else None)
+    else give version.Six words
 
 -- the flags that are required, or none
-abbrev pub required_in : List (List ℕ) → Option Flags
-required_in words = if begins (codes "require") words then first_in flags_in (drop 1 words) else Some (record { 0 = 0 })
-
--- the words behind that
-abbrev pub behind_required : List (List ℕ) → List (List ℕ)
-behind_required words = if begins (codes "require") words then behind 2 words else words
+abbrev pub required_in : List (List ℕ) → Read Flags
+required_in words = if begins (codes "require") words then next flags_in give (drop 1 words) else give (record { 0 = 0 }) words
 
 -- ---- cookies
 
@@ -53,29 +47,21 @@ cookie_added cookies peer cookie =
 
 -- a peer, and the cookie for it
 abbrev pub further_in : CookieTable → List (List ℕ) → Option CookieTable
-further_in cookies words =
-    first_in name_in words >>= (λ peer.
-    first_in cookie_in (drop 1 words) >>= (λ cookie.
-    cookie_added cookies peer cookie))
+further_in cookies = next name_in (λ peer. next cookie_in (λ cookie words. cookie_added cookies peer cookie))
 
 -- this cookie for every peer
 abbrev pub usual_alone : List ℕ → CookieTable
 usual_alone cookie = record { usual = cookie; own = [] }
 
--- cookies, and the words behind them
-pub record Cookies : Type 0 where
-  pub table : CookieTable
-  pub rest : List (List ℕ)
-
 -- these cookies and further ones, a peer and its cookie behind each word `cookie`
-abbrev pub cookies_in : CookieTable → List (List ℕ) → Option Cookies
-cookies_in cookies [] = Some (record { table = cookies; rest = [] })
-cookies_in cookies (word ∷ []) = if same_name word (codes "cookie") then None else Some (record { table = cookies; rest = word ∷ [] })
-cookies_in cookies (word ∷ peer ∷ []) = if same_name word (codes "cookie") then None else Some (record { table = cookies; rest = word ∷ peer ∷ [] })
+abbrev pub cookies_in : CookieTable → List (List ℕ) → Read CookieTable
+cookies_in cookies [] = give cookies []
+cookies_in cookies (word ∷ []) = if same_name word (codes "cookie") then None else give cookies (word ∷ [])
+cookies_in cookies (word ∷ peer ∷ []) = if same_name word (codes "cookie") then None else give cookies (word ∷ peer ∷ [])
 cookies_in cookies (word ∷ peer ∷ cookie ∷ words) =
     if same_name word (codes "cookie")
     then further_in cookies (peer ∷ cookie ∷ words) >>= (λ more. cookies_in more words)
-    else Some (record { table = cookies; rest = word ∷ peer ∷ cookie ∷ words })
+    else give cookies (word ∷ peer ∷ cookie ∷ words)
 
 -- ---- names
 
@@ -94,17 +80,11 @@ allowed_in (word ∷ words) = option_map Some (names_in (word ∷ words))
 -- ---- the whole line
 
 -- how the node is met
-abbrev pub terms_in : List (List ℕ) → Option NodeTerms
-terms_in words =
-    first_in flags_in words >>= (λ flags.
-    first_in creation_in (drop 1 words) >>= (λ creation.
-    version_in (behind 2 words) >>= (λ version.
-    required_in (behind_version (behind 2 words)) >>= (λ required.
-    Some (record { flags = flags; creation = creation; version = version; required = required })))))
-
--- the words behind that
-abbrev pub behind_terms : List (List ℕ) → List (List ℕ)
-behind_terms words = behind_required (behind_version (behind 2 words))
+abbrev pub terms_in : List (List ℕ) → Read NodeTerms
+terms_in = next flags_in (λ flags. next creation_in (λ creation words.
+    version_in words >>= (λ version.
+    required_in version.1 >>= (λ required.
+    give (record { flags = flags; creation = creation; version = version.0; required = required.0 }) required.1))))
 
 -- what the words behind the cookies say, and the name, with what stands before them
 abbrev pub behind_cookies : List ℕ → NodeTerms → CookieTable → List (List ℕ) → Option Setup
@@ -125,10 +105,8 @@ behind_cookies name terms cookies words =
 -- THE LINE OF A NODE, behind its first word: a name, the usual cookie, how the node is met, the cookies of peers, the names
 -- that are allowed
 abbrev pub node_in : List (List ℕ) → Option Setup
-node_in words =
-    first_in Some words >>= (λ name.
-    first_in Some (drop 1 words) >>= (λ cookie.
-    terms_in (behind 2 words) >>= (λ terms.
+node_in = next Some (λ name. next Some (λ cookie words.
+    terms_in words >>= (λ terms.
     cookie_in cookie >>= (λ usual.
-    cookies_in (usual_alone usual) (behind_terms (behind 2 words)) >>= (λ cookies.
-    behind_cookies name terms cookies.table cookies.rest)))))
+    cookies_in (usual_alone usual) terms.1 >>= (λ cookies.
+    behind_cookies name terms.0 cookies.0 cookies.1)))))

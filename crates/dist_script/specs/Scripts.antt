@@ -1,5 +1,5 @@
 -- THE SCRIPT OF A TEXT. Its language is in docs/RUNNING.md.
-use Rattle.std.specs.Prelude.{ℕ, ◌+◌, Bool, false, true, ◌||◌, ◌==◌, if◌then◌else◌, List, [], ◌∷◌, ◌++◌}
+use Rattle.std.specs.Prelude.{ℕ, ◌+◌, Bool, false, true, ◌||◌, if◌then◌else◌, List, [], ◌∷◌, ◌++◌}
 use Rattle.std.specs.Prelude.{drop, codes, is_some, Option, Some, None, Result, Ok, Err}
 use Rattle.dist_core_setup.specs.declared.setup.Setup.{Setup}
 use Rattle.dist_world_model.specs.declared.happening.Happening.{Happening}

@@ -1,4 +1,4 @@
--- The text of printed pieces.
+-- The bytes that the pieces of a printed line make: text, decimal numbers, flags and hexadecimal digits.
 use Rattle.std.specs.Prelude.{ℕ, Option, List, [], ◌∷◌, ◌++◌, decimal}
 use Rattle.std.specs.Int.{w64, to_be_bytes}
 use Rattle.std.specs.Io.{StartsWith}

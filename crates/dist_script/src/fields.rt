@@ -5,11 +5,11 @@ ghost use Rattle.std.specs.Result.{result_ok};
 ghost use Rattle.dist_names.specs.NodeName.{name_of_bytes};
 ghost use Rattle.dist_names.specs.Order.{same_name};
 ghost use Rattle.dist_script.specs.declared.words.LineFault.TheVariants.{Bad};
-ghost use Rattle.dist_script.specs.Fields.{Reads, ReadsPlainly, first_in, meaning_in, number_in, count_in, end_in, bytes_in, name_in, opening_in, why_in};
+ghost use Rattle.dist_script.specs.Fields.{Reads, first_in, meaning_in, number_in, count_in, creation_in, end_in, bytes_in, name_in, opening_in, why_in};
 
 use crate::words::{LineFault, Words};
 use dist_core::{Opening, Why};
-use dist_names::{ByteString, NameError, NodeName, is_same_text, number_32, number_64};
+use dist_names::{ByteString, Creation, NameError, NodeName, is_same_text, number_32, number_64};
 use dist_peers::EndId;
 use hex::FromHexError;
 use std::alloc::Global;
@@ -38,7 +38,7 @@ pub fn name_word(alloc: Global, words: &mut Words<'_>) -> Result<NodeName, LineF
 /// The number below 2^32 that the next word is.
 #[tactic(auto, using(crate::proofs::Reading::number_read))]
 pub fn number_word(words: &mut Words<'_>) -> Result<u32, LineFault>
-    ensures reads { ReadsPlainly result (first_in (number_in 32) words.old) }
+    ensures reads { Reads result (first_in (number_in 32) words.old) }
     ensures rest { words.new ≡ drop 1 words.old }
 {
     match number_32(words.word()?) {
@@ -49,7 +49,7 @@ pub fn number_word(words: &mut Words<'_>) -> Result<u32, LineFault>
 
 /// The place of a node, the number of a connection, or how many, as the next word says.
 pub fn count_word(words: &mut Words<'_>) -> Result<usize, LineFault>
-    ensures reads { ReadsPlainly result (first_in count_in words.old) }
+    ensures reads { Reads result (first_in count_in words.old) }
     ensures rest { words.new ≡ drop 1 words.old }
 {
     Ok(number_word(words)? as usize)
@@ -57,7 +57,7 @@ pub fn count_word(words: &mut Words<'_>) -> Result<usize, LineFault>
 
 /// The number of an end that the next word is.
 pub fn end_word(words: &mut Words<'_>) -> Result<EndId, LineFault>
-    ensures reads { ReadsPlainly result (first_in end_in words.old) }
+    ensures reads { Reads result (first_in end_in words.old) }
     ensures rest { words.new ≡ drop 1 words.old }
 {
     Ok(EndId(number_word(words)?))
@@ -66,7 +66,7 @@ pub fn end_word(words: &mut Words<'_>) -> Result<EndId, LineFault>
 /// The number below 2^64 of a connection that the next word is.
 #[tactic(auto, using(crate::proofs::Reading::number_read))]
 pub fn link_word(words: &mut Words<'_>) -> Result<u64, LineFault>
-    ensures reads { ReadsPlainly result (first_in (number_in 64) words.old) }
+    ensures reads { Reads result (first_in (number_in 64) words.old) }
     ensures rest { words.new ≡ drop 1 words.old }
 {
     match number_64(words.word()?) {
@@ -75,9 +75,17 @@ pub fn link_word(words: &mut Words<'_>) -> Result<u64, LineFault>
     }
 }
 
+/// The creation that the next word is.
+pub fn creation_word(words: &mut Words<'_>) -> Result<Creation, LineFault>
+    ensures reads { Reads result (first_in creation_in words.old) }
+    ensures rest { words.new ≡ drop 1 words.old }
+{
+    Ok(Creation(number_word(words)?))
+}
+
 /// The form of a name message that the next word is.
 pub fn opening_word(words: &mut Words<'_>) -> Result<Opening, LineFault>
-    ensures reads { ReadsPlainly result (first_in opening_in words.old) }
+    ensures reads { Reads result (first_in opening_in words.old) }
     ensures rest { words.new ≡ drop 1 words.old }
 {
     meaning_word(&OPENINGS, words)
@@ -92,7 +100,7 @@ fn why_of(word: &[u8]) -> Option<Why>
 
 /// The cause that the next word is.
 pub fn why_word(words: &mut Words<'_>) -> Result<Why, LineFault>
-    ensures reads { ReadsPlainly result (first_in why_in words.old) }
+    ensures reads { Reads result (first_in why_in words.old) }
     ensures rest { words.new ≡ drop 1 words.old }
 {
     match why_of(words.word()?) {
@@ -101,11 +109,13 @@ pub fn why_word(words: &mut Words<'_>) -> Result<Why, LineFault>
     }
 }
 
-/// The bytes that a word's hexadecimal digits write, of either case, of which there are some.
+/// The bytes that the hexadecimal digits of the next word write, of either case, of which there are some.
 #[tactic(auto, using(crate::proofs::Reading::no_digits, crate::proofs::Reading::some_digits))]
-pub fn bytes_of(alloc: Global, word: &[u8]) -> Result<ByteString, LineFault>
-    ensures { Reads result (bytes_in word.now) }
+pub fn bytes_word(alloc: Global, words: &mut Words<'_>) -> Result<ByteString, LineFault>
+    ensures reads { Reads result (first_in bytes_in words.old) }
+    ensures rest { words.new ≡ drop 1 words.old }
 {
+    let word = words.word()?;
     if word.is_empty() {
         return Err(LineFault::Bad);
     }
@@ -133,7 +143,7 @@ pub fn meaning_word<T: Copy>(
     table: &[(&'static str, T)],
     words: &mut Words<'_>,
 ) -> Result<T, LineFault>
-    ensures reads { ReadsPlainly result (first_in (meaning_in (map (λ row. (row.0.now, row.1)) table.now)) words.old) }
+    ensures reads { Reads result (first_in (meaning_in (map (λ row. (row.0.now, row.1)) table.now)) words.old) }
     ensures rest { words.new ≡ drop 1 words.old }
 {
     meaning_of(table, words.word()?).ok_or(LineFault::Bad)

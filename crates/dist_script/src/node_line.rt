@@ -1,13 +1,13 @@
 //! The line of a script that sets the node up.
 
-ghost use Rattle.std.specs.Prelude.{◌≡◌, drop, Some, None, OnOk, MatchResult};
+ghost use Rattle.std.specs.Prelude.{◌≡◌, drop, Some, None, MatchResult};
 ghost use Rattle.dist_names.specs.Digits.{flags_in};
 ghost use Rattle.dist_script.specs.declared.words.LineFault.TheVariants.{Bad};
-ghost use Rattle.dist_script.specs.Fields.{Reads, ReadsPlainly, behind, first_in, creation_in};
-ghost use Rattle.dist_script.specs.Nodes.{version_in, behind_version, required_in, behind_required, cookie_in, cookie_added, further_in, cookies_in};
-ghost use Rattle.dist_script.specs.Nodes.{names_in, allowed_in, terms_in, behind_terms, behind_cookies, node_in};
+ghost use Rattle.dist_script.specs.Fields.{Reads, ReadsUpTo, Makes, first_in, creation_in};
+ghost use Rattle.dist_script.specs.Nodes.{version_in, required_in, cookie_in, cookie_added, further_in, cookies_in};
+ghost use Rattle.dist_script.specs.Nodes.{names_in, allowed_in, terms_in, behind_cookies, node_in};
 
-use crate::fields::{line_end, name_of, name_word, number_word};
+use crate::fields::{creation_word, line_end, name_of, name_word};
 use crate::words::{LineFault, Words};
 use dist_core::{Limits, NameList, Setup, Version};
 use dist_names::{Creation, Flags, NodeName, are_visible};
@@ -15,20 +15,13 @@ use dist_secret::{Cookie, CookieError, Cookies, CookiesError};
 use std::alloc::Global;
 
 fn flags_word(words: &mut Words<'_>) -> Result<Flags, LineFault>
-    ensures reads { ReadsPlainly result (first_in flags_in words.old) }
+    ensures reads { Reads result (first_in flags_in words.old) }
     ensures rest { words.new ≡ drop 1 words.old }
 {
     match Flags::of_digits(words.word()?) {
         Some(flags) => Ok(flags),
         None => Err(LineFault::Bad),
     }
-}
-
-fn creation_word(words: &mut Words<'_>) -> Result<Creation, LineFault>
-    ensures reads { ReadsPlainly result (first_in creation_in words.old) }
-    ensures rest { words.new ≡ drop 1 words.old }
-{
-    Ok(Creation(number_word(words)?))
 }
 
 // The cookie that a word is.
@@ -47,8 +40,7 @@ fn cookie_of(alloc: Global, word: &[u8]) -> Result<Cookie, LineFault>
 
 // A cookie for this peer, which has none of its own yet.
 fn set_cookie(cookies: &mut Cookies, peer: NodeName, cookie: Cookie) -> Result<(), LineFault>
-    ensures { MatchResult result (λ _. cookie_added cookies.old peer cookie ≡ Some cookies.new)
-        (λ fault. fault ≡ Bad → cookie_added cookies.old peer cookie ≡ None) }
+    ensures { Makes result cookies.new (cookie_added cookies.old peer cookie) }
 {
     let before = cookies.len();
     match cookies.set(peer, cookie) {
@@ -60,8 +52,7 @@ fn set_cookie(cookies: &mut Cookies, peer: NodeName, cookie: Cookie) -> Result<(
 
 // The next two words: a peer, and the cookie for it.
 fn add_cookie(alloc: Global, cookies: &mut Cookies, words: &mut Words<'_>) -> Result<(), LineFault>
-    ensures adds { MatchResult result (λ _. further_in cookies.old words.old ≡ Some cookies.new)
-        (λ fault. fault ≡ Bad → further_in cookies.old words.old ≡ None) }
+    ensures adds { Makes result cookies.new (further_in cookies.old words.old) }
     ensures rest { words.new ≡ drop 2 words.old }
 {
     let peer = words.word()?;
@@ -71,10 +62,9 @@ fn add_cookie(alloc: Global, cookies: &mut Cookies, words: &mut Words<'_>) -> Re
 }
 
 // Adds cookies of peers, each behind `cookie` and the peer's name.
-#[tactic(auto, using(crate::proofs::Rows::one_cookie, crate::proofs::Rows::bad_cookie))]
+#[tactic(auto, using(crate::proofs::Rows::one_cookie))]
 fn add_cookies(alloc: Global, cookies: &mut Cookies, words: &mut Words<'_>) -> Result<(), LineFault>
-    ensures { MatchResult result (λ _. cookies_in cookies.old words.old ≡ Some (record { table = cookies.new; rest = words.new }))
-        (λ fault. fault ≡ Bad → cookies_in cookies.old words.old ≡ None) }
+    ensures { Makes result (cookies.new, words.new) (cookies_in cookies.old words.old) }
 {
     'cookies: while words.skip(b"cookie") {
         add_cookie(alloc, cookies, words)?;
@@ -110,8 +100,7 @@ fn allow_list(alloc: Global, words: &mut Words<'_>) -> Result<Option<NameList>, 
 // The version, 5, behind `version`. Without it the node knows version 6.
 #[tactic(auto, using(crate::proofs::Reading::begun, crate::proofs::Reading::not_begun))]
 fn version(words: &mut Words<'_>) -> Result<Version, LineFault>
-    ensures reads { ReadsPlainly result (version_in words.old) }
-    ensures rest { OnOk result (words.new ≡ behind_version words.old) }
+    ensures { ReadsUpTo result words.new (version_in words.old) }
 {
     if !words.skip(b"version") {
         return Ok(Version::Six);
@@ -126,8 +115,7 @@ fn version(words: &mut Words<'_>) -> Result<Version, LineFault>
 // The flags that are required, behind `require`. Without it none are.
 #[tactic(auto, using(crate::proofs::Reading::begun, crate::proofs::Reading::not_begun))]
 fn required_flags(words: &mut Words<'_>) -> Result<Flags, LineFault>
-    ensures reads { ReadsPlainly result (required_in words.old) }
-    ensures rest { OnOk result (words.new ≡ behind_required words.old) }
+    ensures { ReadsUpTo result words.new (required_in words.old) }
 {
     if words.skip(b"require") {
         flags_word(words)
@@ -146,8 +134,7 @@ struct NodeTerms {
 }
 
 fn terms_of(words: &mut Words<'_>) -> Result<NodeTerms, LineFault>
-    ensures reads { ReadsPlainly result (terms_in words.old) }
-    ensures rest { OnOk result (words.new ≡ behind_terms words.old) }
+    ensures { ReadsUpTo result words.new (terms_in words.old) }
 {
     Ok(NodeTerms {
         flags: flags_word(words)?,

@@ -28,7 +28,7 @@ pub enum Piece<'a> {
 }
 
 /// Writes these pieces, one behind the other. Where a write fails, what was written is a beginning of them.
-#[tactic(auto, using(crate::proofs::Printing::nothing, crate::proofs::Printing::put_more, crate::proofs::Printing::put_part))]
+#[tactic(auto, using(crate::proofs::Fronts::none_put, crate::proofs::Printing::put_more, crate::proofs::Printing::put_all))]
 pub fn put<W: Write>(out: &mut W, pieces: &[Piece<'_>]) -> io::Result<()>
     ensures text { OnOk result (Appends (W.contents out.old) (W.contents out.new) (texts_of pieces.now)) }
     ensures cut { OnErr result (PutsFront (texts_of pieces.now) (W.contents out.old) (W.contents out.new)) }
@@ -83,6 +83,7 @@ pub fn put_flags<W: Write>(out: &mut W, flags: Flags) -> io::Result<()>
 
 /// Writes bytes as hexadecimal digits of lower case. Where a write fails, what was written is a beginning of them.
 #[inline(never)]
+#[tactic(auto, using(crate::proofs::Fronts::none_put))]
 pub fn put_digits<W: Write>(out: &mut W, bytes: &[u8]) -> io::Result<()>
     ensures text { OnOk result (Appends (W.contents out.old) (W.contents out.new) (encode_lower bytes.now)) }
     ensures cut { OnErr result (PutsFront (encode_lower bytes.now) (W.contents out.old) (W.contents out.new)) }

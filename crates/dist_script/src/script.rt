@@ -4,8 +4,9 @@ ghost use Rattle.std.specs.Prelude.{◌≡◌, ◌⊎◌, false, true, is_some, 
 ghost use Rattle.dist_script.specs.Words.{words_of, lines_of};
 ghost use Rattle.dist_script.specs.declared.fault.ScriptFault.TheVariants.{BadLine, NoMemory};
 ghost use Rattle.dist_script.specs.declared.words.LineFault.TheVariants.{Bad};
-ghost use Rattle.dist_script.specs.Happenings as happenings;
-ghost use Rattle.dist_script.specs.Scripts.{nothing, with_node, with_event, with_happening, is_either, with_words, with_line, with_lines};
+ghost use Rattle.dist_script.specs.Fields.{Makes};
+ghost use Rattle.dist_script.specs.Happenings.{happening_line};
+ghost use Rattle.dist_script.specs.Scripts.{nothing, with_node, is_either, with_event, with_happening, with_words, with_line, with_lines};
 ghost use Rattle.dist_script.specs.Scripts.{script_in, says};
 
 use crate::events::line_of;
@@ -79,8 +80,7 @@ impl Draft {
 
     // Takes a line that is not skipped. The lines of the nodes stand before all others.
     fn take(&mut self, alloc: Global, text: &[u8]) -> Result<(), LineFault>
-        ensures { MatchResult result (λ _. with_words self.old (words_of text.now) ≡ Some self.new)
-            (λ fault. fault ≡ Bad → with_words self.old (words_of text.now) ≡ None) }
+        ensures { Makes result self.new (with_words self.old (words_of text.now)) }
     {
         let mut words = Words::new(text);
         if words.skip(b"node") {
@@ -95,7 +95,7 @@ impl Draft {
     }
 
     fn set_up(&mut self, alloc: Global, words: &mut Words<'_>) -> Result<(), LineFault>
-        ensures { MatchResult result (λ _. with_node self.old words.old ≡ Some self.new) (λ fault. fault ≡ Bad → with_node self.old words.old ≡ None) }
+        ensures { Makes result self.new (with_node self.old words.old) }
     {
         if self.has_lines {
             return Err(LineFault::Bad);
@@ -105,15 +105,14 @@ impl Draft {
     }
 
     fn take_event(&mut self, alloc: Global, words: &mut Words<'_>) -> Result<(), LineFault>
-        ensures { MatchResult result (λ _. with_event self.old words.old ≡ Some self.new) (λ fault. fault ≡ Bad → with_event self.old words.old ≡ None) }
+        ensures { Makes result self.new (with_event self.old words.old) }
     {
         self.events.push(line_of(alloc, words)?)?;
         Ok(())
     }
 
     fn happen(&mut self, alloc: Global, words: &mut Words<'_>) -> Result<(), LineFault>
-        ensures { MatchResult result (λ _. with_happening self.old words.old ≡ Some self.new)
-            (λ fault. fault ≡ Bad → with_happening self.old words.old ≡ None) }
+        ensures { Makes result self.new (with_happening self.old words.old) }
     {
         self.happenings.push(happening_of(alloc, words)?)?;
         Ok(())
@@ -147,8 +146,7 @@ fn is_line(alloc: Global, text: &[u8]) -> Result<(), LineFault>
 }
 
 fn is_happening(alloc: Global, text: &[u8]) -> Result<(), LineFault>
-    ensures { MatchResult result (λ _. is_some (happenings.happening_line (words_of text.now)) ≡ true)
-        (λ fault. fault ≡ Bad → happenings.happening_line (words_of text.now) ≡ None) }
+    ensures { MatchResult result (λ _. is_some (happening_line (words_of text.now)) ≡ true) (λ fault. fault ≡ Bad → happening_line (words_of text.now) ≡ None) }
 {
     happening_of(alloc, &mut Words::new(text))?;
     Ok(())

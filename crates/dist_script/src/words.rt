@@ -98,39 +98,22 @@ impl<'a> Words<'a> {
         }
     }
 
-    // Whether what is left of the line begins with these bytes, as it does where they are its next word.
-    #[tactic(auto, using(crate::proofs::Split::word_in_front))]
-    #[inline(always)]
-    fn begins(&self, wanted: &[u8]) -> bool
-        ensures { (rest : List (List ℕ)) → self.now ≡ wanted.now ∷ rest → IsTrue result }
-    {
-        match self.rest {
-            Some(line) => line.starts_with(wanted),
-            None => false,
-        }
-    }
-
     /// Takes the next word where it is this one, and returns whether it was.
-    #[inline(always)]
+    #[tactic(auto, using(crate::proofs::Split::word_in_front))]
     pub fn skip(&mut self, wanted: &[u8]) -> bool
         ensures { MatchBool result (self.old ≡ wanted.now ∷ self.new) ((self.new ≡ self.old) × ((rest : List (List ℕ)) → self.old ≡ wanted.now ∷ rest → ⊥)) }
     {
-        if !self.begins(wanted) {
+        let Some(line) = self.rest else {
+            return false;
+        };
+        // Most lines begin with another word, and need no splitting.
+        if !line.starts_with(wanted) {
             return false;
         }
-        self.skip_word(wanted)
-    }
-
-    // The same by splitting the word off.
-    #[inline(never)]
-    fn skip_word(&mut self, wanted: &[u8]) -> bool
-        ensures { MatchBool result (self.old ≡ wanted.now ∷ self.new) ((self.new ≡ self.old) × ((rest : List (List ℕ)) → self.old ≡ wanted.now ∷ rest → ⊥)) }
-    {
-        let rest = self.rest;
         if self.next() == Some(wanted) {
             return true;
         }
-        self.rest = rest;
+        self.rest = Some(line);
         false
     }
 

@@ -19,16 +19,13 @@ use Rattle.dist_core_ends.specs.declared.known.UpRecord.{UpRecord}
 use Rattle.dist_core_ends.specs.declared.known.End.{End}
 use Rattle.dist_core_ends.specs.declared.known.End.TheVariants as ends
 use Rattle.dist_core_ends.specs.Ends.{entry_in, entry_from, end_id, first_of, holds, table_of}
-use Rattle.dist_core_ends.proofs.Tables.{get-table, order, same-name}
-use Rattle.std.proofs.lemmas.Cmp.{tied_itself}
+use Rattle.dist_core_ends.proofs.Tables.{get-table}
+use Rattle.dist_names.proofs.Orders.{one_lem, itself_lem}
 use Rattle.dist_core.specs.Node.{NodeState}
 use Rattle.dist_world_model.specs.World.{World, Life}
 use Rattle.dist_world_model.specs.Agreement.{Counts}
 use Rattle.dist_world.specs.Asking.{node_of}
 use Rattle.dist_script_lines.specs.Later.{ArePlaces, place_of, place_behind, later_at, AreLater, HasAllFrom}
-
-itself : (n : Name) → same_name n n ≡ true
-itself n = ap is_eq (tied_itself order n)
 
 -- ---- the end that is up makes an entry
 
@@ -50,7 +47,7 @@ entry_some x (Some y) o = (entry.Challenged (end_id x) (end_id y), refl)
 
 entry_there : (es : List End) (p : Name) (i : ℕ) (kept : UpRecord) → slice_get es i ≡ Some (ends.Up kept) → kept.peer ≡ p → (e : Entry) × (entry_in es p ≡ Some e)
 entry_there es p i kept at named =
-    let held : holds p Up (ends.Up kept) ≡ true = ap (λ q. same_name p q) named ∙ itself p in
+    let held : holds p Up (ends.Up kept) ≡ true = ap (λ q. same_name p q) named ∙ itself_lem p in
     let f = first_some (holds p Up) es i (ends.Up kept) at held in
     let h = entry_some f.0 (first_of (holds p In) es) (first_of (holds p Out) es) in
     (h.0, ap (λ x. entry_from x (first_of (holds p In) es) (first_of (holds p Out) es)) f.1 ∙ h.1)
@@ -70,13 +67,13 @@ found_at p e (r ∷ rows) is =
 behind_there : (a b : ℕ) → a < b → place_behind a (Some b) ≡ Some b
 behind_there a b l = ap (λ v. cond v (Some b) None) (lt-ltb a b l)
 
+-- the node of whoever counts another as up runs
+counting : (w : World) (a b : ℕ) (u : Counts w a b) → node_of w a ≡ Some u.life.node
+counting w a b u = ap (λ o. option_map (λ (l : Life). l.node) (option_and_then (slice_get w.lives) o)) u.runs ∙ ap (option_map (λ (l : Life). l.node)) u.lives
+
 module _ (w : World) (a : ℕ) (n : NodeState) (places : BTreeMap Name ℕ) (there : node_of w a ≡ Some n) (are : ArePlaces places w.setups (length w.setups)) where
   same_node : (b : ℕ) (u : Counts w a b) → u.life.node ≡ n
-  same_node b u =
-      let runs : node_of w a ≡ option_map (λ (l : Life). l.node) (option_and_then (slice_get w.lives) (Some u.place)) = ap (λ o. option_map (λ (l : Life). l.node) (option_and_then (slice_get w.lives) o)) u.runs in
-      let lives : option_map (λ (l : Life). l.node) (slice_get w.lives u.place) ≡ Some u.life.node = ap (option_map (λ (l : Life). l.node)) u.lives in
-      let both : Some u.life.node ≡ Some n = sym lives ∙ sym runs ∙ there in
-      cc
+  same_node b u = let both : Some u.life.node ≡ Some n = sym (counting w a b u) ∙ there in cc
 
   counted_row : (b : ℕ) → a < b → Counts w a b → (row : ℕ) × (row < map.len (table_of n.ends)) × (later_at places a n row ≡ Some b)
   counted_row b l u =
@@ -87,7 +84,7 @@ module _ (w : World) (a : ℕ) (n : NodeState) (places : BTreeMap Name ℕ) (the
       let found : find name_cmp p rows ≡ Some e.0 = sym (get-entries (table_of n.ends) p) ∙ get-table n.ends p ∙ e.1 in
       let r = found_at p e.0 rows found in
       let few : r.0 < length rows = slice_get_within rows r.0 (r.1, e.0) r.2 in
-      let place : get name_cmp places r.1 ≡ Some b = ap (get name_cmp places) (sym (same-name p r.1 r.3)) ∙ are.known b u.other (slice_get_within w.setups b u.other u.named) u.named in
+      let place : get name_cmp places r.1 ≡ Some b = ap (get name_cmp places) (sym (one_lem p r.1 r.3)) ∙ are.known b u.other (slice_get_within w.setups b u.other u.named) u.named in
       (r.0, omega (arith, few, len-entries (table_of n.ends)), ap (λ o. place_behind a (place_of places o)) r.2 ∙ ap (place_behind a) place ∙ behind_there a b l)
 
   pub has_all : (later : BTreeSet ℕ) → AreLater later places a n (map.len (table_of n.ends)) → HasAllFrom later w a (suc a)
@@ -107,10 +104,6 @@ none_in later b empty = ap (λ ks. list_any (λ k. is_eq (nat_cmp b k)) ks) empt
 -- where no node runs there is nobody
 pub has_none : (w : World) (a : ℕ) (later : BTreeSet ℕ) → node_of w a ≡ None → later.keys ≡ [] → HasAllFrom later w a (suc a)
 has_none w a later none empty = record {
-  all = λ b l u.
-      let runs : node_of w a ≡ option_map (λ (l : Life). l.node) (option_and_then (slice_get w.lives) (Some u.place)) = ap (λ o. option_map (λ (l : Life). l.node) (option_and_then (slice_get w.lives) o)) u.runs in
-      let lives : option_map (λ (l : Life). l.node) (slice_get w.lives u.place) ≡ Some u.life.node = ap (option_map (λ (l : Life). l.node)) u.lives in
-      let both : Some u.life.node ≡ None = sym lives ∙ sym runs ∙ none in
-      absurd cc;
+  all = λ b l u. let both : Some u.life.node ≡ None = sym (counting w a b u) ∙ none in absurd cc;
   within = λ b here. let nobody = none_in later b empty in absurd cc;
 }

@@ -4,6 +4,7 @@ use Rattle.std.specs.Io.KnownBytes.{Appends}
 use Rattle.std.proofs.KnownBytes.{Appends-nil, Appends-trans}
 use Rattle.std.specs.Ordering.{nat_cmp, is_eq, is_gt}
 use Rattle.std.specs.BTreeSet.{BTreeSet, contains, Updates, IsLowerBound}
+use Rattle.std.proofs.lemmas.List.{nil_from_length}
 use Rattle.std.proofs.lemmas.Bool.Decides.{nat_tests}
 use Rattle.dist_world_model.specs.World.{World}
 use Rattle.dist_world_model.specs.Agreement.{Counts}
@@ -17,20 +18,13 @@ lines_behind : (w : World) (ps qs : List (ℕ × ℕ)) (s t : List ℕ) → AreL
 lines_behind w [] qs s t e k = subst (λ x. AreLinesOf w qs (x ++ t)) (sym e) k
 lines_behind w (p ∷ ps) qs s t h k = (h.0, h.1 ++ t, h.2, lines_behind w ps qs h.1 t h.3 k, ap (λ x. x ++ t) h.4 ∙ append_assoc (reported_line w p.0 p.1 h.0) h.1 t)
 
-no_keys : (ks : List ℕ) → length ks ≡ 0 → ks ≡ []
-no_keys [] none = refl
-no_keys (k ∷ ks) none = absurd (omega arith)
-
 -- where nothing is found of two, they do not both count each other as up
 pub none_both : (w : World) (a b : ℕ) → a < b → ((x : Counts w a b) (y : Counts w b a) → a ≢ b → Ups.IsReported None x.kept y.kept) → Counts w a b → Counts w b a → ⊥
 none_both w a b l counted x y = let noted = counted x y (λ e. (let same : a ≡ b = e in absurd (omega arith))) in let is = noted.1 in cc
 
 pub none_left : (r : Option ℕ) (n : ℕ) → r ≡ None → (IsSome r ↔ (0 < n)) → n ≡ 0
-none_left None n e h = none_more n (λ l. let some = h.1 l in absurd cc)
-  where
-    none_more : (n : ℕ) → (0 < n → ⊥) → n ≡ 0
-    none_more zero f = refl
-    none_more (suc n) f = absurd (f (omega arith))
+none_left None zero e h = refl
+none_left None (suc n) e h = let some = h.1 (omega arith) in absurd cc
 none_left (Some x) n e h = absurd cc
 
 -- ---- a node with each one behind it
@@ -95,7 +89,7 @@ module _ (w : World) (a : ℕ) where
   row_ends later o n so none =
       let all = length w.setups in
       let few = so.few in
-      let empty = no_keys later.keys none in
+      let empty = nil_from_length later.keys none in
       let distance : so.next + (all - so.next) ≡ all = omega arith in
       let end : IsRowFrom w a all [] = (0, omega arith, refl) in
       let nobody : (c : ℕ) → so.next < suc c → c < all → Counts w a c → ⊥ = λ c l k u. (let there = so.left.all c l u in let nobody = none_in later c empty in cc) in

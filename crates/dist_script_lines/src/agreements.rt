@@ -15,7 +15,7 @@ ghost use Rattle.dist_script_lines.specs.Later.{ArePlaces, later_at, is_this, Ar
 use crate::print;
 use dist_core::{Node, Setup};
 use dist_names::{NodeName, order_of_names};
-use dist_script::ScriptFault;
+use dist_script::{ScriptFault, or_write_failed};
 use dist_world::{Agreement, World};
 use std::alloc::{AllocError, Global};
 use std::collections::{BTreeMap, BTreeSet};
@@ -165,7 +165,7 @@ fn print_agreements_from<W: Write>(
     ensures { OnOk result ((text : List ℕ) × IsRowFrom world.now place (suc place) text × Appends (W.contents out.old) (W.contents out.new) text) }
 {
     let later = later_ones(alloc, world, place, places)?;
-    print_later(world, place, later, out).map_err(|_| ScriptFault::WriteFailed)
+    or_write_failed(print_later(world, place, later, out))
 }
 
 /// What each two nodes have in common that are up with one another, the lesser place first, in order. Only who stands in a

@@ -16,25 +16,10 @@ ghost use Rattle.dist_script_lines.specs.Lines.{node_text, closed_line, applied_
 use dist_core::{Node, Reply, StepError, UpRecord, Why};
 use dist_names::{Creation, NodeName};
 use dist_peers::{EndId, Entry};
-use dist_script::{Piece, put, put_bytes, put_digits, put_flags, put_number};
+use dist_script::{Piece, put, put_bytes, put_digits, put_number};
 use dist_world::Agreement;
 use std::io;
 use std::io::Write;
-
-// The number of an end.
-#[inline(always)]
-fn put_end<W: Write>(out: &mut W, id: EndId) -> io::Result<()>
-    ensures { OnOk result (Appends (W.contents out.old) (W.contents out.new) (decimal id.0)) }
-{
-    put_number(out, u64::from(id.0))
-}
-
-// The name of a cause.
-fn put_why<W: Write>(out: &mut W, why: Why) -> io::Result<()>
-    ensures { OnOk result (Appends (W.contents out.old) (W.contents out.new) (why_word why)) }
-{
-    put_bytes(out, why.name().as_bytes())
-}
 
 // A creation, where it is known.
 fn creation(creation: Option<Creation>) -> Piece<'static>
@@ -43,15 +28,6 @@ fn creation(creation: Option<Creation>) -> Piece<'static>
     match creation {
         Some(creation) => Piece::Number(u64::from(creation.0)),
         None => Piece::Text(b"unknown"),
-    }
-}
-
-fn put_creation<W: Write>(out: &mut W, creation: Option<Creation>) -> io::Result<()>
-    ensures { OnOk result (Appends (W.contents out.old) (W.contents out.new) (creation_text creation)) }
-{
-    match creation {
-        Some(creation) => put_number(out, u64::from(creation.0)),
-        None => put_bytes(out, b"unknown"),
     }
 }
 
@@ -72,9 +48,9 @@ fn put_closing<W: Write>(out: &mut W, id: EndId, why: Why) -> io::Result<()>
     ensures { OnOk result (Appends (W.contents out.old) (W.contents out.new) (codes " closed " ++ decimal id.0 ++ codes " " ++ why_word why)) }
 {
     put_bytes(out, b" closed ")?;
-    put_end(out, id)?;
+    put_number(out, u64::from(id.0))?;
     put_bytes(out, b" ")?;
-    put_why(out, why)
+    put_bytes(out, why.name().as_bytes())
 }
 
 fn write_closed<W: Write>(out: &mut W, closed: Option<(EndId, Why)>) -> io::Result<()>
@@ -86,25 +62,23 @@ fn write_closed<W: Write>(out: &mut W, closed: Option<(EndId, Why)>) -> io::Resu
     }
 }
 
-// The record of the end that came up, and the end of the line.
-#[tactic(auto, using(crate::proofs::Printing::listed_seven))]
-fn put_rise<W: Write>(out: &mut W, found: &UpRecord) -> io::Result<()>
-    ensures { OnOk result (Appends (W.contents out.old) (W.contents out.new) (up_text (Some found.now))) }
-{
-    put_bytes(out, b" up ")?;
-    put_bytes(out, found.peer.bytes())?;
-    put_bytes(out, b" ")?;
-    put_flags(out, found.common)?;
-    put_bytes(out, b" ")?;
-    put_creation(out, found.creation)?;
-    put_bytes(out, b"\n")
-}
-
+// The record of the end that came up, if one did, and the end of the line.
 fn came_up<W: Write>(out: &mut W, up: Option<&UpRecord>) -> io::Result<()>
     ensures { OnOk result (Appends (W.contents out.old) (W.contents out.new) (up_text (option_copied up.entry))) }
 {
     match up {
-        Some(found) => put_rise(out, found),
+        Some(found) => put(
+            out,
+            &[
+                Piece::Text(b" up "),
+                Piece::Text(found.peer.bytes()),
+                Piece::Text(b" "),
+                Piece::Flags(found.common),
+                Piece::Text(b" "),
+                creation(found.creation),
+                Piece::Text(b"\n"),
+            ],
+        ),
         None => put_bytes(out, b" up -\n"),
     }
 }
@@ -116,7 +90,7 @@ fn put_saying<W: Write>(out: &mut W, id: EndId, say: &[u8]) -> io::Result<()>
     ensures { OnOk result (Appends (W.contents out.old) (W.contents out.new) (codes "end " ++ decimal id.0 ++ codes " say " ++ said_text say.now)) }
 {
     put_bytes(out, b"end ")?;
-    put_end(out, id)?;
+    put_number(out, u64::from(id.0))?;
     put_bytes(out, b" say ")?;
     put_said(out, say)
 }
@@ -164,54 +138,36 @@ pub fn brief_reply<W: Write>(
     put_outcome(out, closed, None)
 }
 
-// The number of an end behind a word.
-#[tactic(auto, using(crate::proofs::Printing::in_two))]
-fn end_behind<W: Write>(out: &mut W, word: &[u8], id: EndId) -> io::Result<()>
-    ensures { OnOk result (Appends (W.contents out.old) (W.contents out.new) (word.now ++ decimal id.0)) }
-{
-    put_bytes(out, word)?;
-    put_end(out, id)
-}
-
-// The number of the end that is up behind a word, and that of the end by which it is challenged behind another.
-#[tactic(auto, using(crate::proofs::Printing::in_four))]
-fn ends_behind<W: Write>(
-    out: &mut W,
-    word: &'static [u8],
-    up: EndId,
-    behind: &'static [u8],
-    by_: EndId,
-) -> io::Result<()>
-    ensures { OnOk result (Appends (W.contents out.old) (W.contents out.new) (word.now ++ decimal up.0 ++ behind.now ++ decimal by_.0)) }
-{
-    put_bytes(out, word)?;
-    put_end(out, up)?;
-    put_bytes(out, behind)?;
-    put_end(out, by_)
-}
-
 fn busy<W: Write>(out: &mut W, entry: Entry) -> io::Result<()>
     ensures { OnOk result (Appends (W.contents out.old) (W.contents out.new) (busy_text entry)) }
 {
     match entry {
-        Entry::Out(id) => end_behind(out, b" Out ", id),
-        Entry::In(id) => end_behind(out, b" In ", id),
-        Entry::Up(id) => end_behind(out, b" Up ", id),
-        Entry::Challenged { up, by_ } => ends_behind(out, b" Challenged ", up, b" ", by_),
+        Entry::Out(id) => put(out, &[Piece::Text(b" Out "), Piece::Number(id.0 as u64)]),
+        Entry::In(id) => put(out, &[Piece::Text(b" In "), Piece::Number(id.0 as u64)]),
+        Entry::Up(id) => put(out, &[Piece::Text(b" Up "), Piece::Number(id.0 as u64)]),
+        Entry::Challenged { up, by_ } => put(
+            out,
+            &[
+                Piece::Text(b" Challenged "),
+                Piece::Number(up.0 as u64),
+                Piece::Text(b" "),
+                Piece::Number(by_.0 as u64),
+            ],
+        ),
     }
 }
 
 // What stands behind the name of a refusal.
-#[tactic(auto, using(crate::proofs::Printing::nothing, crate::proofs::Printing::in_two))]
+#[tactic(auto, using(crate::proofs::Printing::nothing))]
 fn detail<W: Write>(out: &mut W, error: StepError) -> io::Result<()>
     ensures { OnOk result (Appends (W.contents out.old) (W.contents out.new) (detail_text error)) }
 {
     match error {
         StepError::Busy(entry) => busy(out, entry),
-        StepError::Gone(why) => {
-            put_bytes(out, b" ")?;
-            put_why(out, why)
-        }
+        StepError::Gone(why) => put(
+            out,
+            &[Piece::Text(b" "), Piece::Text(why.name().as_bytes())],
+        ),
         StepError::NoSuchEnd
         | StepError::WrongPhase
         | StepError::Spent
@@ -249,31 +205,36 @@ fn standing<W: Write>(out: &mut W, entry: Entry) -> io::Result<()>
     ensures { OnOk result (Appends (W.contents out.old) (W.contents out.new) (entry_text entry)) }
 {
     match entry {
-        Entry::Out(id) => end_behind(out, b" out ", id),
-        Entry::In(id) => end_behind(out, b" in ", id),
-        Entry::Up(id) => end_behind(out, b" up ", id),
-        Entry::Challenged { up, by_ } => ends_behind(out, b" up ", up, b" challenged ", by_),
+        Entry::Out(id) => put(out, &[Piece::Text(b" out "), Piece::Number(id.0 as u64)]),
+        Entry::In(id) => put(out, &[Piece::Text(b" in "), Piece::Number(id.0 as u64)]),
+        Entry::Up(id) => put(out, &[Piece::Text(b" up "), Piece::Number(id.0 as u64)]),
+        Entry::Challenged { up, by_ } => put(
+            out,
+            &[
+                Piece::Text(b" up "),
+                Piece::Number(up.0 as u64),
+                Piece::Text(b" challenged "),
+                Piece::Number(by_.0 as u64),
+            ],
+        ),
     }
 }
 
-// The record of an end that is up, and the end of the line.
-#[tactic(auto, using(crate::proofs::Printing::listed_five))]
-fn put_known<W: Write>(out: &mut W, found: &UpRecord) -> io::Result<()>
-    ensures { OnOk result (Appends (W.contents out.old) (W.contents out.new) (record_text (Some found.now))) }
-{
-    put_bytes(out, b" common ")?;
-    put_flags(out, found.common)?;
-    put_bytes(out, b" creation ")?;
-    put_creation(out, found.creation)?;
-    put_bytes(out, b"\n")
-}
-
-// The same where the peer has one.
+// The record of an end that is up, if the peer has one, and the end of the line.
 fn record<W: Write>(out: &mut W, kept: Option<&UpRecord>) -> io::Result<()>
     ensures { OnOk result (Appends (W.contents out.old) (W.contents out.new) (record_text (option_copied kept.entry))) }
 {
     match kept {
-        Some(found) => put_known(out, found),
+        Some(found) => put(
+            out,
+            &[
+                Piece::Text(b" common "),
+                Piece::Flags(found.common),
+                Piece::Text(b" creation "),
+                creation(found.creation),
+                Piece::Text(b"\n"),
+            ],
+        ),
         None => put_bytes(out, b"\n"),
     }
 }
@@ -354,29 +315,25 @@ pub fn write_applied<W: Write>(out: &mut W, applied: usize, all: usize) -> io::R
     )
 }
 
-#[tactic(auto, using(crate::proofs::Printing::in_two))]
-fn running<W: Write>(out: &mut W, name: &NodeName, node: &Node) -> io::Result<()>
-    ensures { OnOk result (Appends (W.contents out.old) (W.contents out.new) (node_text name.now (Some node.now))) }
-{
-    put(
-        out,
-        &[
-            Piece::Text(b"node "),
-            Piece::Text(name.bytes()),
-            Piece::Text(b" running "),
-            Piece::Number(u64::from(node.creation().0)),
-            Piece::Text(b"\n"),
-        ],
-    )?;
-    table(out, node)
-}
-
 /// How a node of a world stands: the creation and the table of its running incarnation, or that it is halted.
+#[tactic(auto, using(crate::proofs::Printing::in_two))]
 pub fn node<W: Write>(out: &mut W, name: &NodeName, incarnation: Option<&Node>) -> io::Result<()>
     ensures { OnOk result (Appends (W.contents out.old) (W.contents out.new) (node_text name.now (option_copied incarnation.entry))) }
 {
     match incarnation {
-        Some(node) => running(out, name, node),
+        Some(node) => {
+            put(
+                out,
+                &[
+                    Piece::Text(b"node "),
+                    Piece::Text(name.bytes()),
+                    Piece::Text(b" running "),
+                    Piece::Number(u64::from(node.creation().0)),
+                    Piece::Text(b"\n"),
+                ],
+            )?;
+            table(out, node)
+        }
         None => put(
             out,
             &[

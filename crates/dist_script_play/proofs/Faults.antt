@@ -1,6 +1,7 @@
 -- The faults that stop the playing of a script.
 use Rattle.std.proofs.Common.{◌≡◌, ◌∙◌, ◌≤◌, ◌⊎◌, inl, inr, ⊎_elim, ℕ, ◌+◌, true, false, cond, List, [], ◌∷◌, length, Option, Some, None, Result, Ok, Err, OnOk, IfErr, refl, sym, ap, subst, arith}
-use Rattle.std.specs.Io.KnownBytes.{Appends, Consumes, IsAtEnd}
+use Rattle.std.specs.Io.{StartsWith}
+use Rattle.std.specs.Io.KnownBytes.{Consumes, IsAtEnd}
 use Rattle.std.proofs.KnownBytes.{Keeps-refl}
 use Rattle.std.proofs.lemmas.Bool.{lt-ltb}
 use Rattle.dist_core_setup.specs.declared.setup.Setup.{Setup}
@@ -10,14 +11,13 @@ use Rattle.dist_script.specs.Texts.{PutsFront}
 use Rattle.dist_script.specs.declared.fault.ScriptFault.{ScriptFault}
 use Rattle.dist_script.specs.declared.fault.ScriptFault.TheVariants.{TooLong, SameName, WriteFailed, NoMemory}
 use Rattle.dist_script.specs.Words.{lines_of}
-use Rattle.dist_script.specs.Scripts.{SoFar, nothing, with_line, unless_bad, with_lines, whole, all_good, script_in}
-use Rattle.dist_script.specs.Scripts.Says.{Events, Happenings}
+use Rattle.dist_script.specs.Scripts.{SoFar, nothing, with_line, unless_bad, with_lines, whole, all_good, Says, script_in}
+use Rattle.dist_script.specs.Scripts.Says.{Happenings}
 use Rattle.dist_world_model.specs.declared.happening.Happening.{Happening}
-use Rattle.dist_script.specs.declared.script.ScriptLine.{ScriptLine}
 use Rattle.dist_world_model.specs.World.{World, empty}
-use Rattle.dist_script_play.specs.Played.{at_first, lines_text, IsFront, fault_said, fault_in}
+use Rattle.dist_script_play.specs.Played.{happenings_text, steps_text, IsPrintedFrom, IsPrinted, IsFront, fault_said}
 use Rattle.dist_script_play.specs.Pages.{IsOfSystem, BreaksOff}
-use Rattle.dist_script_play.specs.Scenes.{PutsFrom, PutsFromPart, BreaksWorld, IsBad, IsCut, Stops, StopsWorld}
+use Rattle.dist_script_play.specs.Scenes.{PutsOneOn, PutsOnePart, BreaksOne, IsBad, IsCut, Stops, StopsWorld}
 use Rattle.dist_script_play.proofs.Lines.{not_long}
 use Rattle.dist_script_play.proofs.Worlds.{breaks_world}
 
@@ -87,25 +87,26 @@ bad_script before after a text read fault taken end few is cause =
 of_system : (fault : ScriptFault) → IsOfSystem fault → status_of fault ≡ 1
 of_system fault cause = ⊎_elim (λ e. ap status_of e) (λ e. ap status_of e) cause
 
--- a script of one node was played in part
-pub cut_node : (before after a b : Option (List ℕ)) (text read : List ℕ) (node : Setup) (lines reported : List ScriptLine) (fault : ScriptFault)
-    → Consumes before after text → IsAtEnd after → length text ≤ 1048576 → read ≡ text → script_in read ≡ Ok (Events node lines) → reported ≡ lines → BreaksOff (lines_text (at_first node) reported) a b fault
-    → Stops before after a b fault
-cut_node before after a b text read node lines reported fault taken end few is says same breaks =
-    let said : script_in text ≡ Ok (Events node lines) = subst (λ t. script_in t ≡ Ok (Events node lines)) is says in
-    let here : BreaksOff (lines_text (at_first node) lines) a b fault = subst (λ ls. BreaksOff (lines_text (at_first node) ls) a b fault) same breaks in
+-- a script without a fault was played in part
+pub cut_short : (before after a b : Option (List ℕ)) (text read : List ℕ) (said reported : Says) (fault : ScriptFault)
+    → Consumes before after text → IsAtEnd after → length text ≤ 1048576 → read ≡ text → script_in read ≡ Ok said → reported ≡ said → fault_said (Ok said) ≡ None
+    → BreaksOne (steps_text reported) (IsPrinted reported) a b fault → Stops before after a b fault
+cut_short before after a b text read said reported fault taken end few is says same good breaks =
+    let known : script_in text ≡ Ok said = subst (λ t. script_in t ≡ Ok said) is says in
+    let part : (whole : List ℕ) → BreaksOff whole a b fault → ((front : List ℕ) → StartsWith whole front → IsFront said front) → Stops before after a b fault = λ whole x is_front.
     inl (
-      of_system fault here.cause,
+      of_system fault x.cause,
       inr (record {
         script = text;
-        front = here.front.front;
+        front = x.front.front;
         taken = taken;
         end = end;
-        cause = here.cause;
-        printed = (not_long text few ∙ ap fault_said said, Events node lines, said, here.front.begins);
-        put = here.front.put;
+        cause = x.cause;
+        printed = (not_long text few ∙ ap fault_said known ∙ good, said, known, is_front x.front.front x.front.begins);
+        put = x.front.put;
       }),
-    )
+    ) in
+    ⊎_elim (λ x. part (steps_text said) x (λ f b. inl b)) (λ x. part x.0 x.2 (λ f b. inr (x.0, x.1, b))) (subst (λ y. BreaksOne (steps_text y) (IsPrinted y) a b fault) same breaks)
 
 -- several nodes were no world
 pub same_name : (setups : List Setup) (hs : List Happening) (a : Option (List ℕ)) (fault : ScriptFault) → (fault ≡ SameName) × (names_repeat setups ≡ true) → StopsWorld setups hs a a fault
@@ -113,22 +114,10 @@ same_name setups hs a fault two = inl (two.0, two.1, Keeps-refl a)
 
 -- or what they print breaks off
 pub of_world : {X : Type 0} (played : Result X ScriptFault) (setups : List Setup) (hs : List Happening) (w0 : World) (a b c : Option (List ℕ)) (p q : List ℕ) (fault : ScriptFault)
-    → w0 ≡ empty setups → names_repeat setups ≡ false → p ≡ [] → OnOk played (PutsFrom w0 hs a b p q) → IfErr played (λ f. PutsFromPart w0 hs a b p q f) → PutsFront q b c
+    → w0 ≡ empty setups → names_repeat setups ≡ false → p ≡ [] → OnOk played (PutsOneOn (IsPrintedFrom w0 hs) a b p q) → IfErr played (PutsOnePart (happenings_text w0 hs) (IsPrintedFrom w0 hs) a b p q) → PutsFront q b c
     → (fault ≡ WriteFailed) ⊎ (played ≡ Err fault) → StopsWorld setups hs a c fault
 of_world played setups hs w0 a b c p q fault first apart none puts part front cause =
     inr (apart, breaks_world played setups hs w0 a b c p q fault first none puts part front cause)
-
--- of a world this was printed, and why no more
-record IsFrontOf (setups : List Setup) (hs : List Happening) (a b : Option (List ℕ)) (fault : ScriptFault) : Type 0 where
-  front : List ℕ
-  is : IsFront (Happenings setups hs) front
-  put : Appends a b front
-  cause : IsOfSystem fault
-
-front_of : (setups : List Setup) (hs : List Happening) (a b : Option (List ℕ)) (fault : ScriptFault) → BreaksWorld setups hs a b fault → IsFrontOf setups hs a b fault
-front_of setups hs a b fault breaks =
-    ⊎_elim (λ x. record { front = x.front.front; is = inl x.front.begins; put = x.front.put; cause = x.cause })
-    (λ x. let y = x.2 in record { front = y.front.front; is = inr (x.0, x.1, y.front.begins); put = y.front.put; cause = y.cause }) breaks
 
 -- a script of several was stopped
 pub stopped_world : (before after a b : Option (List ℕ)) (text read : List ℕ) (setups : List Setup) (happenings reported : List Happening) (fault : ScriptFault)
@@ -136,31 +125,18 @@ pub stopped_world : (before after a b : Option (List ℕ)) (text read : List ℕ
     → Stops before after a b fault
 stopped_world before after a b text read setups happenings reported fault taken end few is says same cause =
     let said : script_in text ≡ Ok (Happenings setups happenings) = subst (λ t. script_in t ≡ Ok (Happenings setups happenings)) is says in
-    let faultless : fault_in text ≡ cond (names_repeat setups) (Some SameName) None = not_long text few ∙ ap fault_said said in
-    let here : StopsWorld setups happenings a b fault = subst (λ hs. StopsWorld setups hs a b fault) same cause in
     ⊎_elim (λ twice. inr (
       ap status_of twice.0,
       record {
         script = text;
         taken = taken;
         end = inl end;
-        fault_is = faultless ∙ ap (λ b. cond b (Some SameName) None) twice.1 ∙ ap Some (sym twice.0);
+        fault_is = not_long text few ∙ ap fault_said said ∙ ap (λ b. cond b (Some SameName) None) twice.1 ∙ ap Some (sym twice.0);
         kept = twice.2;
       },
     )) (λ breaks.
-    let x = front_of setups happenings a b fault breaks.1 in
-    inl (
-      of_system fault x.cause,
-      inr (record {
-        script = text;
-        front = x.front;
-        taken = taken;
-        end = end;
-        cause = x.cause;
-        printed = (faultless ∙ ap (λ b. cond b (Some SameName) None) breaks.0, Happenings setups happenings, said, x.is);
-        put = x.put;
-      }),
-    )) here
+    cut_short before after a b text read (Happenings setups happenings) (Happenings setups reported) fault taken end few is says (ap (Happenings setups) same)
+    (ap (λ b. cond b (Some SameName) None) breaks.0) breaks.1) cause
 
 -- ---- the exit status
 

@@ -1,20 +1,18 @@
 -- What the lines of a script for one node print, in turn.
-use Rattle.std.proofs.Common.{◌≡◌, ◌∙◌, ◌⊎◌, ℕ, zero, suc, ◌+◌, ◌<◌, ◌≤◌, cond, List, [], ◌∷◌, ◌++◌, length, drop, get_or, Option, Some, None, Result, Ok, Err, OnOk, IfErr, false, refl, sym, ap, subst, arith, append_assoc, append-nil}
-use Rattle.std.specs.Io.KnownBytes.{Appends, Consumes, IsAtEnd}
+use Rattle.std.proofs.Common.{◌≡◌, ◌∙◌, ◌⊎◌, ℕ, ◌+◌, ◌<◌, ◌≤◌, cond, List, [], ◌++◌, length, drop, get_or, Option, Some, None, Result, Ok, Err, OnOk, IfErr, refl, sym, ap, subst, append_assoc, append-nil}
+use Rattle.std.specs.Io.KnownBytes.{Consumes, IsAtEnd}
 use Rattle.std.proofs.lemmas.Bool.{le-ltb}
+use Rattle.std.proofs.lemmas.List.{at_drop_more, at_drop_all}
 use Rattle.dist_script.specs.declared.script.ScriptLine.{ScriptLine}
 use Rattle.dist_script_lines.specs.Lines.{table_text}
-use Rattle.dist_script.specs.Scripts.Says.{Events, Happenings}
 use Rattle.dist_core_setup.specs.declared.setup.Setup.{Setup}
-use Rattle.dist_world_model.specs.declared.happening.Happening.{Happening}
-use Rattle.dist_script_play.specs.Played.{Standing, line_text, after_line, lines_text, at_first, fault_said, fault_in}
-use Rattle.dist_world.specs.Setups.{names_repeat}
+use Rattle.dist_script_play.specs.Played.{Standing, line_text, after_line, lines_text, at_first, IsPrinted, fault_said, fault_in}
 use Rattle.dist_script.specs.Fault.{status_of}
 use Rattle.dist_script.specs.declared.fault.ScriptFault.{ScriptFault}
 use Rattle.dist_script.specs.declared.fault.ScriptFault.TheVariants.{TooLong, SameName, WriteFailed}
 use Rattle.dist_script.specs.declared.fault.ScriptFault.TheVariants as fault
-use Rattle.dist_script.specs.Scripts.{script_in}
-use Rattle.dist_script_play.specs.Scenes.{PutsWorld, Plays}
+use Rattle.dist_script.specs.Scripts.{Says, script_in}
+use Rattle.dist_script_play.specs.Scenes.{PutsOne, Plays}
 use Rattle.dist_script.specs.Texts.{PutsFront}
 use Rattle.dist_script_play.specs.Pages.{Puts, PutsPart, BreaksOff}
 use Rattle.dist_script_play.proofs.Pages.{puts_none, puts_more, part_more, breaks_off}
@@ -32,10 +30,8 @@ pub record PlayedSoFar (s0 : Standing) (all : List ScriptLine) (old now : Option
 pub none_played : (s0 : Standing) (all : List ScriptLine) (old : Option (List ℕ)) (page : List ℕ) → PlayedSoFar s0 all old old page page s0 0
 none_played s0 all old page = record { done = []; put = puts_none old page; text = refl }
 
-one_line : (s : Standing) (all : List ScriptLine) (place : ℕ) (d : ScriptLine) → place < length all → lines_text s (drop place all) ≡ line_text s (get_or all place d) ++ lines_text (after_line s (get_or all place d)) (drop (suc place) all)
-one_line s [] place d lt = absurd (omega arith)
-one_line s (l ∷ ls) zero d lt = refl
-one_line s (l ∷ ls) (suc place) d lt = one_line s ls place d (omega arith)
+one_line : (s : Standing) (all : List ScriptLine) (place : ℕ) (d : ScriptLine) → place < length all → lines_text s (drop place all) ≡ line_text s (get_or all place d) ++ lines_text (after_line s (get_or all place d)) (drop (place + 1) all)
+one_line s all place d lt = at_drop_more (lines_text s) all place d lt
 
 -- one more
 pub one_played : (s0 : Standing) (all : List ScriptLine) (old mid new : Option (List ℕ)) (page p q : List ℕ) (s : Standing) (place : ℕ) (d : ScriptLine) (s2 : Standing)
@@ -43,15 +39,13 @@ pub one_played : (s0 : Standing) (all : List ScriptLine) (old mid new : Option (
     → PlayedSoFar s0 all old new page q s2 (place + 1)
 one_played s0 all old mid new page p q s place d s2 so lt put is_after =
     let l = get_or all place d in
-    let next : suc place ≡ place + 1 = omega arith in
-    let others = drop (suc place) all in
+    let others = drop (place + 1) all in
     let rest : lines_text s2 others ≡ lines_text (after_line s l) others = ap (λ z. lines_text z others) is_after in
     let both : line_text s l ++ lines_text s2 others ≡ lines_text s (drop place all) = ap (λ t. line_text s l ++ t) rest ∙ sym (one_line s all place d lt) in
     record {
       done = so.done ++ line_text s l;
       put = puts_more old mid new page p q so.done (line_text s l) so.put put;
-      text = subst (λ k. (so.done ++ line_text s l) ++ lines_text s2 (drop k all) ≡ lines_text s0 all) next (
-          append_assoc so.done (line_text s l) (lines_text s2 others) ∙ ap (λ t. so.done ++ t) both ∙ so.text);
+      text = append_assoc so.done (line_text s l) (lines_text s2 others) ∙ ap (λ t. so.done ++ t) both ∙ so.text;
     }
 
 -- or a beginning of one more
@@ -59,13 +53,10 @@ pub cut_played : (s0 : Standing) (all : List ScriptLine) (old mid new : Option (
     → PlayedSoFar s0 all old mid page p s place → place < length all → PutsPart (line_text s (get_or all place d)) mid new p q fault → PutsPart (lines_text s0 all) old new page q fault
 cut_played s0 all old mid new page p q s place d fault so lt part =
     let l = get_or all place d in
-    part_more old mid new page p q so.done (line_text s l) (lines_text (after_line s l) (drop (suc place) all)) (lines_text s0 all) fault so.put part (ap (λ t. so.done ++ t) (sym (one_line s all place d lt)) ∙ so.text)
+    part_more old mid new page p q so.done (line_text s l) (lines_text (after_line s l) (drop (place + 1) all)) (lines_text s0 all) fault so.put part (ap (λ t. so.done ++ t) (sym (one_line s all place d lt)) ∙ so.text)
 
 no_line : (s : Standing) (all : List ScriptLine) (place : ℕ) → length all ≤ place → lines_text s (drop place all) ≡ table_text s.node
-no_line s [] zero le = refl
-no_line s [] (suc place) le = refl
-no_line s (l ∷ ls) zero le = absurd (omega arith)
-no_line s (l ∷ ls) (suc place) le = no_line s ls place (omega arith)
+no_line s all place le = at_drop_all (lines_text s) all place le
 
 -- the table behind all of them
 pub all_played : (s0 : Standing) (all : List ScriptLine) (old mid new : Option (List ℕ)) (page p q : List ℕ) (s : Standing) (place : ℕ)
@@ -79,32 +70,19 @@ pub cut_table : (s0 : Standing) (all : List ScriptLine) (old mid new : Option (L
 cut_table s0 all old mid new page p q s place fault so le part =
     part_more old mid new page p q so.done (table_text s.node) [] (lines_text s0 all) fault so.put part (ap (λ t. so.done ++ t) (append-nil (table_text s.node) ∙ sym (no_line s all place le)) ∙ so.text)
 
--- a script of one node was played
-pub of_events : (script read : List ℕ) (node : Setup) (lines reported : List ScriptLine) (before after a b : Option (List ℕ))
-    → Consumes before after script → IsAtEnd after → length script ≤ 1048576 → read ≡ script → script_in read ≡ Ok (Events node lines) → reported ≡ lines → Appends a b (lines_text (at_first node) reported) → Plays before after a b
-of_events script read node lines reported before after a b taken end few is says same put =
-    let said : script_in script ≡ Ok (Events node lines) = subst (λ t. script_in t ≡ Ok (Events node lines)) is says in
-    record {
-      script = script;
-      text = lines_text (at_first node) lines;
-      taken = taken;
-      end = end;
-      printed = (not_long script few ∙ ap fault_said said, Events node lines, said, refl);
-      put = subst (λ ls. Appends a b (lines_text (at_first node) ls)) same put;
-    }
-
--- a script of several was played
-pub of_happenings : (script read : List ℕ) (nodes : List Setup) (happenings reported : List Happening) (before after a b : Option (List ℕ))
-    → Consumes before after script → IsAtEnd after → length script ≤ 1048576 → read ≡ script → script_in read ≡ Ok (Happenings nodes happenings) → reported ≡ happenings → names_repeat nodes ≡ false → PutsWorld nodes reported a b → Plays before after a b
-of_happenings script read nodes happenings reported before after a b taken end few is says same names puts =
-    let said : script_in script ≡ Ok (Happenings nodes happenings) = subst (λ t. script_in t ≡ Ok (Happenings nodes happenings)) is says in
-    let here : PutsWorld nodes happenings a b = subst (λ hs. PutsWorld nodes hs a b) same puts in
+-- a script without a fault was played
+pub was_played : (script read : List ℕ) (said reported : Says) (before after a b : Option (List ℕ))
+    → Consumes before after script → IsAtEnd after → length script ≤ 1048576 → read ≡ script → script_in read ≡ Ok said → reported ≡ said → fault_said (Ok said) ≡ None
+    → PutsOne (IsPrinted reported) a b → Plays before after a b
+was_played script read said reported before after a b taken end few is says same good puts =
+    let known : script_in script ≡ Ok said = subst (λ t. script_in t ≡ Ok said) is says in
+    let here = subst (λ x. PutsOne (IsPrinted x) a b) same puts in
     record {
       script = script;
       text = here.0;
       taken = taken;
       end = end;
-      printed = (not_long script few ∙ ap fault_said said ∙ ap (λ b. cond b (Some SameName) None) names, Happenings nodes happenings, said, here.1);
+      printed = (not_long script few ∙ ap fault_said known ∙ good, said, known, here.1);
       put = here.2;
     }
 

@@ -1,5 +1,5 @@
 -- What stands on a page, and what was written of it.
-use Rattle.std.proofs.Common.{◌≡◌, ◌∙◌, ◌⊎◌, inl, inr, ⊎_elim, ℕ, List, [], ◌++◌, length, drop, Option, Some, Result, Ok, Err, OnOk, OnErr, IfErr, IsOk, refl, sym, ap, subst, append_assoc, append-nil}
+use Rattle.std.proofs.Common.{◌≡◌, ◌∙◌, ◌⊎◌, inl, inr, ⊎_elim, ℕ, List, [], ◌++◌, length, drop, Option, Some, Result, Ok, Err, OnOk, IfErr, IsOk, refl, sym, ap, subst, append_assoc, append-nil}
 use Rattle.std.specs.Result.{IsErrAnd}
 use Rattle.std.specs.Io.{StartsWith}
 use Rattle.std.specs.Io.KnownBytes.{Appends, Keeps}

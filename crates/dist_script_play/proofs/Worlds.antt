@@ -11,32 +11,32 @@ use Rattle.dist_script_lines.specs.Worlds.{nodes_text, PutsAgreements}
 use Rattle.dist_script.specs.Texts.{PutsFront}
 use Rattle.dist_script.specs.declared.fault.ScriptFault.{ScriptFault}
 use Rattle.dist_script.specs.declared.fault.ScriptFault.TheVariants.{WriteFailed, NoMemory}
-use Rattle.dist_script_play.specs.Played.{happenings_text}
+use Rattle.dist_script_play.specs.Played.{happenings_text, IsEnd, IsPrintedFrom}
 use Rattle.dist_script_play.specs.Pages.{Puts, PutsPart}
-use Rattle.dist_script_play.specs.Scenes.{PutsEnd, PutsEndOn, PutsEndPart, PutsFrom, PutsFromPart, PutsWorld, BreaksWorld}
+use Rattle.dist_script_play.specs.Scenes.{PutsOne, PutsOneOn, PutsOnePart, BreaksOne}
 use Rattle.dist_script_play.proofs.Pages.{there, line_lost, put_on_page, broken_on_page, puts_more, part_more, whole, breaks_off}
 
 -- its end
-pub ends : (w : World) (applied all : ℕ) (a b c d : Option (List ℕ)) → Appends a b (applied_line applied all) → Appends b c (nodes_text w) → PutsAgreements w c d → PutsEnd w applied all a d
+pub ends : (w : World) (applied all : ℕ) (a b c d : Option (List ℕ)) → Appends a b (applied_line applied all) → Appends b c (nodes_text w) → PutsAgreements w c d → PutsOne (IsEnd w applied all) a d
 ends w applied all a b c d p q r =
     (applied_line applied all ++ nodes_text w ++ r.0, (r.0, r.1, refl), Appends-trans a c d (applied_line applied all ++ nodes_text w) r.0 (Appends-trans a b c (applied_line applied all) (nodes_text w) p q) r.2)
 
 -- on a page
 pub end_put : {X E : Type 0} (r : Result X E) (w : World) (applied all : ℕ) (a b : Option (List ℕ)) (p q x y : List ℕ)
-    → x ≡ [] → IsOk r → OnOk r (PutsEnd w applied all (Some x) (Some y)) → Puts y a b p q → PutsEndOn w applied all a b p q
+    → x ≡ [] → IsOk r → OnOk r (PutsOne (IsEnd w applied all) (Some x) (Some y)) → Puts y a b p q → PutsOneOn (IsEnd w applied all) a b p q
 end_put r w applied all a b p q x y none is end puts =
-    let here : PutsEnd w applied all (Some x) (Some y) = there r end is in
+    let here = there r end is in
     (here.0, here.1, put_on_page a b p q x y here.0 none here.2 puts)
 
 -- a beginning of it
 pub end_cut : {X E : Type 0} (r : Result X E) (w : World) (applied all : ℕ) (a b : Option (List ℕ)) (p q x y : List ℕ) (fault : ScriptFault)
-    → x ≡ [] → IsOk r → OnOk r (PutsEnd w applied all (Some x) (Some y)) → PutsPart y a b p q fault → PutsEndPart w applied all a b p q fault
+    → x ≡ [] → IsOk r → OnOk r (PutsOne (IsEnd w applied all) (Some x) (Some y)) → PutsPart y a b p q fault → PutsOnePart [] (IsEnd w applied all) a b p q fault
 end_cut r w applied all a b p q x y fault none is end part =
-    let here : PutsEnd w applied all (Some x) (Some y) = there r end is in
+    let here = there r end is in
     inr (here.0, here.1, broken_on_page a b p q x y here.0 fault none here.2 part)
 
 -- nothing of it, since memory ran out
-pub end_lost : (w : World) (applied all : ℕ) (a : Option (List ℕ)) (p q : List ℕ) (fault : ScriptFault) → q ≡ p → fault ≡ NoMemory → PutsEndPart w applied all a a p q fault
+pub end_lost : (w : World) (applied all : ℕ) (a : Option (List ℕ)) (p q : List ℕ) (fault : ScriptFault) → q ≡ p → fault ≡ NoMemory → PutsOnePart [] (IsEnd w applied all) a a p q fault
 end_lost w applied all a p q fault same is = inl (line_lost a p q [] fault same is)
 
 -- ---- the happenings, and its end
@@ -46,42 +46,42 @@ module _ (hs : List Happening) (w0 w : World) (applied all : ℕ) (after : w ≡
   same_end P p = subst (λ n. P (run hs w0) (count_applied hs w0) n) length_is (subst (λ k. P (run hs w0) k all) count (subst (λ v. P v applied all) after p))
 
 pub plays : (hs : List Happening) (w0 w : World) (applied all : ℕ) (a b c : Option (List ℕ)) (p q r : List ℕ)
-    → Puts (happenings_text w0 hs) a b p q → w ≡ run hs w0 → applied ≡ count_applied hs w0 → all ≡ length hs → PutsEndOn w applied all b c q r → PutsFrom w0 hs a c p r
+    → Puts (happenings_text w0 hs) a b p q → w ≡ run hs w0 → applied ≡ count_applied hs w0 → all ≡ length hs → PutsOneOn (IsEnd w applied all) b c q r → PutsOneOn (IsPrintedFrom w0 hs) a c p r
 plays hs w0 w applied all a b c p q r puts after count length_is end =
-    let here : PutsEndOn (run hs w0) (count_applied hs w0) (length hs) b c q r = same_end hs w0 w applied all after count length_is (λ v k n. PutsEndOn v k n b c q r) end in
-    (here.0, here.1, puts_more a b c p q r (happenings_text w0 hs) here.0 puts here.2)
+    let here = same_end hs w0 w applied all after count length_is (λ v k n. PutsOneOn (IsEnd v k n) b c q r) end in
+    (happenings_text w0 hs ++ here.0, (here.0, here.1, refl), puts_more a b c p q r (happenings_text w0 hs) here.0 puts here.2)
 
 -- the happenings were cut
-pub cut_early : (hs : List Happening) (w0 : World) (a b : Option (List ℕ)) (p q : List ℕ) (fault : ScriptFault) → PutsPart (happenings_text w0 hs) a b p q fault → PutsFromPart w0 hs a b p q fault
+pub cut_early : (hs : List Happening) (w0 : World) (a b : Option (List ℕ)) (p q : List ℕ) (fault : ScriptFault) → PutsPart (happenings_text w0 hs) a b p q fault
+    → PutsOnePart (happenings_text w0 hs) (IsPrintedFrom w0 hs) a b p q fault
 cut_early hs w0 a b p q fault part = inl part
 
 -- or the end was
 pub cut_at_end : (hs : List Happening) (w0 w : World) (applied all : ℕ) (a b c : Option (List ℕ)) (p q r : List ℕ) (fault : ScriptFault)
-    → Puts (happenings_text w0 hs) a b p q → w ≡ run hs w0 → applied ≡ count_applied hs w0 → all ≡ length hs → PutsEndPart w applied all b c q r fault → PutsFromPart w0 hs a c p r fault
+    → Puts (happenings_text w0 hs) a b p q → w ≡ run hs w0 → applied ≡ count_applied hs w0 → all ≡ length hs → PutsOnePart [] (IsEnd w applied all) b c q r fault
+    → PutsOnePart (happenings_text w0 hs) (IsPrintedFrom w0 hs) a c p r fault
 cut_at_end hs w0 w applied all a b c p q r fault puts after count length_is end =
     let text = happenings_text w0 hs in
-    let here : PutsEndPart (run hs w0) (count_applied hs w0) (length hs) b c q r fault = same_end hs w0 w applied all after count length_is (λ v k n. PutsEndPart v k n b c q r fault) end in
+    let here = same_end hs w0 w applied all after count length_is (λ v k n. PutsOnePart [] (IsEnd v k n) b c q r fault) end in
     ⊎_elim (λ none. inl (part_more a b c p q r text [] [] text fault puts none (append-nil text)))
-    (λ part. inr (part.0, part.1, part_more a b c p q r text part.0 [] (text ++ part.0) fault puts part.2 (ap (λ t. text ++ t) (append-nil part.0)))) here
+    (λ part. inr (text ++ part.0, (part.0, part.1, refl), part_more a b c p q r text part.0 [] (text ++ part.0) fault puts part.2 (ap (λ t. text ++ t) (append-nil part.0)))) here
 
 -- ---- from the beginning of a world and of a page, once the page is written out
 
-pub of_world : (setups : List Setup) (hs : List Happening) (w0 : World) (a b c : Option (List ℕ)) (p q : List ℕ) → w0 ≡ empty setups → p ≡ [] → PutsFrom w0 hs a b p q → Appends b c q → PutsWorld setups hs a c
+pub of_world : (setups : List Setup) (hs : List Happening) (w0 : World) (a b c : Option (List ℕ)) (p q : List ℕ) → w0 ≡ empty setups → p ≡ [] → PutsOneOn (IsPrintedFrom w0 hs) a b p q
+    → Appends b c q → PutsOne (IsPrintedFrom (empty setups) hs) a c
 of_world setups hs w0 a b c p q first none puts out =
-    let here : PutsFrom (empty setups) hs a b p q = subst (λ w. PutsFrom w hs a b p q) first puts in
-    let text = happenings_text (empty setups) hs ++ here.0 in
-    (text, (here.0, here.1, refl), whole a b c p q text none here.2 out)
+    let here = subst (λ w. PutsOneOn (IsPrintedFrom w hs) a b p q) first puts in
+    (here.0, here.1, whole a b c p q here.0 none here.2 out)
 
 -- a fault that stops what was played, or a write that failed
 pub breaks_world : {X : Type 0} (played : Result X ScriptFault) (setups : List Setup) (hs : List Happening) (w0 : World) (a b c : Option (List ℕ)) (p q : List ℕ) (fault : ScriptFault)
-    → w0 ≡ empty setups → p ≡ [] → OnOk played (PutsFrom w0 hs a b p q) → IfErr played (λ f. PutsFromPart w0 hs a b p q f) → PutsFront q b c → (fault ≡ WriteFailed) ⊎ (played ≡ Err fault)
-    → BreaksWorld setups hs a c fault
+    → w0 ≡ empty setups → p ≡ [] → OnOk played (PutsOneOn (IsPrintedFrom w0 hs) a b p q) → IfErr played (PutsOnePart (happenings_text w0 hs) (IsPrintedFrom w0 hs) a b p q)
+    → PutsFront q b c → (fault ≡ WriteFailed) ⊎ (played ≡ Err fault) → BreaksOne (happenings_text (empty setups) hs) (IsPrintedFrom (empty setups) hs) a c fault
 breaks_world (Ok x) setups hs w0 a b c p q fault first none puts part front cause =
-    let here : PutsFrom (empty setups) hs a b p q = subst (λ w. PutsFrom w hs a b p q) first puts in
-    let text = happenings_text (empty setups) hs ++ here.0 in
-    inr (text, (here.0, here.1, refl), breaks_off (Ok x) a b c p q text fault none here.2 tt front cause)
+    let here = subst (λ w. PutsOneOn (IsPrintedFrom w hs) a b p q) first puts in
+    inr (here.0, here.1, breaks_off (Ok x) a b c p q here.0 fault none here.2 tt front cause)
 breaks_world (Err f) setups hs w0 a b c p q fault first none puts part front cause =
-    let here : PutsFromPart (empty setups) hs a b p q f = subst (λ w. PutsFromPart w hs a b p q f) first part in
-    let text = happenings_text (empty setups) hs in
-    ⊎_elim (λ early. inl (breaks_off (Err f) a b c p q text fault none tt early front cause))
-    (λ late. inr (text ++ late.0, (late.0, late.1, refl), breaks_off (Err f) a b c p q (text ++ late.0) fault none tt late.2 front cause)) here
+    let here = subst (λ w. PutsOnePart (happenings_text w hs) (IsPrintedFrom w hs) a b p q f) first part in
+    ⊎_elim {A = PutsPart (happenings_text (empty setups) hs) a b p q f} (λ early. inl (breaks_off (Err f) a b c p q (happenings_text (empty setups) hs) fault none tt early front cause))
+    (λ late. inr (late.0, late.1, breaks_off (Err f) a b c p q late.0 fault none tt late.2 front cause)) here

@@ -45,7 +45,7 @@ reader_of readers x = get_or readers x.0 (Short [])
 abbrev pub with_reader : Readers → EndId → Reader → Readers
 with_reader readers x reader = set readers x.0 reader
 
--- readers up to that of this end
+-- the readers, extended with empty ones as far as this end
 abbrev pub readers_to : Readers → EndId → Readers
 readers_to readers x = readers ++ replicate (suc x.0 - length readers) (Short [])
 
@@ -200,25 +200,25 @@ happenings_text w (h ∷ hs) = closed_by (applied_at w h) ++ happenings_text (ha
 abbrev pub IsEnd : World → ℕ → ℕ → List ℕ → Type 0
 IsEnd w applied all text = (agreements : List ℕ) × AreAgreements w agreements × (text ≡ applied_line applied all ++ nodes_text w ++ agreements)
 
--- what these happenings print, between nodes of these setups, and what is printed at the end
-abbrev pub IsOfWorld : List Setup → List Happening → List ℕ → Type 0
-IsOfWorld setups hs text =
-    let w = empty setups in
-    (end : List ℕ) × IsEnd (run hs w) (count_applied hs w) (length hs) end × (text ≡ happenings_text w hs ++ end)
+-- what these happenings print, from this world on, and what is printed at the end
+abbrev pub IsPrintedFrom : World → List Happening → List ℕ → Type 0
+IsPrintedFrom w hs text = (end : List ℕ) × IsEnd (run hs w) (count_applied hs w) (length hs) end × (text ≡ happenings_text w hs ++ end)
 
 -- ---- A SCRIPT
 
 -- WHAT A SCRIPT PRINTS, by its contents
 abbrev pub IsPrinted : Says → List ℕ → Type 0
 IsPrinted (Events node lines) text = text ≡ lines_text (at_first node) lines
-IsPrinted (Happenings nodes happenings) text = IsOfWorld nodes happenings text
+IsPrinted (Happenings nodes happenings) text = IsPrintedFrom (empty nodes) happenings text
 
--- what a script may have printed when it is cut short: a prefix of what it prints; with several nodes also a part of what the
--- happenings print, if the end was not reached
+-- what is printed before the end of a world; all of it, for one node
+abbrev pub steps_text : Says → List ℕ
+steps_text (Events node lines) = lines_text (at_first node) lines
+steps_text (Happenings nodes happenings) = happenings_text (empty nodes) happenings
+
+-- what a script may have printed when it is cut short: a prefix of that, or of what it prints
 abbrev pub IsFront : Says → List ℕ → Type 0
-IsFront (Events node lines) front = StartsWith (lines_text (at_first node) lines) front
-IsFront (Happenings nodes happenings) front =
-    StartsWith (happenings_text (empty nodes) happenings) front ⊎ ((text : List ℕ) × IsOfWorld nodes happenings text × StartsWith text front)
+IsFront says front = StartsWith (steps_text says) front ⊎ ((text : List ℕ) × IsPrinted says text × StartsWith text front)
 
 -- the fault of a script that was read: its own, or two nodes with one name
 abbrev pub fault_said : Result Says ScriptFault → Option ScriptFault

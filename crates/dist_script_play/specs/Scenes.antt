@@ -1,17 +1,16 @@
 -- What the calls of a scene do, in the words of Played.antt.
-use Rattle.std.specs.Prelude.{◌≡◌, ◌⊎◌, ℕ, Bool, true, false, nat_lt, if◌then◌else◌, List, [], ◌++◌, length, Option, Some}
+use Rattle.std.specs.Prelude.{◌≡◌, ◌⊎◌, ℕ, Bool, true, false, nat_lt, if◌then◌else◌, List, [], Option, Some}
 use Rattle.std.specs.Io.KnownBytes.{Appends, Keeps, Consumes, IsAtEnd}
 use Rattle.dist_peers.specs.declared.entry.EndId.{EndId}
 use Rattle.dist_core_ends.specs.declared.why.Why.{Why}
 use Rattle.dist_core_setup.specs.declared.setup.Setup.{Setup}
 use Rattle.dist_world_model.specs.declared.happening.Happening.{Happening}
-use Rattle.dist_world_model.specs.World.{World, empty}
-use Rattle.dist_world_model.specs.Run.{run, count_applied}
+use Rattle.dist_world_model.specs.World.{empty}
 use Rattle.dist_world.specs.Setups.{names_repeat}
 use Rattle.dist_script.specs.Fault.{status_of}
 use Rattle.dist_script.specs.declared.fault.ScriptFault.{ScriptFault}
 use Rattle.dist_script.specs.declared.fault.ScriptFault.TheVariants.{TooLong, SameName, ReadFailed, NoMemory}
-use Rattle.dist_script_play.specs.Played.{Standing, Received, is_said, IsEnd, IsOfWorld, IsPlayed, IsPlayedPart}
+use Rattle.dist_script_play.specs.Played.{Standing, Received, is_said, IsPrintedFrom, IsPlayed, IsPlayedPart}
 use Rattle.dist_script_play.specs.Played.{fault_in, happenings_text, closed_now}
 use Rattle.dist_script_play.specs.Pages.{IsOfSystem, Puts, PutsPart, BreaksOff}
 
@@ -21,42 +20,25 @@ pub record Receives (h : Received) (some : Bool) (old new : Option (List ℕ)) (
   pub any : some ≡ is_said h.text
   pub after : s ≡ h.after
 
--- the end of a world was written
-abbrev pub PutsEnd : World → ℕ → ℕ → Option (List ℕ) → Option (List ℕ) → Type 0
-PutsEnd w applied all old new = (text : List ℕ) × IsEnd w applied all text × Appends old new text
+-- ---- a text of which only a property is known
 
--- it was put on a page
-abbrev pub PutsEndOn : World → ℕ → ℕ → Option (List ℕ) → Option (List ℕ) → List ℕ → List ℕ → Type 0
-PutsEndOn w applied all old new page left = (text : List ℕ) × IsEnd w applied all text × Puts text old new page left
+-- one was written
+abbrev pub PutsOne : (List ℕ → Type 0) → Option (List ℕ) → Option (List ℕ) → Type 0
+PutsOne P old new = (text : List ℕ) × P text × Appends old new text
 
--- nothing of it was put on a page, or a prefix of it
-abbrev pub PutsEndPart : World → ℕ → ℕ → Option (List ℕ) → Option (List ℕ) → List ℕ → List ℕ → ScriptFault → Type 0
-PutsEndPart w applied all old new page left fault =
-    PutsPart [] old new page left fault ⊎ ((text : List ℕ) × IsEnd w applied all text × PutsPart text old new page left fault)
+-- one was put on a page
+abbrev pub PutsOneOn : (List ℕ → Type 0) → Option (List ℕ) → Option (List ℕ) → List ℕ → List ℕ → Type 0
+PutsOneOn P old new page left = (text : List ℕ) × P text × Puts text old new page left
 
--- the end of a world, after these happenings
-abbrev pub IsEndAfter : World → List Happening → List ℕ → Type 0
-IsEndAfter w happenings text = IsEnd (run happenings w) (count_applied happenings w) (length happenings) text
-
--- what happenings print, from this world on, and the end were put on a page
-abbrev pub PutsFrom : World → List Happening → Option (List ℕ) → Option (List ℕ) → List ℕ → List ℕ → Type 0
-PutsFrom w happenings old new page left = (end : List ℕ) × IsEndAfter w happenings end × Puts (happenings_text w happenings ++ end) old new page left
-
--- a prefix of what they print, or of all of it, was put there
-abbrev pub PutsFromPart : World → List Happening → Option (List ℕ) → Option (List ℕ) → List ℕ → List ℕ → ScriptFault → Type 0
-PutsFromPart w happenings old new page left fault =
-    PutsPart (happenings_text w happenings) old new page left fault
-    ⊎ ((end : List ℕ) × IsEndAfter w happenings end × PutsPart (happenings_text w happenings ++ end) old new page left fault)
-
--- what happenings print, between nodes of these setups, was written
-abbrev pub PutsWorld : List Setup → List Happening → Option (List ℕ) → Option (List ℕ) → Type 0
-PutsWorld setups happenings old new = (text : List ℕ) × IsOfWorld setups happenings text × Appends old new text
+-- a prefix was put on a page of one, or of this text, with which each begins
+abbrev pub PutsOnePart : List ℕ → (List ℕ → Type 0) → Option (List ℕ) → Option (List ℕ) → List ℕ → List ℕ → ScriptFault → Type 0
+PutsOnePart first P old new page left fault = PutsPart first old new page left fault ⊎ ((text : List ℕ) × P text × PutsPart text old new page left fault)
 
 -- a prefix of it was written
-abbrev pub BreaksWorld : List Setup → List Happening → Option (List ℕ) → Option (List ℕ) → ScriptFault → Type 0
-BreaksWorld setups happenings old new fault =
-    BreaksOff (happenings_text (empty setups) happenings) old new fault
-    ⊎ ((text : List ℕ) × IsOfWorld setups happenings text × BreaksOff text old new fault)
+abbrev pub BreaksOne : List ℕ → (List ℕ → Type 0) → Option (List ℕ) → Option (List ℕ) → ScriptFault → Type 0
+BreaksOne first P old new fault = BreaksOff first old new fault ⊎ ((text : List ℕ) × P text × BreaksOff text old new fault)
+
+-- ---- a script
 
 -- A SCRIPT WAS PLAYED: it was read to the end of the input, has no fault, and what it prints was written
 pub record Plays (before after old new : Option (List ℕ)) : Type 0 where
@@ -108,7 +90,7 @@ Stops before after old new fault =
 abbrev pub StopsWorld : List Setup → List Happening → Option (List ℕ) → Option (List ℕ) → ScriptFault → Type 0
 StopsWorld setups happenings old new fault =
     ((fault ≡ SameName) × (names_repeat setups ≡ true) × Keeps old new)
-    ⊎ ((names_repeat setups ≡ false) × BreaksWorld setups happenings old new fault)
+    ⊎ ((names_repeat setups ≡ false) × BreaksOne (happenings_text (empty setups) happenings) (IsPrintedFrom (empty setups) happenings) old new fault)
 
 -- the line of the end that the last happening closed, if one applied
 abbrev pub closed_after : ℕ → Option (ℕ × (EndId × Why)) → List ℕ

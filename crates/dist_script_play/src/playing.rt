@@ -5,11 +5,12 @@ ghost use Rattle.std.specs.Io.KnownBytes.{Appends, Keeps};
 ghost use Rattle.dist_script.specs.Fault.{status_of, fault_line};
 ghost use Rattle.dist_script.specs.Texts.{PutsFront};
 ghost use Rattle.dist_script.specs.declared.fault.ScriptFault.{ScriptFault as Fault};
+ghost use Rattle.dist_world_model.specs.World.{empty};
 ghost use Rattle.dist_world.specs.Setups.{names_repeat};
 ghost use Rattle.dist_script_lines.specs.Lines.{table_text};
-ghost use Rattle.dist_script_play.specs.Played.{at_first, line_text, after_line, lines_text};
+ghost use Rattle.dist_script_play.specs.Played.{at_first, line_text, after_line, lines_text, IsPrintedFrom};
 ghost use Rattle.dist_script_play.specs.Pages.{Puts, PutsPart, BreaksOff};
-ghost use Rattle.dist_script_play.specs.Scenes.{PutsWorld, Plays, IsBad, IsCut, Stops, StopsWorld};
+ghost use Rattle.dist_script_play.specs.Scenes.{PutsOne, Plays, IsBad, IsCut, Stops, StopsWorld};
 
 use crate::page::{Printout, on_page};
 use crate::scene::NodeScene;
@@ -110,7 +111,7 @@ fn play_nodes<W: Write>(
     happenings: &[Happening],
     out: &mut W,
 ) -> Result<(), ScriptFault>
-    ensures text { OnOk result (PutsWorld nodes.items happenings.now (W.contents out.old) (W.contents out.new)) }
+    ensures text { OnOk result (PutsOne (IsPrintedFrom (empty nodes.items) happenings.now) (W.contents out.old) (W.contents out.new)) }
     ensures names { OnOk result (names_repeat nodes.items ≡ false) }
     ensures fault { IfErr result (StopsWorld nodes.items happenings.now (W.contents out.old) (W.contents out.new)) }
 {
@@ -122,7 +123,7 @@ fn play_nodes<W: Write>(
 }
 
 // Reads a script and plays it.
-#[tactic(auto, using(crate::proofs::Faults::unread, crate::proofs::Faults::bad_script, crate::proofs::Faults::cut_node, crate::proofs::Faults::stopped_world))]
+#[tactic(auto, using(crate::proofs::Faults::unread, crate::proofs::Faults::bad_script, crate::proofs::Faults::stopped_world))]
 fn perform<R: Read, W: Write>(alloc: Global, input: &mut R, out: &mut W) -> Result<(), ScriptFault>
     ensures played { OnOk result (Plays (R.remaining input.old) (R.remaining input.new) (W.contents out.old) (W.contents out.new)) }
     ensures fault { IfErr result (Stops (R.remaining input.old) (R.remaining input.new) (W.contents out.old) (W.contents out.new)) }

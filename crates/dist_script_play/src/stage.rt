@@ -1,13 +1,13 @@
 //! A world of nodes in which the happenings of a script happen.
 
-ghost use Rattle.std.specs.Prelude.{◌≡◌, true, false, length, IfOk, IfErr, OnOk};
+ghost use Rattle.std.specs.Prelude.{◌≡◌, [], true, false, length, IfOk, IfErr, OnOk};
 ghost use Rattle.std.specs.Io.KnownBytes.{Appends};
 ghost use Rattle.dist_world_model.specs.World.{empty};
 ghost use Rattle.dist_world_model.specs.Run.{run, count_applied};
 ghost use Rattle.dist_world.specs.Setups.{names_repeat};
-ghost use Rattle.dist_script_play.specs.Played.{closed_now, happenings_text};
+ghost use Rattle.dist_script_play.specs.Played.{closed_now, happenings_text, IsEnd, IsPrintedFrom};
 ghost use Rattle.dist_script_play.specs.Pages.{Puts, PutsPart};
-ghost use Rattle.dist_script_play.specs.Scenes.{closed_after, PutsEnd, PutsEndOn, PutsEndPart, PutsFrom, PutsFromPart};
+ghost use Rattle.dist_script_play.specs.Scenes.{closed_after, PutsOne, PutsOneOn, PutsOnePart};
 
 use crate::page::{Printout, on_page};
 use dist_core::Setup;
@@ -127,7 +127,7 @@ fn print_end<W: Write>(
     all: usize,
     out: &mut W,
 ) -> Result<(), ScriptFault>
-    ensures { OnOk result (PutsEnd world.now applied all (W.contents out.old) (W.contents out.new)) }
+    ensures { OnOk result (PutsOne (IsEnd world.now applied all) (W.contents out.old) (W.contents out.new)) }
 {
     or_write_failed(print::write_applied(out, applied, all))?;
     print_nodes(world, out)?;
@@ -145,8 +145,10 @@ fn put_end<W: Write>(
     page: &mut Printout,
     out: &mut W,
 ) -> Result<(), ScriptFault>
-    ensures text { OnOk result (PutsEndOn world.now applied all (W.contents out.old) (W.contents out.new) page.old.text.items page.new.text.items) }
-    ensures cut { IfErr result (PutsEndPart world.now applied all (W.contents out.old) (W.contents out.new) page.old.text.items page.new.text.items) }
+    ensures text { OnOk result (PutsOneOn (IsEnd world.now applied all)
+        (W.contents out.old) (W.contents out.new) page.old.text.items page.new.text.items) }
+    ensures cut { IfErr result (PutsOnePart [] (IsEnd world.now applied all)
+        (W.contents out.old) (W.contents out.new) page.old.text.items page.new.text.items) }
 {
     page.line.clear();
     on_page(print_end(alloc, world, applied, all, &mut page.line))?;
@@ -166,8 +168,10 @@ pub fn play<W: Write>(
     page: &mut Printout,
     out: &mut W,
 ) -> Result<(), ScriptFault>
-    ensures text { OnOk result (PutsFrom world.old happenings.now (W.contents out.old) (W.contents out.new) page.old.text.items page.new.text.items) }
-    ensures cut { IfErr result (PutsFromPart world.old happenings.now (W.contents out.old) (W.contents out.new) page.old.text.items page.new.text.items) }
+    ensures text { OnOk result (PutsOneOn (IsPrintedFrom world.old happenings.now)
+        (W.contents out.old) (W.contents out.new) page.old.text.items page.new.text.items) }
+    ensures cut { IfErr result (PutsOnePart (happenings_text world.old happenings.now) (IsPrintedFrom world.old happenings.now)
+        (W.contents out.old) (W.contents out.new) page.old.text.items page.new.text.items) }
 {
     let applied = happen_all(alloc, world, happenings, page, out)?;
     put_end(alloc, world, applied, happenings.len(), page, out)?;

@@ -34,20 +34,17 @@ one_more calls = min (calls + 1) (2 ^ 64 - 1)
 -- how many bytes came
 abbrev pub heard_count : Heard → ℕ
 heard_count (heard.Bytes n) = n
-heard_count heard.Quiet = 0
-heard_count heard.Failed = 0
+heard_count other = 0
 
 -- the stream says that it has ended
 abbrev pub is_end : Heard → Bool
 is_end (heard.Bytes n) = n == 0
-is_end heard.Quiet = false
-is_end heard.Failed = false
+is_end other = false
 
 -- the read failed
 abbrev pub is_failed_read : Heard → Bool
-is_failed_read (heard.Bytes n) = false
-is_failed_read heard.Quiet = false
 is_failed_read heard.Failed = true
+is_failed_read other = false
 
 -- A read takes the next unread bytes into the front of the buffer, and marks an end or a failure.
 pub record Reads (old new : StreamState) (room : List ℕ) (result : Heard) : Type 0 where
@@ -65,8 +62,7 @@ pub record Reads (old new : StreamState) (room : List ℕ) (result : Heard) : Ty
 -- how many bytes were taken
 abbrev pub took_count : Took → ℕ
 took_count (took.Bytes n) = n
-took_count took.Quiet = 0
-took_count took.Failed = 0
+took_count other = 0
 
 -- the write failed, or took no bytes
 abbrev pub is_failed_write : Took → Bool

@@ -3,12 +3,12 @@
 //! A count of turns says little about time: a turn passes at once or waits. A talk that has to end by the clock gets a
 //! deadline, and more turns than it needs.
 
-ghost use Rattle.std.specs.Prelude.{◌≡◌, ◌+◌, ◌<◌, ◌≤◌, ◌↔◌, length, None, IsOk, IfOk, IsErrAnd, IfErr};
+ghost use Rattle.std.specs.Prelude.{◌≡◌, ◌+◌, ◌<◌, ◌≤◌, ◌↔◌, length, None, IsOk, IfOk, IfErr};
 ghost use Rattle.std.specs.Duration.{as_nanos};
 ghost use Rattle.std.specs.IoError.{error_kind};
 ghost use Rattle.std.specs.Time.{instant_nanos, FitsClock};
 ghost use Rattle.dist_stream.specs.Stream.{Reads, Writes, new_stream};
-ghost use Rattle.dist_stream.specs.Deadline.{nanos_until, wait_of};
+ghost use Rattle.dist_stream.specs.Deadline.{wait_of};
 
 use crate::socket::SocketStream;
 use crate::stream::{Heard, Stream, Took};
@@ -35,23 +35,14 @@ fn wait_of(left: Duration) -> Duration
     if most < second { most } else { second }
 }
 
-// What is left at `now` until the deadline.
-fn time_until(now: Instant, deadline: Instant) -> Duration
-    ensures { as_nanos result ≡ nanos_until now deadline }
-{
-    deadline.saturating_duration_since(now)
-}
-
 // The time that is `limit` after `now`. InvalidInput where no clock reaches that far.
 fn time_after(now: Instant, limit: Duration) -> io::Result<Instant>
     ensures variant { IsOk result ↔ FitsClock (instant_nanos now + as_nanos limit) }
     ensures ok { IfOk result (λ t. instant_nanos t ≡ instant_nanos now + as_nanos limit) }
     ensures err { IfErr result (λ e. error_kind e ≡ ErrorKind.InvalidInput) }
 {
-    match now.checked_add(limit) {
-        Some(time) => Ok(time),
-        None => Err(io::Error::from(ErrorKind::InvalidInput)),
-    }
+    now.checked_add(limit)
+        .ok_or(io::Error::from(ErrorKind::InvalidInput))
 }
 
 /// The time that is `limit` from now.
@@ -71,7 +62,7 @@ pub fn time_left<C: Clock>(clock: &C, deadline: Instant) -> Duration
     ensures most { as_nanos result ≤ instant_nanos deadline }
 {
     match Instant::now(clock) {
-        Ok(now) => time_until(now, deadline),
+        Ok(now) => deadline.saturating_duration_since(now),
         Err(_) => Duration::ZERO,
     }
 }
@@ -141,11 +132,11 @@ fn read_within(stream: &mut SocketStream, room: &mut [u8], left: Duration) -> He
     ensures quiet { as_nanos left ≡ 0 → result ≡ Heard.Quiet }
 {
     if left.is_zero() {
-        return stream.rest();
+        return stream.note_read(Heard::Quiet);
     }
     match stream.get_ref().set_read_timeout(Some(wait_of(left))) {
         Ok(()) => stream.read(room),
-        Err(_) => stream.fail_read(),
+        Err(_) => stream.note_read(Heard::Failed),
     }
 }
 
@@ -156,11 +147,11 @@ fn write_within(stream: &mut SocketStream, bytes: &[u8], left: Duration) -> Took
     ensures quiet { as_nanos left ≡ 0 → result ≡ Took.Quiet }
 {
     if left.is_zero() {
-        return stream.hold();
+        return stream.note_write(Took::Quiet);
     }
     match stream.get_ref().set_write_timeout(Some(wait_of(left))) {
         Ok(()) => stream.write(bytes),
-        Err(_) => stream.fail_write(),
+        Err(_) => stream.note_write(Took::Failed),
     }
 }
 
@@ -178,17 +169,6 @@ impl<C: Clock> Stream for DeadlineStream<C> {
     }
 }
 
-// The time that is left for a connect. An error where none is left.
-fn time_to_connect(left: Duration) -> io::Result<Duration>
-    ensures ok { IfOk result (λ t. (t ≡ left) × (0 < as_nanos t)) }
-    ensures late { as_nanos left ≡ 0 → IsErrAnd result (λ e. error_kind e ≡ ErrorKind.TimedOut) }
-{
-    if left.is_zero() {
-        return Err(io::Error::from(ErrorKind::TimedOut));
-    }
-    Ok(left)
-}
-
 /// A connection to this address, made by the deadline, that is quiet once the deadline is reached.
 ///
 /// An error is the system's: ConnectionRefused where nobody listens there; TimedOut where no answer came by the deadline,
@@ -200,7 +180,10 @@ pub fn connect_by<'a, R: Net<Listener = TcpListener, Stream = TcpStream> + Clock
 ) -> io::Result<DeadlineStream<&'a R>>
     ensures fresh { IfOk result (λ s. ⟦<DeadlineStream<&'a R> as Stream>⟧.meaning s ≡ new_stream None None) }
 {
-    let left = time_to_connect(time_left(rt, deadline))?;
+    let left = time_left(rt, deadline);
+    if left.is_zero() {
+        return Err(io::Error::from(ErrorKind::TimedOut));
+    }
     let socket = TcpStream::connect_timeout(rt, address, left)?;
     Ok(DeadlineStream::new(SocketStream::new(socket), rt, deadline))
 }

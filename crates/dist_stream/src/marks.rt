@@ -9,29 +9,19 @@ use crate::stream::{Heard, Took};
 pub fn is_end(heard: Heard) -> bool
     ensures { result ≡ is_end heard }
 {
-    match heard {
-        Heard::Bytes(count) => count == 0,
-        Heard::Quiet | Heard::Failed => false,
-    }
+    matches!(heard, Heard::Bytes(0))
 }
 
 /// Whether the read failed.
 pub fn is_failed_read(heard: Heard) -> bool
     ensures { result ≡ is_failed_read heard }
 {
-    match heard {
-        Heard::Bytes(_) | Heard::Quiet => false,
-        Heard::Failed => true,
-    }
+    matches!(heard, Heard::Failed)
 }
 
 /// Whether the write failed, or took no bytes.
 pub fn is_failed_write(took: Took) -> bool
     ensures { result ≡ is_failed_write took }
 {
-    match took {
-        Took::Bytes(count) => count == 0,
-        Took::Quiet => false,
-        Took::Failed => true,
-    }
+    matches!(took, Took::Bytes(0) | Took::Failed)
 }

@@ -66,42 +66,27 @@ impl SocketStream {
         &self.socket
     }
 
-    /// One turn without a read, which counts as a quiet one. The system isn't asked.
-    pub(crate) fn rest(&mut self) -> Heard
-        ensures quiet { result ≡ Heard.Quiet }
-        ensures reads { (room : List ℕ) → Reads (⟦<SocketStream as Stream>⟧.meaning self.old) (⟦<SocketStream as Stream>⟧.meaning self.new) room result }
+    /// Counts a read that gave this, and sets its marks.
+    pub(crate) fn note_read(&mut self, heard: Heard) -> Heard
+        ensures same { result ≡ heard }
+        ensures reads { (room : List ℕ) → heard_count heard ≤ length room
+            → Reads (⟦<SocketStream as Stream>⟧.meaning self.old) (⟦<SocketStream as Stream>⟧.meaning self.new) room heard }
     {
         self.calls = self.calls.saturating_add(1);
-        Heard::Quiet
+        self.ended = is_end(heard) || self.ended;
+        self.read_failed = is_failed_read(heard) || self.read_failed;
+        heard
     }
 
-    /// One turn without a write, which counts as a quiet one. The system isn't asked.
-    pub(crate) fn hold(&mut self) -> Took
-        ensures quiet { result ≡ Took.Quiet }
-        ensures writes { (bytes : List ℕ) → Writes (⟦<SocketStream as Stream>⟧.meaning self.old) (⟦<SocketStream as Stream>⟧.meaning self.new) bytes result }
+    /// Counts a write that took this, and sets its mark.
+    pub(crate) fn note_write(&mut self, took: Took) -> Took
+        ensures same { result ≡ took }
+        ensures writes { (bytes : List ℕ) → took_count took ≤ length bytes
+            → Writes (⟦<SocketStream as Stream>⟧.meaning self.old) (⟦<SocketStream as Stream>⟧.meaning self.new) bytes took }
     {
         self.calls = self.calls.saturating_add(1);
-        Took::Quiet
-    }
-
-    /// One turn whose read failed before the system was asked for bytes.
-    pub(crate) fn fail_read(&mut self) -> Heard
-        ensures failed { result ≡ Heard.Failed }
-        ensures reads { (room : List ℕ) → Reads (⟦<SocketStream as Stream>⟧.meaning self.old) (⟦<SocketStream as Stream>⟧.meaning self.new) room result }
-    {
-        self.calls = self.calls.saturating_add(1);
-        self.read_failed = true;
-        Heard::Failed
-    }
-
-    /// One turn whose write failed before the system was given bytes.
-    pub(crate) fn fail_write(&mut self) -> Took
-        ensures failed { result ≡ Took.Failed }
-        ensures writes { (bytes : List ℕ) → Writes (⟦<SocketStream as Stream>⟧.meaning self.old) (⟦<SocketStream as Stream>⟧.meaning self.new) bytes result }
-    {
-        self.calls = self.calls.saturating_add(1);
-        self.write_failed = true;
-        Took::Failed
+        self.write_failed = is_failed_write(took) || self.write_failed;
+        took
     }
 
     /// Returns the socket.
@@ -177,17 +162,12 @@ impl Stream for SocketStream {
     } };
 
     fn read(&mut self, room: &mut [u8]) -> Heard {
-        self.calls = self.calls.saturating_add(1);
         let heard = read_socket(&mut self.socket, room);
-        self.ended = is_end(heard) || self.ended;
-        self.read_failed = is_failed_read(heard) || self.read_failed;
-        heard
+        self.note_read(heard)
     }
 
     fn write(&mut self, bytes: &[u8]) -> Took {
-        self.calls = self.calls.saturating_add(1);
         let took = write_socket(&mut self.socket, bytes);
-        self.write_failed = is_failed_write(took) || self.write_failed;
-        took
+        self.note_write(took)
     }
 }

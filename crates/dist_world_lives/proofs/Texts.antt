@@ -1,5 +1,5 @@
 -- A text under delivery: what is undelivered, and the reader that it goes to.
-use Rattle.std.proofs.Common.{◌≡◌, ℕ, min, List, ◌++◌, length, take, drop, refl, ap, sym, ◌∙◌}
+use Rattle.std.proofs.Common.{◌≡◌, ℕ, min, List, ◌++◌, length, take, drop, refl, ap, ◌∙◌}
 use Rattle.std.proofs.lemmas.List.{take_min}
 use Rattle.std.specs.Int.{w16}
 use Rattle.dist_frames.specs.Stream.{first_body, after_first}

@@ -9,7 +9,7 @@ use Rattle.dist_world_model.specs.World.{Text, Conn}
 use Rattle.dist_world_model.specs.Delivery.{text_to}
 use Rattle.dist_world_model.specs.Happenings.{is_nonempty}
 
--- where a connection leads to that was not accepted yet
+-- the incarnation to which a connection leads, if it was not accepted yet
 abbrev pub unaccepted_target : Option Conn → Option ℕ
 unaccepted_target None = None
 unaccepted_target (Some x) = if is_some x.accepted then None else Some x.target
@@ -18,7 +18,7 @@ unaccepted_target (Some x) = if is_some x.accepted then None else Some x.target
 abbrev pub undelivered_to : Side → Option Conn → Option (List ℕ)
 undelivered_to side o = option_map (λ c. (let t = text_to side c in t.said)) o
 
--- this many bytes can come to this side of a connection
+-- a delivery of at most k bytes to this side of a connection moves at least one
 abbrev pub can_come : Option Conn → Side → ℕ → Bool
 can_come None side k = false
 can_come (Some x) side k = nat_lt 0 k && is_nonempty (let t = text_to side x in t.said)

@@ -99,7 +99,10 @@ impl Connections {
     pub fn accept(&mut self, place: usize, id: EndId)
         ensures { self.new ≡ at_place place (accepted_by id.0) self.old }
     {
-        mark_accepted(&mut self.all, place, id);
+        if place < self.all.len() {
+            let conn = &mut self.all[place];
+            conn.accept(id);
+        }
     }
 
     /// What this side of a connection sent and is not delivered yet; nothing if there is no such connection.
@@ -116,7 +119,10 @@ impl Connections {
     pub fn put_undelivered(&mut self, place: usize, side: Side, bytes: ByteString)
         ensures { self.new ≡ at_place place (with_undelivered side bytes) self.old }
     {
-        put_bytes(&mut self.all, place, side, bytes);
+        if place < self.all.len() {
+            let conn = &mut self.all[place];
+            conn.put_undelivered(side, bytes);
+        }
     }
 
     /// Delivers `count` bytes to this side of a connection, or all that are left. Returns whether there were any. An `Err` changes nothing.
@@ -125,64 +131,24 @@ impl Connections {
         ensures ok { IfOk result (λ came. self.new ≡ (if came then at_place place (change_to side (after_delivery count)) self.old else self.old)) }
         ensures err { OnErr result (self.new ≡ self.old) }
     {
-        move_bytes(&mut self.all, place, side, count)
+        if place >= self.all.len() || count == 0 {
+            return Ok(false);
+        }
+        let conn = &mut self.all[place];
+        if conn.text_to(side).undelivered_bytes().is_empty() {
+            return Ok(false);
+        }
+        conn.deliver(side, count)?;
+        Ok(true)
     }
 
     /// This side of a connection takes the first frame that was delivered to it. If there is none, it changes nothing.
     pub fn take(&mut self, place: usize, side: Side)
         ensures { self.new ≡ at_place place (change_to side body_taken) self.old }
     {
-        drop_body(&mut self.all, place, side);
-    }
-}
-
-// ---- one connection among all
-
-fn mark_accepted(conns: &mut Vec<Connection>, place: usize, id: EndId)
-    ensures { conns.new.items ≡ at_place place (accepted_by id.0) conns.old.items }
-{
-    if place < conns.len() {
-        let conn = &mut conns[place];
-        conn.accept(id);
-    }
-}
-
-fn put_bytes(conns: &mut Vec<Connection>, place: usize, side: Side, bytes: ByteString)
-    ensures { conns.new.items ≡ at_place place (with_undelivered side bytes) conns.old.items }
-{
-    if place < conns.len() {
-        let conn = &mut conns[place];
-        conn.put_undelivered(side, bytes);
-    }
-}
-
-fn move_bytes(
-    conns: &mut Vec<Connection>,
-    place: usize,
-    side: Side,
-    count: usize,
-) -> Result<bool, AllocError>
-    ensures comes { IfOk result (λ came. came ≡ can_come (slice_get conns.old.items place) side count) }
-    ensures ok { IfOk result (λ came. conns.new.items
-        ≡ (if came then at_place place (change_to side (after_delivery count)) conns.old.items else conns.old.items)) }
-    ensures err { OnErr result (conns.new.items ≡ conns.old.items) }
-{
-    if place >= conns.len() || count == 0 {
-        return Ok(false);
-    }
-    let conn = &mut conns[place];
-    if conn.text_to(side).undelivered_bytes().is_empty() {
-        return Ok(false);
-    }
-    conn.deliver(side, count)?;
-    Ok(true)
-}
-
-fn drop_body(conns: &mut Vec<Connection>, place: usize, side: Side)
-    ensures { conns.new.items ≡ at_place place (change_to side body_taken) conns.old.items }
-{
-    if place < conns.len() {
-        let conn = &mut conns[place];
-        conn.take(side);
+        if place < self.all.len() {
+            let conn = &mut self.all[place];
+            conn.take(side);
+        }
     }
 }

@@ -107,28 +107,35 @@ impl Lives {
     pub fn wire(&self, place: usize, id: EndId) -> Option<(Side, usize)>
         ensures { result ≡ wire_of (row_of_life (slice_get self.now place) id.0) }
     {
-        life_wire(&self.lives, place, id)
+        self.lives.get(place)?.wire(id)
     }
 
     /// The end is open.
     pub fn is_open(&self, place: usize, id: EndId) -> bool
         ensures { result ≡ is_open_end (end_of_life (slice_get self.now place) id.0) }
     {
-        is_end_open(&self.lives, place, id)
+        match self.lives.get(place) {
+            Some(life) => is_open(life.node(), id),
+            None => false,
+        }
     }
 
     /// The end waits for a connection, and was not led to one yet.
     pub fn is_unreached(&self, place: usize, id: EndId) -> bool
         ensures { result ≡ is_unreached (slice_get self.now place) id.0 }
     {
-        is_unreached(&self.lives, place, id)
+        match self.lives.get(place) {
+            Some(life) => life.node().is_dialing(id) && life.wire(id).is_none(),
+            None => false,
+        }
     }
 
     /// The node of an incarnation.
     pub fn node(&self, place: usize) -> Option<&Node>
         ensures { option_copied result ≡ option_map (λ l. l.node) (slice_get self.now place) }
     {
-        life_node(&self.lives, place)
+        let life = self.lives.get(place)?;
+        Some(life.node())
     }
 
     /// Makes room for this many incarnations more, where there is memory for it: so they need not move as their number grows.
@@ -255,36 +262,4 @@ fn reach_life(lives: &mut Vec<Life>, place: usize, id: EndId, conn: usize)
         let life = &mut lives[place];
         life.reach(id, conn);
     }
-}
-
-fn life_wire(lives: &[Life], place: usize, id: EndId) -> Option<(Side, usize)>
-    ensures { result ≡ wire_of (row_of_life (slice_get lives.now place) id.0) }
-{
-    lives.get(place)?.wire(id)
-}
-
-fn is_end_open(lives: &[Life], place: usize, id: EndId) -> bool
-    ensures { result ≡ is_open_end (end_of_life (slice_get lives.now place) id.0) }
-{
-    match lives.get(place) {
-        Some(life) => is_open(life.node(), id),
-        None => false,
-    }
-}
-
-fn is_unreached(lives: &[Life], place: usize, id: EndId) -> bool
-    ensures { result ≡ is_unreached (slice_get lives.now place) id.0 }
-{
-    match lives.get(place) {
-        Some(life) => life.node().is_dialing(id) && life.wire(id).is_none(),
-        None => false,
-    }
-}
-
-// The node of an incarnation.
-fn life_node(lives: &[Life], place: usize) -> Option<&Node>
-    ensures { option_copied result ≡ option_map (λ l. l.node) (slice_get lives.now place) }
-{
-    let life = lives.get(place)?;
-    Some(life.node())
 }

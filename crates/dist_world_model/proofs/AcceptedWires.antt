@@ -1,40 +1,23 @@
 -- A connection that is accepted is a wire; and so all connections are wires still, whatever event comes.
-use Rattle.std.proofs.Common.{◌≡◌, ◌≢◌, ℕ, true, cond, List, ◌++◌, length, Option, Some, None, ◌⊎◌, inl, inr, refl, sym, ap, ◌∙◌, subst, arith, slice_get}
-use Rattle.std.proofs.lemmas.Option.{slice_get_past}
-use Rattle.std.proofs.lemmas.List.{append-nil}
-use Rattle.dist_messages.specs.declared.message.Side.TheVariants.{Acceptor}
+use Rattle.std.specs.Prelude.{◌≡◌, ◌++◌, ◌⊎◌}
+use Rattle.dist_world_model.proofs.Words.{ℕ, true, List, Some, None, refl, sym, ap, ◌∙◌, subst, arith, slice_get, Side, Dialler, Acceptor, EndRow}
+use Rattle.dist_world_model.proofs.Words.{NodeLaws, length, inl, inr, slice_get_past, append-nil, at_place, given_by, mark, new_row, Life, Conn}
+use Rattle.dist_world_model.proofs.Words.{row_of_life, end_of_life, says, conns_after_saying, accepted_by, next_end, text_to}
 use Rattle.dist_core.specs.declared.event.Event.TheVariants as event
-use Rattle.dist_world_model.specs.Lists.{at_place, add_some}
-use Rattle.dist_world_model.specs.Rows.{EndRow, given_by, mark, new_row}
-use Rattle.dist_world_model.specs.World.{Life, Conn, row_of_life, end_of_life}
-use Rattle.dist_world_model.specs.Delivery.{says, conns_after_saying}
-use Rattle.dist_world_model.specs.Happenings.{accepted_by, next_end}
-use Rattle.dist_world_model.proofs.Places.{get-more}
-use Rattle.dist_world_model.proofs.HappeningEffects.{Ready, Plain, Accepts, Takes}
-use Rattle.dist_world_model.proofs.StepEffects.{is_given}
-use Rattle.dist_world_model.proofs.UnchangedRows.{get-row}
-use Rattle.dist_world_model.proofs.OtherRows.{gives}
-use Rattle.dist_world_model.proofs.IncarnationFacts.{before-map}
-use Rattle.dist_world_model.proofs.Lookups.{row_in, end_in, at-other, placed, unplaced, place-twice, decide, eqb-not}
-use Rattle.dist_world_model.proofs.ConnectionRows.{RowOf, ConnOf, Was, WasConn, StaysConn, linked-keeps}
-use Rattle.dist_world_model.proofs.AllWires.{WireAt, Alike, alike-refl, same-conn, ends-refl}
-use Rattle.dist_world_model.specs.NodeLaws.{NodeLaws}
+use Rattle.dist_world_model.proofs.AllWires.{Alike, WireAt, alike-refl, ends-refl, same-conn}
+use Rattle.dist_world_model.proofs.ConnectionRows.{ConnOf, RowOf, StaysConn, WasConn, linked-keeps}
+use Rattle.dist_world_model.proofs.EventEnds.{gives}
+use Rattle.dist_world_model.proofs.HappeningEffects.{Accepts, Plain, Ready, Takes}
+use Rattle.dist_world_model.proofs.Lookups.{at-other, decide, end_in, place-twice, placed, row_in, unplaced}
 use Rattle.dist_world_model.proofs.SendingWires.{long, new-row-at, plain-notified, take-notified}
-use Rattle.dist_world_model.proofs.SilentWires.{Kept, all-stay, deed, get-now, ls', me, now, other-wire, rows', notify-setups, Notifying}
+use Rattle.dist_world_model.proofs.SilentWires.{Kept, Notifying, all-stay, deed, get-now, ls', me, notify-voices, now, other-wire, row-was, rows'}
+use Rattle.dist_world_model.proofs.StepEffects.{is_given}
+use Rattle.dist_world_model.proofs.WholeFrames.{on_way}
 
 module _ (laws : NodeLaws) (notifying : Notifying) where
-  open notifying use {w, lives, fit, linked, wires, i, old, v, fresh, f, small, at, live, ok}
+  open notifying use {w, lives, fit, wired, i, old, v, fresh, f, small, at, live, ok}
 
   -- ---- a connection is accepted
-
-  add-was : (o : Option EndRow) (p : ℕ) (m : EndRow) → length old.rows ≢ p → slice_get (add_some old.rows o) p ≡ Some m → slice_get old.rows p ≡ Some m
-  add-was None p m d h = h
-  add-was (Some new) p m d h = ap (λ b. cond b (Some new) (slice_get old.rows p)) (sym (eqb-not (length old.rows) p d)) ∙ sym (get-more old.rows new p) ∙ h
-
-  row-was-at : (p : ℕ) → length old.rows ≢ p → Was (slice_get old.rows p) (slice_get (rows' laws notifying) p)
-  row-was-at p d c y e h =
-      let g = before-map (mark w.clock f.reply p) (slice_get (add_some old.rows (given_by w.clock v)) p) y (sym (get-row w.clock v f.reply old.rows p) ∙ e) in
-      (g.0, add-was (given_by w.clock v) p g.0 d g.1, ap (λ (r : EndRow). r.side) (sym g.2), ap (λ (r : EndRow). r.conn) (sym g.2) ∙ h)
 
   module _ (c : ℕ) (k : Conn) (is : v ≡ event.Incoming c) (ak : slice_get w.conns c ≡ Some k) (free : k.accepted ≡ None) (target : k.target ≡ i) where
     given : is_given v ≡ true
@@ -103,7 +86,7 @@ module _ (laws : NodeLaws) (notifying : Notifying) where
         subst (λ s. ConnOf cs' s j p d) side base))
         (λ n. inl (
         let e2 : slice_get (rows' laws notifying) p ≡ Some x = sym (ap (λ o. row_of_life o p) (get-now laws notifying)) ∙ ap (λ k. row_in (ls' laws notifying) k p) q ∙ e in
-        let g = row-was-at p n d x e2 on in
+        let g = row-was laws notifying p (λ long. absurd (n long)) d x e2 on in
         record { row = g.0; there = ap (λ k. row_in w.lives k p) (sym q) ∙ ap (λ o. row_of_life o p) at ∙ g.1; side_is = g.2; conn = g.3 })))
         (λ n. inl (record { row = x; there = ap (λ o. row_of_life o p) (sym (unplaced i (λ (l : Life). (now laws notifying)) w.lives j n)) ∙ e; side_is = refl; conn = on }))
 
@@ -111,19 +94,22 @@ module _ (laws : NodeLaws) (notifying : Notifying) where
     no-row = (λ n. row_in w.lives (target n) (next-is n)) ∙ ap (λ o. row_of_life o (length old.rows)) at ∙ slice_get_past old.rows (length old.rows) (omega arith)
 
     no-end : end_in w.lives k.target next ≡ None
-    no-end = (λ n. end_in w.lives (target n) ((next-is ∙ (long laws notifying)) n)) ∙ ap (λ o. end_of_life o (length (let n = old.node in n.ends))) at ∙ slice_get_past (let n = old.node in n.ends) (length (let n = old.node in n.ends)) (omega arith)
+    no-end = (λ n. end_in w.lives (target n) ((next-is ∙ (long laws notifying)) n)) ∙ ap (λ o. end_of_life o (length old.node.ends)) at ∙ slice_get_past old.node.ends (length old.node.ends) (omega arith)
 
     alike : Alike w.lives k (take_in k)
     alike = record {
       same = record { life = refl; dialler = refl; target = refl };
-      there = refl;
-      back = (let h = gives old.node v f (deed laws notifying) given in let b = k.back in ap (λ s. b.come ++ (b.said ++ s)) h.say ∙ ap (λ s. b.come ++ s) (append-nil b.said));
+      texts = texts;
       accepted = inr (free, next, refl, no-row, no-end);
     }
+      where
+        texts : (side : Side) → on_way (text_to side (take_in k)) ≡ on_way (text_to side k)
+        texts Acceptor = refl
+        texts Dialler = (let h = gives old.node v f (deed laws notifying) given in let b = k.back in ap (λ s. b.come ++ (b.said ++ s)) h.say ∙ ap (λ s. b.come ++ s) (append-nil b.said))
 
     accept-kept : (Kept laws notifying) cs'
     accept-kept = (
-      linked-keeps w.lives (ls' laws notifying) w.conns cs' (all-stay laws notifying) (notify-setups laws notifying) stays (λ d h a. inl (were d h a)) accs backs linked,
+      linked-keeps w.lives (ls' laws notifying) w.conns cs' (all-stay laws notifying) (notify-voices laws notifying) stays (λ d h a. inl (were d h a)) accs backs wired.0,
       at-other (λ d h. WireAt (ls' laws notifying) h) c take_in w.conns
           (λ h ah. let z : k ≡ h = same-conn w.conns c k h ak ah in let P : Conn → Type 0 = λ h. WireAt (ls' laws notifying) (take_in h) in subst P z ((other-wire laws notifying) c k (take_in k) ak alike (λ y e. inr given) (λ x a b. given)))
           (λ d h n ah. (other-wire laws notifying) d h h ah (alike-refl w.lives h) (λ y e. inl e) (λ x a b. given)),

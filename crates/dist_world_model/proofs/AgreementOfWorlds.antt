@@ -1,28 +1,22 @@
 -- THE AGREEMENT OF EVERY WORLD.
-use Rattle.std.proofs.Common.{◌≡◌, ◌≢◌, ℕ, true, List, Option, Some, inl, inr, refl, sym, ap, ◌∙◌, subst, slice_get}
+use Rattle.std.specs.Prelude.{◌≡◌, ◌≢◌, ◌⊎◌}
+use Rattle.dist_world_model.proofs.Words.{ℕ, true, List, Option, Some, refl, sym, ap, ◌∙◌, subst, slice_get, common, Side, Setup, End, announced_by}
+use Rattle.dist_world_model.proofs.Words.{EndRow, NodeLaws, inl, inr, Life, Conn, row_of_life, UpRecord, own_digest, Happening, World, runs, empty}
+use Rattle.dist_world_model.proofs.Words.{run, AllLives, OwnDigests, bare, IsUp, Agreement, AreSetups, AllFit}
+use Rattle.dist_world_model.specs.Agreement.{AreAgreed, IsAgreed, Joins}
 use Rattle.std.proofs.lemmas.Nat.{and_comm}
 use Rattle.std.specs.Cmp.Lexicographic.{same_text}
-use Rattle.dist_names.specs.Flags.{common}
-use Rattle.dist_messages.specs.declared.message.Side.{Side}
-use Rattle.dist_core_setup.specs.declared.setup.Setup.{Setup}
-use Rattle.dist_core_ends.specs.declared.known.UpRecord.{UpRecord}
-use Rattle.dist_core_ends.specs.declared.known.End.{End}
 use Rattle.dist_core_ends.specs.declared.known.End.TheVariants as ends
-use Rattle.dist_core_setup.specs.Rules.{announced_by, own_digest}
-use Rattle.dist_world_model.specs.declared.happening.Happening.{Happening}
-use Rattle.dist_world_model.specs.Rows.{EndRow}
-use Rattle.dist_world_model.specs.World.{World, Life, Conn, runs, row_of_life, empty}
-use Rattle.dist_world_model.specs.Run.{run}
-use Rattle.dist_world_model.specs.Laws.{AllLives, OwnDigests}
-use Rattle.dist_world_model.specs.Agreement.{bare, IsUp, IsAgreed, AreAgreed, Agreement, AreSetups, AllFit}
-use Rattle.dist_world_model.proofs.Wires.{NotedAt, Noted, rose_of}
-use Rattle.dist_world_model.proofs.WorldFacts.{IsKept, kept}
-use Rattle.dist_world_model.proofs.Lookups.{row_in, end_in, setup_in, setup_of, far, decide}
-use Rattle.dist_world_model.proofs.EndPairs.{Seat, IsOpen}
-use Rattle.dist_world_model.proofs.OneConnection.{both-dialled, each-dialled, each-accepted}
 use Rattle.dist_world_model.proofs.Digests.{digest_lives}
-use Rattle.dist_world_model.specs.NodeLaws.{NodeLaws}
-use Rattle.dist_world_model.proofs.UpEnds.{LineOf, On_accepted, On_dialled, Sits, Stands_on, announced-is, conn-is, end-is, is-open, past-some, peer-is, rose-is, running-is, setup-is, sits-life, sits-row, stands-on}
+use Rattle.dist_world_model.proofs.EndPairs.{IsOpen, Seat}
+use Rattle.dist_world_model.proofs.Lookups.{decide, end_in, far, row_in, voice_in, voice_of}
+use Rattle.dist_world_model.proofs.OneConnection.{both-dialled, each-accepted, each-dialled}
+use Rattle.dist_world_model.proofs.PastMoments.{past-some}
+use Rattle.dist_world_model.proofs.UpEnds.{LineOf, On_accepted, On_dialled, Sits, Stands_on, announced-is, conn-is, end-is, is-open, peer-is, rose-is}
+use Rattle.dist_world_model.proofs.UpEnds.{running-is, setup-is, sits-life, sits-row, stands-on}
+use Rattle.dist_world_model.proofs.WholeFrames.{joined}
+use Rattle.dist_world_model.proofs.Wires.{Noted, NotedAt, Voice, marks_of, voice}
+use Rattle.dist_world_model.proofs.WorldFacts.{IsKept, kept}
 
 module _ (laws : NodeLaws) where
   module _ (w : World) (h : IsKept w) where
@@ -48,7 +42,7 @@ module _ (laws : NodeLaws) where
         o.is ∙ ap (λ (r : Setup). bare (record r { creation = l.node.setup.creation })) q
 
     module _ {a b c : ℕ} (x : IsUp w a b c) where
-      sits-who : {side : Side} {d : ℕ} (s : Seat w side d) → (Sits laws w h) x s → (let l = s.life in l.who) ≡ a
+      sits-who : {side : Side} {d : ℕ} (s : Seat w side d) → (Sits laws w h) x s → s.life.who ≡ a
       sits-who s g = ap (λ (l : Life). l.who) ((sits-life laws w h) x s g) ∙ (let r = (running-is laws w h) x in r.0)
 
       sits-runs : {side : Side} {d : ℕ} (s : Seat w side d) → (Sits laws w h) x s → runs s.life ≡ true
@@ -57,29 +51,30 @@ module _ (laws : NodeLaws) where
       sits-open : {side : Side} {d : ℕ} (s : Seat w side d) → (Sits laws w h) x s → IsOpen s.row
       sits-open s g = let o = (is-open laws w h) x in let e = (sits-row laws w h) x s g in record { doomed = ap (λ (r : EndRow). r.doomed) e ∙ o.doomed; closed = ap (λ (r : EndRow). r.closed) e ∙ o.closed }
 
-      sits-rose : {side : Side} {d : ℕ} (s : Seat w side d) → (Sits laws w h) x s → (u : ℕ) × ((let r = s.row in r.rose) ≡ Some u)
+      sits-rose : {side : Side} {d : ℕ} (s : Seat w side d) → (Sits laws w h) x s → (u : ℕ) × (s.row.rose ≡ Some u)
       sits-rose s g = let u = (rose-is laws w h) x in (u.0, ap (λ (r : EndRow). r.rose) ((sits-row laws w h) x s g) ∙ u.1)
 
-      sits-peer : {side : Side} {d : ℕ} (s : Seat w side d) → (Sits laws w h) x s → (let r = s.row in r.peer) ≡ Some (let o = x.other in o.name)
+      sits-peer : {side : Side} {d : ℕ} (s : Seat w side d) → (Sits laws w h) x s → s.row.peer ≡ Some x.other.name
       sits-peer s g = ap (λ (r : EndRow). r.peer) ((sits-row laws w h) x s g) ∙ (peer-is laws w h) x ∙ ap Some x.peer
 
       -- the other end belongs to node b
-      far-who : {sa sb : Side} {d : ℕ} (s : Seat w sa d) (t : Seat w sb d) → (Sits laws w h) x s → (let r = s.row in r.peer) ≡ Some (let l = t.life in l.node.setup.name) → (let l = t.life in l.who) ≡ b
-      far-who s t g e = let z : Some (let l = t.life in l.node.setup.name) ≡ Some (let o = x.other in o.name) = sym e ∙ sits-peer s g in who-by t.place b t.life x.other t.at_ x.named cc
+      far-who : {sa sb : Side} {d : ℕ} (s : Seat w sa d) (t : Seat w sb d) → (Sits laws w h) x s → s.row.peer ≡ Some t.life.node.setup.name → t.life.who ≡ b
+      far-who s t g e = let z : Some t.life.node.setup.name ≡ Some x.other.name = sym e ∙ sits-peer s g in who-by t.place b t.life x.other t.at_ x.named cc
 
-    seat-name : {sa sb : Side} {c d : ℕ} (s : Seat w sa c) (t : Seat w sb d) → (let l = s.life in l.who) ≡ (let l = t.life in l.who) → (let l = s.life in l.node.setup.name) ≡ (let l = t.life in l.node.setup.name)
+    seat-name : {sa sb : Side} {c d : ℕ} (s : Seat w sa c) (t : Seat w sb d) → s.life.who ≡ t.life.who → s.life.node.setup.name ≡ t.life.node.setup.name
     seat-name s t e = name-of s.place t.place s.life t.life s.at_ t.at_ e
 
     -- an end that is up on a line came up after the accepted one
-    dialled-rose : {c : ℕ} (k : Conn) (ak : slice_get w.conns c ≡ Some k) (g : (LineOf laws w h) c k) (u : ℕ) → (let l = g.line in let s = l.dialled in let r = s.row in r.rose) ≡ Some u → (v : ℕ) × ((let l = g.line in let s = l.accepted in let r = s.row in r.rose) ≡ Some v)
+    dialled-rose : {c : ℕ} (k : Conn) (ak : slice_get w.conns c ≡ Some k) (g : (LineOf laws w h) c k) (u : ℕ) → g.line.dialled.row.rose ≡ Some u → (v : ℕ) × (g.line.accepted.row.rose ≡ Some v)
     dialled-rose {c} k ak g u e =
         let L = g.line in let X = L.dialled in let Y = L.accepted in
-        let wi = h.wires c k ak _ _ (ap (setup_in w.lives) (sym g.life_is) ∙ ap setup_of X.at_) (ap (setup_in w.lives) (sym g.target_is) ∙ ap setup_of Y.at_) in
+        let wi = h.wired.1 c k ak in
+        let x = wi.0 _ _ (ap (voice_in w.lives) (sym g.life_is) ∙ ap voice_of X.at_) (ap (voice_in w.lives) (sym g.target_is) ∙ ap voice_of Y.at_) in
         let near : row_in w.lives k.life k.dialler ≡ Some X.row = (λ n. row_in w.lives (let i = g.life_is in sym i n) (let i = g.id_is in sym i n)) ∙ ap (λ o. row_of_life o X.id) X.at_ ∙ X.there in
         let away : far (row_in w.lives k.target) k.accepted ≡ Some Y.row = ap (far (row_in w.lives k.target)) g.accepted_is ∙ ap (λ j. row_in w.lives j Y.id) (sym g.target_is) ∙ ap (λ o. row_of_life o Y.id) Y.at_ ∙ Y.there in
-        let p = wi.follows u (ap rose_of near ∙ e) in
-        let q = past-some u (rose_of (far (row_in w.lives k.target) k.accepted)) p in
-        (q.0, ap rose_of (sym away) ∙ q.1)
+        let p = x.follows.1 u (ap (λ o. (marks_of o).rose) near ∙ e) in
+        let q = past-some u (marks_of (far (row_in w.lives k.target) k.accepted)).rose p in
+        (q.0, ap (λ o. (marks_of o).rose) (sym away) ∙ q.1)
 
     -- ---- ONE CONNECTION
 
@@ -139,11 +134,11 @@ module _ (laws : NodeLaws) where
         abbrev sy : Setup
         sy = y.life.node.setup
 
-        agreed-by : (own away : Setup) (kept : UpRecord) → Noted (bare own) (bare away) (ends.Up kept) → kept.digest_received ≡ own_digest own kept.peer kept.challenge → IsAgreed own away kept
-        agreed-by own away kept n e = record { flags = n.0 ∙ (λ i. common (announced-is (bare own) i) (announced-is (bare away) i)); creation = n.1; digest = e }
+        agreed-by : (own away : Setup) (kept : UpRecord) → Noted (voice own) (voice away) (ends.Up kept) → kept.digest_received ≡ own_digest own kept.peer kept.challenge → IsAgreed own away kept
+        agreed-by own away kept n e = record { flags = n.0 ∙ (λ i. common (announced-is own i) (announced-is away i)); creation = n.1; digest = e }
 
-        shared-by : Noted (bare sx) (bare sy) (ends.Up x.kept) → Noted (bare sy) (bare sx) (ends.Up y.kept) → x.kept.common.0 ≡ y.kept.common.0
-        shared-by n m = n.0 ∙ and_comm (announced_by (bare sx)) (announced_by (bare sy)) ∙ sym m.0
+        shared-by : Noted (voice sx) (voice sy) (ends.Up x.kept) → Noted (voice sy) (voice sx) (ends.Up y.kept) → x.kept.common.0 ≡ y.kept.common.0
+        shared-by n m = n.0 ∙ and_comm (announced_by sx) (announced_by sy) ∙ sym m.0
 
         setup-x : bare x.life.node.setup ≡ bare (record y.other { creation = x.life.node.setup.creation })
         setup-x = setup-by x.place a x.life y.other x.lives y.named (let r = (running-is laws w h) x in r.0)
@@ -151,21 +146,31 @@ module _ (laws : NodeLaws) where
         setup-y : bare y.life.node.setup ≡ bare (record x.other { creation = y.life.node.setup.creation })
         setup-y = setup-by y.place b y.life x.other y.lives x.named (let r = (running-is laws w h) y in r.0)
 
+        agreed : c ≡ d → (k : Conn) → slice_get w.conns c ≡ Some k → Joins k x.place x.id y.place y.id ⊎ Joins k y.place y.id x.place x.id → Noted (voice sx) (voice sy) (ends.Up x.kept) → Noted (voice sy) (voice sx) (ends.Up y.kept) → AreAgreed w a b c d x y
+        agreed e k ak joined nx ny = record { same = e; conn = k; there = ak; joined = joined; setup_a = setup-x; setup_b = setup-y; at_a = agreed-by sx sy x.kept nx digest-x; at_b = agreed-by sy sx y.kept ny digest-y; shared = shared-by nx ny }
+
+        up-noted : (own other : Voice) (kept : UpRecord) (o : Option End) → o ≡ Some (ends.Up kept) → NotedAt own other o → Noted own other (ends.Up kept)
+        up-noted own other kept o e n = subst (NotedAt own other) e n
+
         -- a dialled, and b accepted
         forth : c ≡ d → (k : Conn) → slice_get w.conns c ≡ Some k → x.place ≡ k.life → x.id ≡ k.dialler → y.place ≡ k.target → k.accepted ≡ Some y.id → AreAgreed w a b c d x y
         forth e k ak p i q j =
-            let wi = h.wires c k ak (bare sx) (bare sy) ((setup-is laws w h) x k.life p) ((setup-is laws w h) y k.target q) in
-            let nx : Noted (bare sx) (bare sy) (ends.Up x.kept) = (let P : Option End → Type 0 = λ o. NotedAt (bare sx) (bare sy) o in subst P ((end-is laws w h) x k.life k.dialler p i) wi.noted_back) in
-            let ny : Noted (bare sy) (bare sx) (ends.Up y.kept) = (let P : Option End → Type 0 = λ o. NotedAt (bare sy) (bare sx) o in subst P (ap (far (end_in w.lives k.target)) j ∙ (end-is laws w h) y k.target y.id q refl) wi.noted_there) in
-            record { same = e; conn = k; there = ak; joined = inl (record { life = sym p; dialler = sym i; target = sym q; accepted = j }); setup_a = setup-x; setup_b = setup-y; at_a = agreed-by sx sy x.kept nx digest-x; at_b = agreed-by sy sx y.kept ny digest-y; shared = shared-by nx ny }
+            let wi = h.wired.1 c k ak in
+            let vx = setup-is laws w h x k.life p in let vy = setup-is laws w h y k.target q in
+            let nx = wi.0 (voice sx) (voice sy) vx vy in let ny = wi.1 (voice sy) (voice sx) vy vx in
+            agreed e k ak (inl (record { life = sym p; dialler = sym i; target = sym q; accepted = j }))
+            (up-noted (voice sx) (voice sy) x.kept _ (end-is laws w h x k.life k.dialler p i) nx.noted)
+            (up-noted (voice sy) (voice sx) y.kept _ (ap (far (end_in w.lives k.target)) j ∙ end-is laws w h y k.target y.id q refl) ny.noted)
 
         -- b dialled, and a accepted
         back : c ≡ d → (k : Conn) → slice_get w.conns c ≡ Some k → y.place ≡ k.life → y.id ≡ k.dialler → x.place ≡ k.target → k.accepted ≡ Some x.id → AreAgreed w a b c d x y
         back e k ak p i q j =
-            let wi = h.wires c k ak (bare sy) (bare sx) ((setup-is laws w h) y k.life p) ((setup-is laws w h) x k.target q) in
-            let ny : Noted (bare sy) (bare sx) (ends.Up y.kept) = (let P : Option End → Type 0 = λ o. NotedAt (bare sy) (bare sx) o in subst P ((end-is laws w h) y k.life k.dialler p i) wi.noted_back) in
-            let nx : Noted (bare sx) (bare sy) (ends.Up x.kept) = (let P : Option End → Type 0 = λ o. NotedAt (bare sx) (bare sy) o in subst P (ap (far (end_in w.lives k.target)) j ∙ (end-is laws w h) x k.target x.id q refl) wi.noted_there) in
-            record { same = e; conn = k; there = ak; joined = inr (record { life = sym p; dialler = sym i; target = sym q; accepted = j }); setup_a = setup-x; setup_b = setup-y; at_a = agreed-by sx sy x.kept nx digest-x; at_b = agreed-by sy sx y.kept ny digest-y; shared = shared-by nx ny }
+            let wi = h.wired.1 c k ak in
+            let vy = setup-is laws w h y k.life p in let vx = setup-is laws w h x k.target q in
+            let ny = wi.0 (voice sy) (voice sx) vy vx in let nx = wi.1 (voice sx) (voice sy) vx vy in
+            agreed e k ak (inr (record { life = sym p; dialler = sym i; target = sym q; accepted = j }))
+            (up-noted (voice sx) (voice sy) x.kept _ (ap (far (end_in w.lives k.target)) j ∙ end-is laws w h x k.target x.id q refl) nx.noted)
+            (up-noted (voice sy) (voice sx) y.kept _ (end-is laws w h y k.life k.dialler p i) ny.noted)
 
         on-one : c ≡ d → (k m : Conn) → slice_get w.conns c ≡ Some k → slice_get w.conns d ≡ Some m → (Stands_on laws w h) x k → (Stands_on laws w h) y m → AreAgreed w a b c d x y
         on-one e k m ak am s t = by (same k m (let z : Some k ≡ Some m = sym ak ∙ ap (slice_get w.conns) e ∙ am in cc)) s t

@@ -1,31 +1,25 @@
 -- The order of numbers on a connection, and of incarnations, in the words of the definitions.
-use Rattle.std.proofs.Common.{◌≡◌, ℕ, ◌+◌, ◌<◌, ◌≤◌, true, not, List, Option, Some, None, refl, sym, ap, ◌∙◌, arith, is_some, slice_get}
-use Rattle.std.proofs.lemmas.Bool.{false≢true}
-use Rattle.dist_core_setup.specs.declared.setup.Setup.{Setup}
-use Rattle.dist_world_model.specs.declared.happening.Happening.{Happening}
-use Rattle.dist_world_model.specs.Rows.{EndRow, past}
-use Rattle.dist_world_model.specs.World.{World, Life, Conn, row_of_life, empty}
-use Rattle.dist_world_model.specs.Run.{run}
-use Rattle.dist_world_model.specs.Order.{Numbers, AreAbove, Accepted, InOrder, AreInOrder, OnlyLastRuns}
-use Rattle.dist_world_model.specs.Agreement.{bare, AreSetups, AllFit}
+use Rattle.std.specs.Prelude.{◌≡◌, ◌<◌, ◌+◌, ◌≤◌}
+use Rattle.dist_world_model.proofs.Words.{ℕ, true, List, Option, Some, None, refl, sym, ap, ◌∙◌, arith, is_some, slice_get, Dialler, Acceptor, Setup}
+use Rattle.dist_world_model.proofs.Words.{EndRow, past, NodeLaws, Life, Conn, row_of_life, Happening, World, empty, run, AreSetups, AllFit, not}
+use Rattle.dist_world_model.proofs.Words.{false≢true, Numbers, OnlyLastRuns}
+use Rattle.dist_world_model.specs.Order.{Accepted, AreAbove, AreInOrder, InOrder}
+use Rattle.dist_world_model.proofs.ConnectionRows.{end_of, row_of}
 use Rattle.dist_world_model.proofs.EndStates.{Below}
+use Rattle.dist_world_model.proofs.Lookups.{far, row_in, voice_of}
+use Rattle.dist_world_model.proofs.PastMoments.{past-is, past-some}
 use Rattle.dist_world_model.proofs.WholeFrames.{on_way}
-use Rattle.dist_world_model.proofs.Wires.{IsWire, named_of, replied_of, rose_of, peer_of}
-use Rattle.dist_world_model.proofs.IncarnationSpans.{Since}
+use Rattle.dist_world_model.proofs.Wires.{IsEnd, marks_of, peer_of, voice}
 use Rattle.dist_world_model.proofs.WorldFacts.{IsKept, IsTimely, kept, timely}
-use Rattle.dist_world_model.proofs.Lookups.{row_in, end_in, setup_of, far}
-use Rattle.dist_world_model.proofs.PastMoments.{past-is}
-use Rattle.dist_world_model.specs.NodeLaws.{NodeLaws}
-
-past-some : (t : ℕ) (o : Option ℕ) → past t o ≡ true → (n : ℕ) × (o ≡ Some n) × (n < t)
-past-some t None h = absurd (false≢true h)
-past-some t (Some n) h = (n, refl, past-is t n h)
 
 -- ---- connections
 
 module _ (w : World) (h : IsKept w) (c : ℕ) (k : Conn) (a b : Life) (x : EndRow) (ak : slice_get w.conns c ≡ Some k) (aa : slice_get w.lives k.life ≡ Some a) (ab : slice_get w.lives k.target ≡ Some b) (ax : slice_get a.rows k.dialler ≡ Some x) where
-  wire : IsWire (bare a.node.setup) (bare b.node.setup) (on_way k.there) (on_way k.back) (row_in w.lives k.life k.dialler) (far (row_in w.lives k.target) k.accepted) (end_in w.lives k.life k.dialler) (far (end_in w.lives k.target) k.accepted)
-  wire = h.wires c k ak (bare a.node.setup) (bare b.node.setup) (ap setup_of aa) (ap setup_of ab)
+  dialled : IsEnd Dialler (voice a.node.setup) (voice b.node.setup) (on_way k.there) (row_of w.lives Dialler k) (row_of w.lives Acceptor k) (end_of w.lives Dialler k)
+  dialled = let g = h.wired.1 c k ak in g.0 (voice a.node.setup) (voice b.node.setup) (ap voice_of aa) (ap voice_of ab)
+
+  accepted : IsEnd Acceptor (voice b.node.setup) (voice a.node.setup) (on_way k.back) (row_of w.lives Acceptor k) (row_of w.lives Dialler k) (end_of w.lives Acceptor k)
+  accepted = let g = h.wired.1 c k ak in g.1 (voice b.node.setup) (voice a.node.setup) (ap voice_of ab) (ap voice_of aa)
 
   near : row_in w.lives k.life k.dialler ≡ Some x
   near = ap (λ o. row_of_life o k.dialler) aa ∙ ax
@@ -48,18 +42,18 @@ module _ (w : World) (h : IsKept w) (c : ℕ) (k : Conn) (a b : Life) (x : EndRo
   in-order : InOrder k a b x
   in-order = record {
     replies = λ r e. (
-        let g = found named_of refl r (wire.replies r (ap replied_of near ∙ e)) in
+        let g = found (λ o. (marks_of o).named) refl r (dialled.follows.0 r (ap (λ o. (marks_of o).replied) near ∙ e)) in
         let f = away k.accepted refl g.0 in
         record {
           end_ = g.0;
           at_ = g.1;
           named = g.2;
           before = g.3;
-          peer = ap peer_of (sym near) ∙ wire.peer_back (ap (λ o. is_some (replied_of o)) near ∙ ap is_some e);
-          other = ap peer_of (sym f) ∙ wire.peer_there (ap (λ o. is_some (named_of o)) f ∙ ap is_some g.2);
+          peer = ap peer_of (sym near) ∙ dialled.peer (ap (λ o. is_some (marks_of o).replied) near ∙ ap is_some e);
+          other = ap peer_of (sym f) ∙ accepted.peer (ap (λ o. is_some (marks_of o).named) f ∙ ap is_some g.2);
         });
-    rises = λ e u q. past-some u x.replied (ap (λ o. past u (replied_of o)) (sym near) ∙ wire.rises u (ap rose_of (away k.accepted refl e) ∙ q));
-    follows = λ u e. (let g = found rose_of refl u (wire.follows u (ap rose_of near ∙ e)) in record { end_ = g.0; at_ = g.1; rose = g.2; before = g.3 });
+    rises = λ e u q. past-some u x.replied (ap (λ o. past u (marks_of o).replied) (sym near) ∙ accepted.follows u (ap (λ o. (marks_of o).rose) (away k.accepted refl e) ∙ q));
+    follows = λ u e. (let g = found (λ o. (marks_of o).rose) refl u (dialled.follows.1 u (ap (λ o. (marks_of o).rose) near ∙ e)) in record { end_ = g.0; at_ = g.1; rose = g.2; before = g.3 });
   }
 
 module _ (laws : NodeLaws) where
@@ -84,18 +78,15 @@ numbers-below n row b = record {
 numbers-map : (P Q : ℕ → Type 0) → ((n : ℕ) → P n → Q n) → (row : EndRow) → Numbers P row → Numbers Q row
 numbers-map P Q f row h = record { given = f row.given h.given; named = λ n e. f n (h.named n e); doomed = λ n e. f n (h.doomed n e); replied = λ n e. f n (h.replied n e); rose = λ n e. f n (h.rose n e); closed = λ n e. f n (h.closed n e) }
 
-numbers-since : (b : ℕ) (row : EndRow) → Since b row → Numbers (λ m. b < m) row
-numbers-since b row h = record { given = h.given; named = h.named; doomed = h.doomed; replied = h.replied; rose = h.rose; closed = h.closed }
-
 above : (w : World) → IsTimely w → AreAbove w
 above w h i j a b p q x y lt aa ab who ax ay =
     let o = h.order i j a b lt aa ab who in
     let sa = h.seen i a aa in let sb = h.seen j b ab in
-    let v = sa.over o.0 o.1 in
+    let v = sa.1.over o.0 o.1 in
     let nx = numbers-below o.0 x (v.1 p x ax) in
-    let ny = numbers-since b.begun y (sb.since q y ay) in
+    let ny = sb.1.rows q y ay in
     let gap = o.2 in
-    numbers-map (λ m. b.begun < m) (λ m. Numbers (λ n. n < m) x) (λ m l. numbers-map (λ n. n ≤ o.0) (λ n. n < m) (λ n g. omega (arith, gap, l, g)) x nx) y ny
+    numbers-map (λ m. b.begun < m) (λ m. Numbers (λ n. n < m) x) (λ m l. numbers-map (λ n. n ≤ o.0) (λ n. n < m) (λ n g. omega (arith, gap, l, g)) x nx) y ny.since
 
 module _ (laws : NodeLaws) where
   pub above_worlds : (ss : List Setup) (hs : List Happening) → AreAbove (run hs (empty ss))

@@ -1,11 +1,9 @@
 -- Each connection has one dialled row and at most one accepted row, and each row with a connection is one of these.
-use Rattle.std.proofs.Common.{◌≡◌, ℕ, List, Option, Some, None, ◌⊎◌, inl, inr, refl, sym, ap, ◌∙◌, subst, slice_get}
-use Rattle.dist_messages.specs.declared.message.Side.{Side}
-use Rattle.dist_messages.specs.declared.message.Side.TheVariants.{Dialler, Acceptor}
-use Rattle.dist_core_setup.specs.declared.setup.Setup.{Setup}
-use Rattle.dist_world_model.specs.Rows.{EndRow}
-use Rattle.dist_world_model.specs.World.{Life, Conn}
-use Rattle.dist_world_model.proofs.Lookups.{row_in, setup_in}
+use Rattle.std.specs.Prelude.{◌≡◌, ◌⊎◌}
+use Rattle.dist_world_model.proofs.Words.{ℕ, List, Option, Some, None, refl, sym, ap, ◌∙◌, subst, slice_get, Side, Dialler, Acceptor, End, EndRow}
+use Rattle.dist_world_model.proofs.Words.{inl, inr, Life, Conn}
+use Rattle.dist_world_model.proofs.Lookups.{end_in, far, row_in, voice_in}
+use Rattle.dist_world_model.proofs.Wires.{Voice}
 
 -- the row of this end, which has this side and belongs to this connection
 pub record RowOf (ls : List Life) (side : Side) (i p c : ℕ) : Type 0 where
@@ -24,9 +22,22 @@ pub record ConnOf (cs : List Conn) (side : Side) (i p c : ℕ) : Type 0 where
   pub there : slice_get cs c ≡ Some conn
   pub is_end : IsEndOf side conn i p
 
+-- the incarnation, the row and the end on a side of a connection
+abbrev pub life_of : Side → Conn → ℕ
+life_of Dialler k = k.life
+life_of Acceptor k = k.target
+
+abbrev pub row_of : List Life → Side → Conn → Option EndRow
+row_of ls Dialler k = row_in ls k.life k.dialler
+row_of ls Acceptor k = far (row_in ls k.target) k.accepted
+
+abbrev pub end_of : List Life → Side → Conn → Option End
+end_of ls Dialler k = end_in ls k.life k.dialler
+end_of ls Acceptor k = far (end_in ls k.target) k.accepted
+
 pub record Linked (ls : List Life) (cs : List Conn) : Type 0 where
   pub dialled : (c : ℕ) (k : Conn) → slice_get cs c ≡ Some k → RowOf ls Dialler k.life k.dialler c
-  pub target : (c : ℕ) (k : Conn) → slice_get cs c ≡ Some k → (m : Setup) × (setup_in ls k.target ≡ Some m)
+  pub target : (c : ℕ) (k : Conn) → slice_get cs c ≡ Some k → (m : Voice) × (voice_in ls k.target ≡ Some m)
   pub accepted : (c y : ℕ) (k : Conn) → slice_get cs c ≡ Some k → k.accepted ≡ Some y → RowOf ls Acceptor k.target y c
   pub only : (i p c : ℕ) (x : EndRow) → row_in ls i p ≡ Some x → x.conn ≡ Some c → ConnOf cs x.side i p c
 
@@ -40,8 +51,8 @@ Stays o u = (c : ℕ) (x : EndRow) → o ≡ Some x → x.conn ≡ Some c → (y
 abbrev pub Was : Option EndRow → Option EndRow → Type 0
 Was o u = (c : ℕ) (y : EndRow) → u ≡ Some y → y.conn ≡ Some c → (x : EndRow) × (o ≡ Some x) × (x.side ≡ y.side) × (x.conn ≡ Some c)
 
-abbrev pub SetupStays : Option Setup → Option Setup → Type 0
-SetupStays o u = (s : Setup) → o ≡ Some s → u ≡ Some s
+abbrev pub VoiceStays : Option Voice → Option Voice → Type 0
+VoiceStays o u = (s : Voice) → o ≡ Some s → u ≡ Some s
 
 pub record SameEnds (k h : Conn) : Type 0 where
   pub life : h.life ≡ k.life
@@ -56,7 +67,7 @@ pub record WasConn (cs : List Conn) (c : ℕ) (h : Conn) : Type 0 where
 
 pub record NewConn (ls : List Life) (c : ℕ) (h : Conn) : Type 0 where
   pub dialled : RowOf ls Dialler h.life h.dialler c
-  pub target : (m : Setup) × (setup_in ls h.target ≡ Some m)
+  pub target : (m : Voice) × (voice_in ls h.target ≡ Some m)
   pub free : h.accepted ≡ None
 
 -- this connection is there still
@@ -75,13 +86,13 @@ row-stays ls ls' rows side i i' p p' c e d r =
     let g = rows i p c r.row r.there r.conn in
     record { row = g.0; there = (λ n. row_in ls' (e n) (d n)) ∙ g.1; side_is = g.2 ∙ r.side_is; conn = g.3 }
 
-pub linked-keeps : (ls ls' : List Life) (cs cs' : List Conn) → ((i p : ℕ) → Stays (row_in ls i p) (row_in ls' i p)) → ((i : ℕ) → SetupStays (setup_in ls i) (setup_in ls' i))
+pub linked-keeps : (ls ls' : List Life) (cs cs' : List Conn) → ((i p : ℕ) → Stays (row_in ls i p) (row_in ls' i p)) → ((i : ℕ) → VoiceStays (voice_in ls i) (voice_in ls' i))
     → ((c : ℕ) (k : Conn) → slice_get cs c ≡ Some k → StaysConn cs' c k)
     → ((c : ℕ) (h : Conn) → slice_get cs' c ≡ Some h → WasConn cs c h ⊎ NewConn ls' c h)
     → ((c y : ℕ) (k h : Conn) → slice_get cs c ≡ Some k → slice_get cs' c ≡ Some h → h.accepted ≡ Some y → (k.accepted ≡ Some y) ⊎ RowOf ls' Acceptor h.target y c)
     → ((i p c : ℕ) (x : EndRow) → row_in ls' i p ≡ Some x → x.conn ≡ Some c → RowOf ls x.side i p c ⊎ ConnOf cs' x.side i p c)
     → Linked ls cs → Linked ls' cs'
-linked-keeps ls ls' cs cs' rows setups stays were accs backs l = record { dialled = dialled; target = target; accepted = accepted; only = only }
+linked-keeps ls ls' cs cs' rows voices stays were accs backs l = record { dialled = dialled; target = target; accepted = accepted; only = only }
   where
     dialled : (c : ℕ) (h : Conn) → slice_get cs' c ≡ Some h → RowOf ls' Dialler h.life h.dialler c
     dialled c h at = by (were c h at)
@@ -90,11 +101,11 @@ linked-keeps ls ls' cs cs' rows setups stays were accs backs l = record { dialle
         by (inl w) = let s = w.same in row-stays ls ls' rows Dialler _ _ _ _ c s.life s.dialler (l.dialled c w.old w.there)
         by (inr n) = n.dialled
 
-    target : (c : ℕ) (h : Conn) → slice_get cs' c ≡ Some h → (m : Setup) × (setup_in ls' h.target ≡ Some m)
+    target : (c : ℕ) (h : Conn) → slice_get cs' c ≡ Some h → (m : Voice) × (voice_in ls' h.target ≡ Some m)
     target c h at = by (were c h at)
       where
-        by : WasConn cs c h ⊎ NewConn ls' c h → (m : Setup) × (setup_in ls' h.target ≡ Some m)
-        by (inl w) = let s = w.same in let g = l.target c w.old w.there in (g.0, ap (setup_in ls') s.target ∙ setups _ g.0 g.1)
+        by : WasConn cs c h ⊎ NewConn ls' c h → (m : Voice) × (voice_in ls' h.target ≡ Some m)
+        by (inl w) = let s = w.same in let g = l.target c w.old w.there in (g.0, ap (voice_in ls') s.target ∙ voices _ g.0 g.1)
         by (inr n) = n.target
 
     accepted : (c y : ℕ) (h : Conn) → slice_get cs' c ≡ Some h → h.accepted ≡ Some y → RowOf ls' Acceptor h.target y c

@@ -1,20 +1,13 @@
 -- Each end that is up holds the digest of the own cookie and its own challenge.
-use Rattle.std.proofs.Common.{◌≡◌, ℕ, true, ◌&&◌, List, [], ◌∷◌, refl, ap, ◌∙◌, subst}
+use Rattle.std.specs.Prelude.{◌≡◌, ◌&&◌, ◌∷◌}
+use Rattle.dist_world_model.proofs.Words.{ℕ, true, List, [], refl, ap, ◌∙◌, subst, Setup, NodeLaws, Life, own_digest, Happening, empty, run}
+use Rattle.dist_world_model.proofs.Words.{AllLives, OwnDigests, node_after, step_result, same_bytes}
 use Rattle.dist_core.specs.Acts.{changed_or}
-use Rattle.dist_core.specs.Runs.{node_after}
-use Rattle.dist_core.specs.Step.{step_result}
-use Rattle.dist_core_setup.specs.Rules.{own_digest, same_bytes}
-use Rattle.dist_core_setup.specs.declared.setup.Setup.{Setup}
 use Rattle.dist_core_laws.specs.Records.{AreRight}
-use Rattle.dist_world_model.specs.declared.happening.Happening.{Happening}
-use Rattle.dist_world_model.specs.World.{Life, empty}
-use Rattle.dist_world_model.specs.Run.{run}
-use Rattle.dist_world_model.specs.Laws.{AllLives, OwnDigests}
-use Rattle.dist_world_model.specs.NodeLaws.{NodeLaws}
-use Rattle.dist_world_model.proofs.Places.{eqb-self}
 use Rattle.dist_world_model.proofs.IncarnationEffects.{Keeps, always}
 use Rattle.dist_world_model.proofs.IncarnationFacts.{IsLife}
 use Rattle.dist_world_model.proofs.LastingFacts.{life_keeps}
+use Rattle.dist_world_model.proofs.Places.{eqb-self}
 
 pub record IsRight (t : ℕ) (l : Life) : Type 0 where
   pub life : IsLife t l

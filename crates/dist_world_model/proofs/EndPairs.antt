@@ -1,21 +1,16 @@
 -- The two ends of a connection at their nodes, with their rows.
-use Rattle.std.proofs.Common.{◌≡◌, ◌≢◌, ℕ, ◌+◌, ◌<◌, ◌≤◌, true, false, ◌||◌, Option, Some, None, ◌⊎◌, inl, inr, sym, ap, ◌∙◌, arith, is_some, slice_get}
-use Rattle.std.proofs.lemmas.Bool.{cases_lt}
-use Rattle.dist_names.specs.Order.{Name}
-use Rattle.dist_messages.specs.declared.message.Side.{Side}
-use Rattle.dist_messages.specs.declared.message.Side.TheVariants.{Dialler, Acceptor}
-use Rattle.dist_world_model.specs.Rows.{EndRow, past}
-use Rattle.dist_world_model.specs.World.{World, Life, runs}
-use Rattle.dist_world_model.specs.Stones.{entered_before, left_before}
-use Rattle.dist_world_model.specs.Holders.{AreApart}
+use Rattle.std.specs.Prelude.{◌≡◌, ◌<◌, ◌≢◌, ◌⊎◌, ◌+◌, ◌||◌}
+use Rattle.dist_world_model.proofs.Words.{ℕ, true, false, Option, Some, None, sym, ap, ◌∙◌, arith, is_some, slice_get, Name, Side, Dialler, Acceptor}
+use Rattle.dist_world_model.proofs.Words.{EndRow, past, NodeLaws, inl, inr, Life, World, runs, Numbers, AreApart, left_before}
+use Rattle.dist_world_model.proofs.Words.{entered_before}
+use Rattle.std.proofs.lemmas.Bool.{cases_order}
 use Rattle.dist_world_model.proofs.EndStates.{Below}
-use Rattle.dist_world_model.proofs.SoleHolders.{out-alone, in-alone, up-alone}
-use Rattle.dist_world_model.proofs.HoldingTimes.{Timed}
-use Rattle.dist_world_model.proofs.IncarnationSpans.{IsSeen, Lasts, Since, not-over}
-use Rattle.dist_world_model.proofs.WorldFacts.{IsKept}
-use Rattle.dist_world_model.proofs.Lookups.{decide}
-use Rattle.dist_world_model.specs.NodeLaws.{NodeLaws}
+use Rattle.dist_world_model.proofs.LastingFacts.{IsWhole}
 use Rattle.dist_world_model.proofs.PastMoments.{contra, entered-later, is-past, past-is, past-later}
+use Rattle.dist_world_model.proofs.RowChanges.{IsRow, Lasts, Timed}
+use Rattle.dist_world_model.proofs.SoleHolders.{in-alone, out-alone, up-alone}
+use Rattle.dist_world_model.proofs.WithoutEvent.{not-over}
+use Rattle.dist_world_model.proofs.WorldFacts.{IsKept}
 
 -- ---- the two ends of a connection
 
@@ -43,55 +38,51 @@ pub record Line (w : World) (c : ℕ) : Type 0 where
   pub accepted : Seat w Acceptor c
   pub named : ℕ
   pub replied : ℕ
-  pub named_is : (let s = accepted in let r = s.row in r.named) ≡ Some named
-  pub replied_is : (let s = dialled in let r = s.row in r.replied) ≡ Some replied
+  pub named_is : accepted.row.named ≡ Some named
+  pub replied_is : dialled.row.replied ≡ Some replied
   pub first : named < replied
-  pub rises : (u : ℕ) → (let s = accepted in let r = s.row in r.rose) ≡ Some u → replied < u
-  pub peer_back : (let s = dialled in let r = s.row in r.peer) ≡ Some (let s = accepted in let l = s.life in let n = l.node in let z = n.setup in z.name)
-  pub peer_there : (let s = accepted in let r = s.row in r.peer) ≡ Some (let s = dialled in let l = s.life in let n = l.node in let z = n.setup in z.name)
+  pub rises : (u : ℕ) → accepted.row.rose ≡ Some u → replied < u
+  pub peer_back : dialled.row.peer ≡ Some accepted.life.node.setup.name
+  pub peer_there : accepted.row.peer ≡ Some dialled.life.node.setup.name
 
 module _ (laws : NodeLaws) (w : World) (h : IsKept w) where
-  seen : {side : Side} {c : ℕ} (s : Seat w side c) → IsSeen w.clock s.life
-  seen s = h.seen s.place s.life s.at_
+  whole : {side : Side} {c : ℕ} (s : Seat w side c) → IsWhole w.clock s.life
+  whole s = h.seen s.place s.life s.at_
+
+  row : {side : Side} {c : ℕ} (s : Seat w side c) → (let l = s.life in IsRow l.begun s.row)
+  row s = let g = whole s in g.1.rows s.id s.row s.there
 
   pub timed : {side : Side} {c : ℕ} (s : Seat w side c) → Timed s.row
-  timed s = let g = seen s in let t = g.timed in t.timed s.id s.row s.there
+  timed s = let r = row s in r.timed
 
   apart : {side : Side} {c : ℕ} (s : Seat w side c) → (let l = s.life in AreApart l.rows)
-  apart s = let g = seen s in let t = g.timed in let l = t.life in l.apart
+  apart s = let g = whole s in g.0.apart
 
   lasts : {side : Side} {c : ℕ} (s : Seat w side c) → Lasts s.row
-  lasts s = let g = seen s in g.lasts s.id s.row s.there
+  lasts s = let r = row s in r.lasts
 
-  pub since : {side : Side} {c : ℕ} (s : Seat w side c) → (let l = s.life in Since l.begun s.row)
-  since s = let g = seen s in g.since s.id s.row s.there
+  pub since : {side : Side} {c : ℕ} (s : Seat w side c) → (let l = s.life in Numbers (λ n. l.begun < n) s.row)
+  since s = let r = row s in r.since
 
   -- in the same incarnation, or in an earlier one
   pub record Older {sa sb : Side} {c d : ℕ} (s : Seat w sa c) (u : Seat w sb d) : Type 0 where
     pub end_ : ℕ
-    pub over : (let l = s.life in l.over) ≡ Some end_
-    pub before : end_ < (let l = u.life in l.begun)
+    pub over : s.life.over ≡ Some end_
+    pub before : end_ < u.life.begun
 
-  pub same-or-older : {sa sb : Side} {c d : ℕ} (s : Seat w sa c) (u : Seat w sb d) → (let l = s.life in l.who) ≡ (let l = u.life in l.who) → runs u.life ≡ true → (s.place ≡ u.place) ⊎ Older s u
-  same-or-older s u who live = by (cases_lt s.place u.place)
+  pub same-or-older : {sa sb : Side} {c d : ℕ} (s : Seat w sa c) (u : Seat w sb d) → s.life.who ≡ u.life.who → runs u.life ≡ true → (s.place ≡ u.place) ⊎ Older s u
+  same-or-older s u who live = by (cases_order s.place u.place)
     where
-      by : (s.place < u.place) ⊎ (u.place ≤ s.place) → (s.place ≡ u.place) ⊎ Older s u
-      by (inl lt) = let g = h.order s.place u.place s.life u.life lt s.at_ u.at_ who in inr (record { end_ = g.0; over = g.1; before = g.2 })
-      by (inr le) = decide ((s.place ≡ u.place) ⊎ Older s u) s.place u.place (λ e. inl e)
-          (λ n. let lt : u.place < s.place = (let k = above n le in k) in let g = h.order u.place s.place u.life s.life lt u.at_ s.at_ (sym who) in absurd (not-over u.life g.0 live g.1))
-        where
-          above : s.place ≢ u.place → u.place ≤ s.place → u.place < s.place
-          above n le = at (cases_lt u.place s.place)
-            where
-              at : (u.place < s.place) ⊎ (s.place ≤ u.place) → u.place < s.place
-              at (inl lt) = lt
-              at (inr ge) = absurd (n (omega (arith, ge, le)))
+      by : (s.place ≡ u.place) ⊎ ((s.place < u.place) ⊎ (u.place < s.place)) → (s.place ≡ u.place) ⊎ Older s u
+      by (inl e) = inl e
+      by (inr (inl lt)) = let g = h.order s.place u.place s.life u.life lt s.at_ u.at_ who in inr (record { end_ = g.0; over = g.1; before = g.2 })
+      by (inr (inr lt)) = let g = h.order u.place s.place u.life s.life lt u.at_ s.at_ (sym who) in absurd (not-over u.life g.0 live g.1)
 
   -- a number of an earlier incarnation is below each of a later one
-  pub older-number : {sa sb : Side} {c d : ℕ} (s : Seat w sa c) (u : Seat w sb d) → Older s u → (o : EndRow → Option ℕ) → ((t : ℕ) (row : EndRow) → Below t row → past t (o row) ≡ is_some (o row)) → (n m : ℕ) → o s.row ≡ Some n → (let l = u.life in l.begun) < m → n < m
+  pub older-number : {sa sb : Side} {c d : ℕ} (s : Seat w sa c) (u : Seat w sb d) → Older s u → (o : EndRow → Option ℕ) → ((t : ℕ) (row : EndRow) → Below t row → past t (o row) ≡ is_some (o row)) → (n m : ℕ) → o s.row ≡ Some n → u.life.begun < m → n < m
   older-number s u g o below n m e lt =
-      let z = seen s in
-      let y = z.over g.end_ g.over in
+      let z = whole s in
+      let y = z.1.over g.end_ g.over in
       let b = below (g.end_ + 1) s.row (y.1 s.id s.row s.there) in
       let p : past (g.end_ + 1) (Some n) ≡ true = ap (past (g.end_ + 1)) (sym e) ∙ b ∙ ap is_some e in
       let k = past-is (g.end_ + 1) n p in
@@ -110,22 +101,22 @@ module _ (laws : NodeLaws) (w : World) (h : IsKept w) where
   -- ---- ends of one incarnation and one peer
 
   -- one that is dialled and on its way, and one that never left: the other entered later
-  pub out-not : {sa sb : Side} {c d : ℕ} (s : Seat w sa c) (u : Seat w sb d) → c ≢ d → s.place ≡ u.place → (p : Name) → (let r = s.row in r.peer) ≡ Some p → (let r = u.row in r.peer) ≡ Some p → (t : ℕ)
-      → (let r = s.row in r.side) ≡ Dialler → entered_before t s.row ≡ true → left_before t s.row ≡ false → (let r = s.row in past t r.rose) ≡ false → entered_before t u.row ≡ true → left_before t u.row ≡ true
+  pub out-not : {sa sb : Side} {c d : ℕ} (s : Seat w sa c) (u : Seat w sb d) → c ≢ d → s.place ≡ u.place → (p : Name) → s.row.peer ≡ Some p → u.row.peer ≡ Some p → (t : ℕ)
+      → s.row.side ≡ Dialler → entered_before t s.row ≡ true → left_before t s.row ≡ false → (let r = s.row in past t r.rose) ≡ false → entered_before t u.row ≡ true → left_before t u.row ≡ true
   out-not s u n e p ps pu t sd es ls rs eu = let l = u.life in out-alone laws l.rows (apart u) t p s.id u.id (differ s u n e) s.row u.row (same-life s u e) u.there ps pu sd es ls rs eu
 
-  pub in-not : {sa sb : Side} {c d : ℕ} (s : Seat w sa c) (u : Seat w sb d) → c ≢ d → s.place ≡ u.place → (p : Name) → (let r = s.row in r.peer) ≡ Some p → (let r = u.row in r.peer) ≡ Some p → (t : ℕ)
-      → (let r = s.row in r.side) ≡ Acceptor → (let r = u.row in r.side) ≡ Acceptor → entered_before t s.row ≡ true → left_before t s.row ≡ false → (let r = s.row in past t r.rose) ≡ false → entered_before t u.row ≡ true → (let r = u.row in past t r.rose) ≡ false → left_before t u.row ≡ true
+  pub in-not : {sa sb : Side} {c d : ℕ} (s : Seat w sa c) (u : Seat w sb d) → c ≢ d → s.place ≡ u.place → (p : Name) → s.row.peer ≡ Some p → u.row.peer ≡ Some p → (t : ℕ)
+      → s.row.side ≡ Acceptor → u.row.side ≡ Acceptor → entered_before t s.row ≡ true → left_before t s.row ≡ false → (let r = s.row in past t r.rose) ≡ false → entered_before t u.row ≡ true → (let r = u.row in past t r.rose) ≡ false → left_before t u.row ≡ true
   in-not s u n e p ps pu t sd ud es ls rs eu ru = let l = u.life in in-alone laws l.rows (apart u) t p s.id u.id (differ s u n e) s.row u.row (same-life s u e) u.there ps pu sd ud es ls rs eu ru
 
-  up-not : {sa sb : Side} {c d : ℕ} (s : Seat w sa c) (u : Seat w sb d) → c ≢ d → s.place ≡ u.place → (p : Name) → (let r = s.row in r.peer) ≡ Some p → (let r = u.row in r.peer) ≡ Some p → (t : ℕ)
+  up-not : {sa sb : Side} {c d : ℕ} (s : Seat w sa c) (u : Seat w sb d) → c ≢ d → s.place ≡ u.place → (p : Name) → s.row.peer ≡ Some p → u.row.peer ≡ Some p → (t : ℕ)
       → entered_before t s.row ≡ true → left_before t s.row ≡ false → (let r = s.row in past t r.rose) ≡ true → entered_before t u.row ≡ true → (let r = u.row in past t r.rose) ≡ true → left_before t u.row ≡ true
   up-not s u n e p ps pu t es ls rs eu ru = let l = u.life in up-alone laws l.rows (apart u) t p s.id u.id (differ s u n e) s.row u.row (same-life s u e) u.there ps pu es ls rs eu ru
 
   -- who has come up at u, and another that is open and had come up before: no
-  pub rose-not : {sa sb : Side} {c d : ℕ} (s : Seat w sa c) (u : Seat w sb d) → c ≢ d → s.place ≡ u.place → (p : Name) → (let r = s.row in r.peer) ≡ Some p → (let r = u.row in r.peer) ≡ Some p → IsOpen u.row
-      → (k : ℕ) → (let r = s.row in r.rose) ≡ Some k → entered_before k u.row ≡ true → (let r = u.row in past k r.rose) ≡ true → ⊥
+  pub rose-not : {sa sb : Side} {c d : ℕ} (s : Seat w sa c) (u : Seat w sb d) → c ≢ d → s.place ≡ u.place → (p : Name) → s.row.peer ≡ Some p → u.row.peer ≡ Some p → IsOpen u.row
+      → (k : ℕ) → s.row.rose ≡ Some k → entered_before k u.row ≡ true → (let r = u.row in past k r.rose) ≡ true → ⊥
   rose-not s u n e p ps pu kept_open k rk eu ru =
       let ts = timed s in let q = ts.rose k rk in
       contra (left_before (k + 1) u.row) (stays-in (k + 1) u.row kept_open)
-      (up-not s u n e p ps pu (k + 1) (entered-later k (k + 1) s.row (omega arith) q.0) (lasts s k rk) (ap (past (k + 1)) rk ∙ is-past (k + 1) k (omega arith)) (entered-later k (k + 1) u.row (omega arith) eu) (let r = u.row in past-later k (k + 1) r.rose (omega arith) ru))
+      (up-not s u n e p ps pu (k + 1) (entered-later k (k + 1) s.row (omega arith) q.0) (lasts s k rk).0 (ap (past (k + 1)) rk ∙ is-past (k + 1) k (omega arith)) (entered-later k (k + 1) u.row (omega arith) eu) (let r = u.row in past-later k (k + 1) r.rose (omega arith) ru))

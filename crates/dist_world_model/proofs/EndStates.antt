@@ -1,15 +1,10 @@
 -- How an end stands, read off the end and read off its row.
-use Rattle.std.specs.Prelude.{◌≡◌, ℕ, Bool, true, false, not, ◌&&◌, ◌||◌, if◌then◌else◌, List, Option, Some, None, is_some, slice_get}
-use Rattle.dist_names.specs.Order.{Name}
-use Rattle.dist_messages.specs.declared.message.Side.{Side}
-use Rattle.dist_messages.specs.declared.message.Side.TheVariants.{Dialler, Acceptor}
-use Rattle.dist_core_ends.specs.declared.phase.Phase.{Phase}
-use Rattle.dist_core_ends.specs.declared.phase.Phase.TheVariants as phase
-use Rattle.dist_core_ends.specs.declared.known.End.{End}
-use Rattle.dist_core_ends.specs.declared.known.End.TheVariants as ends
-use Rattle.dist_core.specs.declared.reply.Reply.{Reply}
+use Rattle.dist_world_model.proofs.Words.{ℕ, Bool, true, false, List, Option, Some, None, refl, is_some, slice_get, Name, Side, Dialler, Acceptor}
+use Rattle.dist_world_model.proofs.Words.{Phase, End, EndRow, past, rises, takes_name, peer_by, not, claim_when, holds_peer, says_reply, Reply}
 use Rattle.dist_core_ends.specs.Ends.{Claim}
-use Rattle.dist_world_model.specs.Rows.{EndRow, claim_when, holds_peer, takes_name, says_reply, rises, peer_by, is_dialler, past}
+use Rattle.std.specs.Prelude.{if◌then◌else◌, ◌≡◌, ◌&&◌, ◌||◌}
+use Rattle.dist_core_ends.specs.declared.known.End.TheVariants as ends
+use Rattle.dist_core_ends.specs.declared.phase.Phase.TheVariants as phase
 
 -- an open end's side and peer, and which numbers its row has
 pub record Stand : Type 0 where
@@ -26,6 +21,11 @@ dialled_stand p doomed replied = record { side = Dialler; peer = Some p; named =
 abbrev pub named_stand : Name → Stand
 named_stand p = record { side = Acceptor; peer = Some p; named = true; doomed = false; replied = false; rose = false }
 
+-- an end of this side that may come up
+abbrev pub ready_stand : Side → Name → Stand
+ready_stand Dialler p = dialled_stand p false true
+ready_stand Acceptor p = named_stand p
+
 abbrev pub stand_in : Name → Phase → Stand
 stand_in p phase.Dialing = dialled_stand p false false
 stand_in p phase.DoomedDialing = dialled_stand p true false
@@ -37,6 +37,11 @@ stand_in p phase.AwaitTrue = named_stand p
 stand_in p phase.AwaitComplement = named_stand p
 stand_in p phase.AwaitReply = named_stand p
 
+-- the end was dialled
+abbrev pub is_dialler : Side → Bool
+is_dialler Dialler = true
+is_dialler Acceptor = false
+
 -- how an end stands; one that is up stands by its side
 abbrev pub stand_of : Side → End → Option Stand
 stand_of side ends.Unnamed = Some (record { side = Acceptor; peer = None; named = false; doomed = false; replied = false; rose = false })
@@ -44,8 +49,11 @@ stand_of side (ends.Attempt a) = Some (stand_in a.peer a.phase)
 stand_of side (ends.Up r) = Some (record { side = side; peer = Some r.peer; named = not (is_dialler side); doomed = false; replied = is_dialler side; rose = true })
 stand_of side (ends.Closed w) = None
 
+abbrev pub stand_row : EndRow → Stand
+stand_row row = record { side = row.side; peer = row.peer; named = is_some row.named; doomed = is_some row.doomed; replied = is_some row.replied; rose = is_some row.rose }
+
 abbrev pub row_stand : EndRow → Option Stand
-row_stand row = if is_some row.closed then None else Some (record { side = row.side; peer = row.peer; named = is_some row.named; doomed = is_some row.doomed; replied = is_some row.replied; rose = is_some row.rose })
+row_stand row = if is_some row.closed then None else Some (stand_row row)
 
 -- the row is that of the end
 abbrev pub Fits : End → EndRow → Type 0
@@ -84,3 +92,23 @@ pub record Below (t : ℕ) (row : EndRow) : Type 0 where
   pub replied : past t row.replied ≡ is_some row.replied
   pub rose : past t row.rose ≡ is_some row.rose
   pub closed : past t row.closed ≡ is_some row.closed
+
+-- the end is past waiting for its connection
+abbrev pub needs_in : Phase → Bool
+needs_in phase.Dialing = false
+needs_in phase.DoomedDialing = false
+needs_in _ = true
+
+abbrev pub needs : End → Bool
+needs ends.Unnamed = true
+needs (ends.Attempt a) = needs_in a.phase
+needs (ends.Up r) = true
+needs (ends.Closed w) = false
+
+-- how an open end stands is what its row says
+pub open-row : (s : Stand) (row : EndRow) → Some s ≡ row_stand row → (is_some row.closed ≡ false) × (s ≡ stand_row row)
+open-row s row f = by (is_some row.closed) refl f
+  where
+    by : (b : Bool) → is_some row.closed ≡ b → Some s ≡ (if b then None else Some (stand_row row)) → (is_some row.closed ≡ false) × (s ≡ stand_row row)
+    by true e q = absurd cc
+    by false e q = (e, cc)

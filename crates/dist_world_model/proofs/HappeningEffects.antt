@@ -1,33 +1,19 @@
 -- What one happening does to the world: the incarnations and the connections after it.
-use Rattle.std.proofs.Common.{◌≡◌, ℕ, suc, ◌^◌, ◌<◌, Bool, true, false, cond, ltb, not, ◌&&◌, List, [], ◌∷◌, ◌++◌, length, Option, Some, None, Result, Ok, Err, IfSome, refl, sym, ap, ◌∙◌, arith, slice_get, is_none}
-use Rattle.std.specs.Option.{option_map}
-use Rattle.std.specs.Int.{w16}
-use Rattle.dist_names.specs.declared.creation.Creation.{Creation}
-use Rattle.dist_messages.specs.declared.message.Side.{Side}
-use Rattle.dist_frames.specs.Stream.{first_body}
-use Rattle.dist_peers.specs.declared.entry.EndId.{EndId}
-use Rattle.dist_core_setup.specs.declared.setup.Setup.{Setup}
-use Rattle.dist_core.specs.declared.changing.Change.{Change}
-use Rattle.dist_core.specs.declared.changing.ChangeError.TheVariants.{InUse, Full}
-use Rattle.dist_core.specs.Changing.{after_change, change, finds_no_room, is_in_use}
-use Rattle.dist_core.specs.declared.event.Event.{Event}
+use Rattle.std.specs.Prelude.{◌≡◌, ◌^◌, ◌<◌, ◌&&◌, ◌++◌, ◌∷◌}
+use Rattle.dist_world_model.proofs.Words.{ℕ, Bool, true, false, cond, List, [], Option, Some, None, Ok, refl, sym, ap, ◌∙◌, arith}
+use Rattle.dist_world_model.proofs.Words.{slice_get, Creation, Side, EndId, Setup, Event, Effect, NodeState, EndRow, length, at_place, Life, Conn}
+use Rattle.dist_world_model.proofs.Words.{conns_after_saying, accepted_by, next_end, Happening, World, runs, w16, first_body, text_to, Result, Err, IfSome, not}
+use Rattle.dist_world_model.proofs.Words.{ltb, eqb-true, rows_after, effect_of, after, life_after, reached_life, new_conn, conn_of, is_dialing}
+use Rattle.dist_world_model.proofs.Words.{step_result, after_change, with_node, Reply, is_none, Change, change, finds_no_room, is_in_use, StepError, step}
+use Rattle.dist_world_model.proofs.Words.{runs_for, running, row_at, after_delivery, body_taken, change_to, most_begins, new_life, life_after_end, world_after}
+use Rattle.dist_world_model.proofs.Words.{Fits, without_closing, most_applied, applied_at, and_parts, same_Some}
+use Rattle.dist_core.specs.declared.changing.ChangeError.TheVariants.{Full, InUse}
+use Rattle.dist_world_model.specs.Happenings.{is_nonempty, is_open_end, most_connections, notify, notify_node}
+use Rattle.dist_world_model.specs.World.{end_at}
 use Rattle.dist_core.specs.declared.event.Event.TheVariants as event
-use Rattle.dist_core.specs.declared.effect.Effect.{Effect}
-use Rattle.dist_core.specs.declared.reply.Reply.{Reply}
-use Rattle.dist_core.specs.Node.{NodeState}
-use Rattle.dist_core.specs.declared.step_error.StepError.{StepError}
-use Rattle.dist_core.specs.Step.{effect_of, step, step_result, after}
-use Rattle.dist_world_model.specs.declared.happening.Happening.{Happening}
 use Rattle.dist_world_model.specs.declared.happening.Happening.TheVariants as happening
-use Rattle.dist_world_model.specs.Lists.{at_place, first_where}
-use Rattle.dist_world_model.specs.Rows.{EndRow, rows_after}
-use Rattle.dist_world_model.specs.World.{World, Life, Conn, runs, runs_for, running, row_at, end_at}
-use Rattle.dist_world_model.specs.Delivery.{after_delivery, body_taken, text_to, change_to, conns_after_saying}
-use Rattle.dist_core_ends.specs.Ends.{is_dialing}
-use Rattle.dist_world_model.specs.Happenings.{most_begins, most_connections, life_after, notify, notify_node, new_life, life_after_end, with_node, conn_of, reached_life, new_conn, next_end, accepted_by, is_open_end, is_nonempty, world_after}
-use Rattle.dist_world_model.specs.Agreement.{Fits}
-use Rattle.dist_world_model.proofs.Conditions.{if_there, if_ok, if_holds}
-use Rattle.dist_world_model.proofs.Places.{first-passes, both-true}
+use Rattle.dist_world_model.proofs.Conditions.{if_holds, if_ok, if_there}
+use Rattle.dist_world_model.proofs.Places.{first-at}
 
 -- an event that takes no body and accepts no connection
 abbrev pub IsPlain : Event → Type 0
@@ -100,25 +86,15 @@ notified-acts h w i v fresh ds fits ready = let P = Acted h w in
 plain-acts : (h : Happening) (w : World) (a : ℕ) (v : Event) → IsPlain v → ((id : EndId) (link : ℕ) → v ≡ event.Opened id link → ⊥) → Acts h w (notify_node w a v)
 plain-acts h w a v plain not = if_there (Acted h w) (running w a) _ (λ i e. notified-acts h w i v 0 w.conns (λ f. omega arith) (Plain plain (λ id link e. absurd (not id link e)) refl))
 
--- the running incarnation runs
-pub is-running : (w : World) (a i : ℕ) (l : Life) → running w a ≡ Some i → slice_get w.lives i ≡ Some l → (l.who ≡ a) × (runs l ≡ true)
-is-running w a i l h at = let p = both-true _ _ (first-passes (runs_for a) w.lives i l h at) in (Rattle.std.proofs.lemmas.Bool.eqb-true l.who a p.0, p.1)
-
-first-there : {A : Type 0} (test : A → Bool) (xs : List A) (i : ℕ) → first_where test xs ≡ Some i → (x : A) × (slice_get xs i ≡ Some x)
-first-there test [] i h = absurd cc
-first-there test (y ∷ xs) i h =
-    elim (test y) as (λ b. cond b (Some 0) (option_map suc (first_where test xs)) ≡ Some i → (x : _) × (slice_get (y ∷ xs) i ≡ Some x)) [
-      | true ↦ λ e. let z : 0 ≡ i = cc in (y, ap (slice_get (y ∷ xs)) (sym z))
-      | false ↦ λ e. by (first_where test xs) (λ k f. first-there test xs k f) refl e
-    ] h
-  where
-    by : (o : Option ℕ) → ((k : ℕ) → first_where test xs ≡ Some k → (x : _) × (slice_get xs k ≡ Some x)) → first_where test xs ≡ o → option_map suc o ≡ Some i → (x : _) × (slice_get (y ∷ xs) i ≡ Some x)
-    by None more f e = absurd cc
-    by (Some k) more f e = let z : suc k ≡ i = cc in let g = more k f in (g.0, ap (slice_get (y ∷ xs)) (sym z) ∙ g.1)
-
--- and is there
+-- the running incarnation is there, and runs
 pub life-of : (w : World) (a i : ℕ) → running w a ≡ Some i → (l : Life) × (slice_get w.lives i ≡ Some l)
-life-of w a i h = first-there (runs_for a) w.lives i h
+life-of w a i h = let g = first-at (runs_for a) w.lives i h in (g.0, g.1)
+
+pub is-running : (w : World) (a i : ℕ) (l : Life) → running w a ≡ Some i → slice_get w.lives i ≡ Some l → (l.who ≡ a) × (runs l ≡ true)
+is-running w a i l h at =
+    let g = first-at (runs_for a) w.lives i h in
+    let p = and_parts _ _ (ap (runs_for a) (same_Some l g.0 (sym at ∙ g.1)) ∙ g.2) in
+    (eqb-true l.who a p.0, p.1)
 
 none-by : {A : Type 0} (o : Option A) → is_none o ≡ true → o ≡ None
 none-by None h = refl
@@ -153,8 +129,8 @@ acts w (happening.Reach a id b) = let P = Acted (happening.Reach a id b) w in
     if_there P (running w a) _ (λ i e.
     if_there P (running w b) _ (λ j d.
     if_holds P (is_dialing (end_at w i id.0) && is_none (conn_of (row_at w i id.0)) && ltb (length w.conns) most_connections) _ (λ t.
-    let p = both-true _ _ t in
-    let q = both-true _ _ p.0 in
+    let p = and_parts _ _ t in
+    let q = and_parts _ _ p.0 in
     let g = life-of w a i e in
     let r = is-running w a i g.0 e g.1 in
     let f = life-of w b j d in
@@ -174,7 +150,7 @@ acts w (happening.Deliver a id n) = let P = Acted (happening.Deliver a id n) w i
     if_there P (row_at w i id.0) _ (λ row at.
     if_there P row.conn _ (λ c on.
     if_there P (slice_get w.conns c) _ (λ k at-c.
-    if_holds P (ltb 0 n && is_nonempty (let t = text_to row.side k in t.said)) _ (λ some.
+    if_holds P (ltb 0 n && is_nonempty (text_to row.side k).said) _ (λ some.
     record { setups = refl; clock = refl; act = Comes row.side c n refl refl }))))))
 acts w (happening.Take a id fresh) = let P = Acted (happening.Take a id fresh) w in
     if_there P (running w a) _ (λ i e.
@@ -183,3 +159,11 @@ acts w (happening.Take a id fresh) = let P = Acted (happening.Take a id fresh) w
     if_there P (slice_get w.conns c) _ (λ k at-c.
     if_there P (let t = text_to row.side k in first_body w16 t.come) _ (λ body is.
     notified-acts (happening.Take a id fresh) w i _ fresh _ (λ f. f) (Takes id row c k body refl at on at-c is refl))))))
+
+-- what is true of the world after a happening that applies
+pub where-applied : (Q : World → Type 0) (w : World) (h : Happening) → IfSome (world_after (without_closing w) h) Q → IfSome (applied_at w h) Q
+where-applied Q w h q = by (ltb w.clock most_applied)
+  where
+    by : (b : Bool) → IfSome (cond b (world_after (without_closing w) h) None) Q
+    by true = q
+    by false = tt

@@ -1,19 +1,12 @@
 -- What one happening does to each incarnation.
-use Rattle.std.proofs.Common.{◌≡◌, ℕ, ◌+◌, Bool, true, false, cond, ltb, List, [], ◌∷◌, length, Option, Some, None, Ok, IfSome, refl, sym, ap, ◌∙◌, subst, slice_get}
-use Rattle.dist_names.specs.declared.creation.Creation.{Creation}
-use Rattle.dist_core_setup.specs.declared.setup.Setup.{Setup}
-use Rattle.dist_core.specs.declared.changing.Change.{Change}
-use Rattle.dist_core.specs.Changing.{after_change, change}
-use Rattle.dist_core.specs.declared.event.Event.{Event}
-use Rattle.dist_core.specs.declared.effect.Effect.{Effect}
-use Rattle.dist_core.specs.Step.{effect_of, after}
-use Rattle.dist_world_model.specs.declared.happening.Happening.{Happening}
-use Rattle.dist_world_model.specs.World.{World, Life, Conn, runs, empty}
-use Rattle.dist_world_model.specs.Happenings.{life_after, new_life, life_after_end, reached_life, with_node, world_after, without_closing, ticked_on, most_applied, applied_at, happens}
-use Rattle.dist_world_model.specs.Run.{run}
-use Rattle.dist_world_model.specs.Laws.{AllLives}
-use Rattle.dist_world_model.proofs.Places.{at-one, at-more}
-use Rattle.dist_world_model.proofs.HappeningEffects.{Act, Acted, Begins, Ends, Reaches, Comes, Reports, Resets, acts}
+use Rattle.std.specs.Prelude.{◌≡◌, ◌+◌, ◌∷◌}
+use Rattle.dist_world_model.proofs.Words.{ℕ, true, List, [], Option, Some, None, Ok, refl, sym, ap, ◌∙◌, subst, slice_get, Creation, Setup, Event, Effect}
+use Rattle.dist_world_model.proofs.Words.{length, Life, Conn, Happening, World, runs, empty, run, AllLives, IfSome, effect_of, after, life_after}
+use Rattle.dist_world_model.proofs.Words.{reached_life, after_change, with_node, Change, change, step, new_life, life_after_end, without_closing, ticked_on}
+use Rattle.dist_world_model.proofs.Words.{applied_at, happens}
+use Rattle.dist_world_model.proofs.HappeningEffects.{Act, Acted, Begins, Comes, Ends, Reaches, Reports, Resets, acts, where-applied}
+use Rattle.dist_world_model.proofs.Lookups.{far}
+use Rattle.dist_world_model.proofs.Places.{at-more, at-one}
 
 -- WHAT HAPPENS TO AN INCARNATION at number t: l is what place i has afterwards
 pub data Turn (ls : List Life) (t i : ℕ) (l : Life) : Type 0 where
@@ -53,12 +46,8 @@ pub kept-by-all : (I : World → Type 0) (F : Happening → Type 0)
     → ((w : World) → I w → I (without_closing w))
     → (hs : List Happening) (w : World) → Rattle.std.specs.List.AllByRecursion F hs → I w → I (run hs w)
 kept-by-all I F step clear [] w fs i = i
-kept-by-all I F step clear (h ∷ hs) w fs i = kept-by-all I F step clear hs (happens w h) fs.1 (one (applied_at w h) (at (ltb w.clock most_applied)))
+kept-by-all I F step clear (h ∷ hs) w fs i = kept-by-all I F step clear hs (happens w h) fs.1 (one (applied_at w h) (where-applied (Acted h (without_closing w)) w h (acts (without_closing w) h)))
   where
-    at : (b : Bool) → IfSome (cond b (world_after (without_closing w) h) None) (Acted h (without_closing w))
-    at true = acts (without_closing w) h
-    at false = tt
-
     one : (o : Option World) → IfSome o (Acted h (without_closing w)) → I (ticked_on w o)
     one None g = i
     one (Some x) g = let P : ℕ → Type 0 = λ k. I (record x { clock = k + 1 }) in subst P g.clock (step (without_closing w) x h fs.0 g (clear w i))

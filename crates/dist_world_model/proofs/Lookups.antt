@@ -1,29 +1,24 @@
 -- What stands at a place of the world.
-use Rattle.std.proofs.Common.{◌≡◌, ◌≢◌, ℕ, zero, suc, true, false, cond, eqb, List, [], ◌∷◌, ◌++◌, length, Option, Some, None, refl, sym, ap, ◌∙◌, subst, arith, slice_get}
-use Rattle.std.proofs.lemmas.Bool.{eqb-true, false≢true}
-use Rattle.std.proofs.lemmas.Option.{slice_get_past}
-use Rattle.std.specs.Option.{option_map}
-use Rattle.dist_core_setup.specs.declared.setup.Setup.{Setup}
-use Rattle.dist_core_ends.specs.declared.known.End.{End}
-use Rattle.dist_world_model.specs.Lists.{at_place}
-use Rattle.dist_world_model.specs.Rows.{EndRow}
-use Rattle.dist_world_model.specs.World.{Life, row_of_life, end_of_life}
-use Rattle.dist_world_model.specs.Agreement.{bare}
-use Rattle.dist_world_model.proofs.Places.{get-place, get-more, eqb-self}
+use Rattle.std.specs.Prelude.{◌≡◌, ◌≢◌, ◌++◌, ◌∷◌}
+use Rattle.dist_world_model.proofs.Words.{ℕ, true, false, cond, List, [], Option, Some, None, refl, sym, ap, ◌∙◌, subst, arith, slice_get, End, EndRow}
+use Rattle.dist_world_model.proofs.Words.{length, slice_get_past, at_place, Life, row_of_life, end_of_life, false≢true, eqb, eqb-true, option_map}
+use Rattle.dist_world_model.proofs.Words.{suc, zero}
+use Rattle.dist_world_model.proofs.Places.{eqb-self, get-more, get-place}
+use Rattle.dist_world_model.proofs.Wires.{Voice, voice}
 
--- the row and the end of this number in incarnation i, and its setup without cookies and allow list
+-- the row and the end of this number in incarnation i, and what its node says of itself
 abbrev pub row_in : List Life → ℕ → ℕ → Option EndRow
 row_in ls i p = row_of_life (slice_get ls i) p
 
 abbrev pub end_in : List Life → ℕ → ℕ → Option End
 end_in ls i p = end_of_life (slice_get ls i) p
 
-abbrev pub setup_of : Option Life → Option Setup
-setup_of None = None
-setup_of (Some l) = Some (bare l.node.setup)
+abbrev pub voice_of : Option Life → Option Voice
+voice_of None = None
+voice_of (Some l) = Some (voice l.node.setup)
 
-abbrev pub setup_in : List Life → ℕ → Option Setup
-setup_in ls i = setup_of (slice_get ls i)
+abbrev pub voice_in : List Life → ℕ → Option Voice
+voice_in ls i = voice_of (slice_get ls i)
 
 -- what a number that may be absent leads to
 abbrev pub far : {A : Type 0} → (ℕ → Option A) → Option ℕ → Option A
@@ -91,9 +86,9 @@ life-there ls i p x h = by (slice_get ls i) refl h
     by None at e = absurd cc
     by (Some l) at e = (l, at, e)
 
-pub setup-there : (ls : List Life) (i : ℕ) (s : Setup) → setup_in ls i ≡ Some s → (l : Life) × (slice_get ls i ≡ Some l) × (bare l.node.setup ≡ s)
-setup-there ls i s h = by (slice_get ls i) refl h
+pub voice-there : (ls : List Life) (i : ℕ) (s : Voice) → voice_in ls i ≡ Some s → (l : Life) × (slice_get ls i ≡ Some l) × (voice l.node.setup ≡ s)
+voice-there ls i s h = by (slice_get ls i) refl h
   where
-    by : (o : Option Life) → slice_get ls i ≡ o → setup_of o ≡ Some s → (l : Life) × (slice_get ls i ≡ Some l) × (bare l.node.setup ≡ s)
+    by : (o : Option Life) → slice_get ls i ≡ o → voice_of o ≡ Some s → (l : Life) × (slice_get ls i ≡ Some l) × (voice l.node.setup ≡ s)
     by None at e = absurd cc
     by (Some l) at e = (l, at, cc)

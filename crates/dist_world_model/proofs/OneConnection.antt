@@ -1,16 +1,11 @@
 -- Two connections on which two nodes count each other as up cannot differ: order alone.
-use Rattle.std.proofs.Common.{◌≡◌, ◌≢◌, ℕ, ◌+◌, ◌<◌, ◌≤◌, true, false, Some, ◌⊎◌, inl, inr, refl, sym, ap, ◌∙◌, arith}
-use Rattle.std.proofs.lemmas.Bool.{cases_lt}
-use Rattle.dist_names.specs.Order.{Name}
-use Rattle.dist_messages.specs.declared.message.Side.TheVariants.{Dialler, Acceptor}
-use Rattle.dist_world_model.specs.Rows.{past}
-use Rattle.dist_world_model.specs.World.{World, runs}
-use Rattle.dist_world_model.specs.Stones.{entered_before, left_before}
-use Rattle.dist_world_model.proofs.WorldFacts.{IsKept}
-use Rattle.dist_world_model.proofs.Places.{flip}
-use Rattle.dist_world_model.specs.NodeLaws.{NodeLaws}
-use Rattle.dist_world_model.proofs.PastMoments.{accepted-entered, contra, dialled-entered, entered-dialled, left-sooner, not-past, past-sooner}
+use Rattle.std.specs.Prelude.{◌≡◌, ◌<◌, ◌≢◌, ◌⊎◌, ◌+◌, ◌≤◌}
+use Rattle.dist_world_model.proofs.Words.{ℕ, true, false, Some, refl, sym, ap, ◌∙◌, arith, Name, Dialler, Acceptor, past, NodeLaws, inl}
+use Rattle.dist_world_model.proofs.Words.{inr, World, runs, cases_lt, left_before, entered_before}
 use Rattle.dist_world_model.proofs.EndPairs.{IsOpen, Line, Older, Seat, in-not, older-number, out-not, rose-not, same-or-older, since, stays-in, timed}
+use Rattle.dist_world_model.proofs.PastMoments.{accepted-entered, contra, dialled-entered, entered-dialled, left-sooner, not-below, not-past, past-sooner}
+use Rattle.dist_world_model.proofs.Places.{flip}
+use Rattle.dist_world_model.proofs.WorldFacts.{IsKept}
 
 module _ (laws : NodeLaws) (w : World) (h : IsKept w) where
   -- ---- the reply of a dialled end
@@ -20,21 +15,11 @@ module _ (laws : NodeLaws) (w : World) (h : IsKept w) where
 
   -- ---- ONE NODE DIALLED BOTH
 
-  module _ {c d : ℕ} (n : c ≢ d) (L : Line w c) (M : Line w d) (who-x : (let s = M.dialled in let l = s.life in l.who) ≡ (let s = L.dialled in let l = s.life in l.who)) (who-y : (let s = L.accepted in let l = s.life in l.who) ≡ (let s = M.accepted in let l = s.life in l.who))
-      (p q : Name) (pl : (let s = L.dialled in let r = s.row in r.peer) ≡ Some p) (pm : (let s = M.dialled in let r = s.row in r.peer) ≡ Some p) (ql : (let s = L.accepted in let r = s.row in r.peer) ≡ Some q) (qm : (let s = M.accepted in let r = s.row in r.peer) ≡ Some q)
-      (live-x : (let s = L.dialled in runs s.life) ≡ true) (open-x : (let s = L.dialled in IsOpen s.row)) (live-y : (let s = M.accepted in runs s.life) ≡ true) (open-y : (let s = M.accepted in IsOpen s.row)) (u : ℕ) (up : (let s = L.accepted in let r = s.row in r.rose) ≡ Some u) where
-    x : Seat w Dialler c
-    x = L.dialled
-
-    z : Seat w Dialler d
-    z = M.dialled
-
+  module _ {c d : ℕ} (n : c ≢ d) (L : Line w c) (M : Line w d) (who-x : M.dialled.life.who ≡ L.dialled.life.who) (who-y : L.accepted.life.who ≡ M.accepted.life.who)
+      (p q : Name) (pl : L.dialled.row.peer ≡ Some p) (pm : M.dialled.row.peer ≡ Some p) (ql : L.accepted.row.peer ≡ Some q) (qm : M.accepted.row.peer ≡ Some q)
+      (live-x : (let s = L.dialled in runs s.life) ≡ true) (open-x : (let s = L.dialled in IsOpen s.row)) (live-y : (let s = M.accepted in runs s.life) ≡ true) (open-y : (let s = M.accepted in IsOpen s.row)) (u : ℕ) (up : L.accepted.row.rose ≡ Some u) where
     early : u ≤ M.named → ⊥
-    early le =
-        let sx = said-at L in let sz = said-at M in
-        let ru = L.rises u up in
-        let first = M.first in
-        by ((same-or-older laws w h) M.dialled L.dialled who-x live-x)
+    early le = by ((same-or-older laws w h) M.dialled L.dialled who-x live-x)
       where
         gx : ℕ
         gx = let s = L.dialled in let r = s.row in r.given
@@ -78,25 +63,18 @@ module _ (laws : NodeLaws) (w : World) (h : IsKept w) where
             ] refl
 
     pub both-dialled : ⊥
-    both-dialled = by (cases_lt M.named u)
-      where
-        by : (M.named < u) ⊎ (u ≤ M.named) → ⊥
-        by (inl lt) = late lt
-        by (inr le) = early le
+    both-dialled = early (not-below M.named u late)
 
   -- ---- EACH DIALLED ONE, and their dialled ends are up
 
-  rises-early : {c d : ℕ} (n : c ≢ d) (s : Seat w Dialler c) (t : Seat w Acceptor d) → (let l = t.life in l.who) ≡ (let l = s.life in l.who) → (p : Name) → (let r = s.row in r.peer) ≡ Some p → (let r = t.row in r.peer) ≡ Some p → runs s.life ≡ true → IsOpen s.row → (u : ℕ) → (let r = t.row in r.rose) ≡ Some u → (let r = s.row in u ≤ r.given)
+  rises-early : {c d : ℕ} (n : c ≢ d) (s : Seat w Dialler c) (t : Seat w Acceptor d) → t.life.who ≡ s.life.who → (p : Name) → s.row.peer ≡ Some p → t.row.peer ≡ Some p → runs s.life ≡ true → IsOpen s.row → (u : ℕ) → t.row.rose ≡ Some u → (let r = s.row in u ≤ r.given)
   rises-early n s t who p ps pt live kept_open u up = by ((same-or-older laws w h) t s who live)
     where
-      g : ℕ
-      g = let r = s.row in r.given
-
       by : (t.place ≡ s.place) ⊎ (Older laws w h) t s → (let r = s.row in u ≤ r.given)
-      by (inr o) = let z = (since laws w h) s in let k = (older-number laws w h) t s o (λ r. r.rose) (λ t row b. b.rose) u (let r = s.row in r.given) up z.given in omega (arith, k)
-      by (inl e) = at (cases_lt (let r = s.row in r.given) u)
+      by (inr o) = let z = (since laws w h) s in let k = (older-number laws w h) t s o (λ r. r.rose) (λ t row b. b.rose) u s.row.given up z.given in omega (arith, k)
+      by (inl e) = not-below s.row.given u late
         where
-          late : (let r = s.row in r.given) < u → ⊥
+          late : s.row.given < u → ⊥
           late lt =
               let tt' = (timed laws w h) t in let q = tt'.rose u up in
               let es : entered_before u s.row ≡ true = dialled-entered u s.row s.side_is lt in
@@ -105,14 +83,10 @@ module _ (laws : NodeLaws) (w : World) (h : IsKept w) where
                 | false ↦ λ b. contra (left_before u t.row) q.1 ((out-not laws w h) s t n (sym e) p ps pt u s.side_is es (stays-in u s.row kept_open) b q.0)
               ] refl
 
-          at : ((let r = s.row in r.given) < u) ⊎ (u ≤ (let r = s.row in r.given)) → (let r = s.row in u ≤ r.given)
-          at (inl lt) = absurd (late lt)
-          at (inr le) = le
-
-  pub each-dialled : {c d : ℕ} (n : c ≢ d) (L : Line w c) (M : Line w d) → (let s = M.accepted in let l = s.life in l.who) ≡ (let s = L.dialled in let l = s.life in l.who) → (let s = L.accepted in let l = s.life in l.who) ≡ (let s = M.dialled in let l = s.life in l.who)
-      → (p q : Name) → (let s = L.dialled in let r = s.row in r.peer) ≡ Some p → (let s = M.accepted in let r = s.row in r.peer) ≡ Some p → (let s = M.dialled in let r = s.row in r.peer) ≡ Some q → (let s = L.accepted in let r = s.row in r.peer) ≡ Some q
+  pub each-dialled : {c d : ℕ} (n : c ≢ d) (L : Line w c) (M : Line w d) → M.accepted.life.who ≡ L.dialled.life.who → L.accepted.life.who ≡ M.dialled.life.who
+      → (p q : Name) → L.dialled.row.peer ≡ Some p → M.accepted.row.peer ≡ Some p → M.dialled.row.peer ≡ Some q → L.accepted.row.peer ≡ Some q
       → (let s = L.dialled in runs s.life) ≡ true → (let s = L.dialled in IsOpen s.row) → (let s = M.dialled in runs s.life) ≡ true → (let s = M.dialled in IsOpen s.row)
-      → (u v : ℕ) → (let s = L.accepted in let r = s.row in r.rose) ≡ Some u → (let s = M.accepted in let r = s.row in r.rose) ≡ Some v → ⊥
+      → (u v : ℕ) → L.accepted.row.rose ≡ Some u → M.accepted.row.rose ≡ Some v → ⊥
   each-dialled n L M who-a who-b p q pl pm qm ql live-l open-l live-m open-m u v up-l up-m =
       let a = rises-early n L.dialled M.accepted who-a p pl pm live-l open-l v up-m in
       let b = rises-early (flip n) M.dialled L.accepted who-b q qm ql live-m open-m u up-l in
@@ -123,24 +97,20 @@ module _ (laws : NodeLaws) (w : World) (h : IsKept w) where
 
   -- ---- EACH ACCEPTED ONE
 
-  replies-early : {c d : ℕ} (n : c ≢ d) (s : Seat w Acceptor c) (M : Line w d) → (let t = M.dialled in let l = t.life in l.who) ≡ (let l = s.life in l.who) → (p : Name) → (let r = s.row in r.peer) ≡ Some p → (let t = M.dialled in let r = t.row in r.peer) ≡ Some p → runs s.life ≡ true → IsOpen s.row → (k : ℕ) → (let r = s.row in r.named) ≡ Some k → M.replied ≤ k
+  replies-early : {c d : ℕ} (n : c ≢ d) (s : Seat w Acceptor c) (M : Line w d) → M.dialled.life.who ≡ s.life.who → (p : Name) → s.row.peer ≡ Some p → M.dialled.row.peer ≡ Some p → runs s.life ≡ true → IsOpen s.row → (k : ℕ) → s.row.named ≡ Some k → M.replied ≤ k
   replies-early n s M who p ps pt live kept_open k nm = by ((same-or-older laws w h) M.dialled s who live)
     where
       by : (let t = M.dialled in t.place ≡ s.place) ⊎ (Older laws w h) M.dialled s → M.replied ≤ k
       by (inr o) = let z = (since laws w h) s in let g = (older-number laws w h) M.dialled s o (λ r. r.replied) (λ t row b. b.replied) M.replied k M.replied_is (z.named k nm) in omega (arith, g)
-      by (inl e) = at (cases_lt k M.replied)
+      by (inl e) = not-below k M.replied late
         where
           late : k < M.replied → ⊥
           late lt =
               let t = M.dialled in let g = (timed laws w h) t in let q = g.said M.replied M.replied_is in
               contra (left_before M.replied s.row) (stays-in M.replied s.row kept_open) ((out-not laws w h) t s (flip n) e p pt ps M.replied q.0 q.1 q.2 q.3 (accepted-entered M.replied k s.row s.side_is nm lt))
 
-          at : (k < M.replied) ⊎ (M.replied ≤ k) → M.replied ≤ k
-          at (inl lt) = absurd (late lt)
-          at (inr le) = le
-
-  pub each-accepted : {c d : ℕ} (n : c ≢ d) (L : Line w c) (M : Line w d) → (let s = M.dialled in let l = s.life in l.who) ≡ (let s = L.accepted in let l = s.life in l.who) → (let s = L.dialled in let l = s.life in l.who) ≡ (let s = M.accepted in let l = s.life in l.who)
-      → (p q : Name) → (let s = L.accepted in let r = s.row in r.peer) ≡ Some p → (let s = M.dialled in let r = s.row in r.peer) ≡ Some p → (let s = M.accepted in let r = s.row in r.peer) ≡ Some q → (let s = L.dialled in let r = s.row in r.peer) ≡ Some q
+  pub each-accepted : {c d : ℕ} (n : c ≢ d) (L : Line w c) (M : Line w d) → M.dialled.life.who ≡ L.accepted.life.who → L.dialled.life.who ≡ M.accepted.life.who
+      → (p q : Name) → L.accepted.row.peer ≡ Some p → M.dialled.row.peer ≡ Some p → M.accepted.row.peer ≡ Some q → L.dialled.row.peer ≡ Some q
       → (let s = L.accepted in runs s.life) ≡ true → (let s = L.accepted in IsOpen s.row) → (let s = M.accepted in runs s.life) ≡ true → (let s = M.accepted in IsOpen s.row) → ⊥
   each-accepted n L M who-a who-b p q pl pm qm ql live-l open-l live-m open-m =
       let a = replies-early n L.accepted M who-a p pl pm live-l open-l L.named L.named_is in

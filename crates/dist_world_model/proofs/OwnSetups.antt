@@ -1,32 +1,21 @@
 -- Each incarnation has its node's setup, with the changes of its own resets.
-use Rattle.std.proofs.Common.{◌≡◌, ℕ, Bool, true, false, cond, eqb, ltb, List, [], ◌∷◌, ◌++◌, Option, Some, None, Ok, Err, IfSome, refl, sym, ap, ◌∙◌, subst, slice_get}
-use Rattle.std.proofs.lemmas.Bool.{eqb-true}
-use Rattle.std.specs.Option.{option_map}
-use Rattle.dist_names.specs.declared.creation.Creation.{Creation}
-use Rattle.dist_core_setup.specs.declared.setup.Setup.{Setup}
-use Rattle.dist_core_setup.specs.Rules.{own_digest, same_bytes}
-use Rattle.dist_core.specs.declared.changing.Change.{Change}
-use Rattle.dist_core.specs.declared.changing.Change.TheVariants as changes
+use Rattle.std.specs.Prelude.{◌≡◌, ◌++◌, ◌∷◌}
+use Rattle.dist_world_model.proofs.Words.{ℕ, Bool, true, false, cond, List, [], Option, Some, None, Ok, refl, sym, ap, ◌∙◌, subst, is_some, slice_get}
+use Rattle.dist_world_model.proofs.Words.{Creation, Setup, NodeState, NodeLaws, at_place, Life, Conn, Happening, World, empty, run, AllLives, Err, IfSome}
+use Rattle.dist_world_model.proofs.Words.{eqb, eqb-true, option_map, names, after, life_after, reached_life, same_bytes, after_change, with_node, Change}
+use Rattle.dist_world_model.proofs.Words.{change, finds_no_room, is_in_use, running, new_life, life_after_end, world_after, without_closing, ticked_on}
+use Rattle.dist_world_model.proofs.Words.{applied_at, happens, setup_after, opening, changes_at, setup_by}
+use Rattle.dist_core_setup.specs.Rules.{own_digest}
+use Rattle.dist_world_model.specs.OwnSetups.{AreNoResets, HasSetDigests, IsNoReset, IsSetUp, change_by, is_place}
 use Rattle.dist_core.specs.declared.changing.ChangeError.TheVariants as change_error
-use Rattle.dist_core.specs.Changing.{after_change, change, finds_no_room, is_in_use, setup_after}
-use Rattle.dist_core.specs.Node.{NodeState}
-use Rattle.dist_core.specs.Runs.{opening}
-use Rattle.dist_core.specs.Step.{after}
-use Rattle.dist_world_model.specs.declared.happening.Happening.{Happening}
+use Rattle.dist_core.specs.declared.changing.Change.TheVariants as changes
 use Rattle.dist_world_model.specs.declared.happening.Happening.TheVariants as happening
-use Rattle.dist_world_model.specs.Lists.{at_place}
-use Rattle.dist_world_model.specs.World.{World, Life, Conn, running, empty}
-use Rattle.dist_world_model.specs.Happenings.{applied_at, happens, life_after, life_after_end, most_applied, new_life, reached_life, ticked_on, with_node, without_closing, world_after}
-use Rattle.dist_world_model.specs.Run.{run}
-use Rattle.dist_world_model.specs.Laws.{AllLives}
-use Rattle.dist_world_model.specs.NodeLaws.{NodeLaws}
-use Rattle.dist_world_model.specs.OwnSetups.{AreNoResets, HasSetDigests, IsNoReset, IsSetUp, change_by, changes_at, is_place, setup_by, where_applied}
 use Rattle.dist_world_model.proofs.Conditions.{if_ok, if_there}
-use Rattle.dist_world_model.proofs.Places.{get-place}
-use Rattle.dist_world_model.proofs.HappeningEffects.{Act, Acted, Begins, Comes, Ends, Reaches, Resets, Reports, acts, change-ok}
-use Rattle.dist_world_model.proofs.Lookups.{changed-at, more-at}
-use Rattle.dist_world_model.proofs.WireSteps.{bare-stays}
 use Rattle.dist_world_model.proofs.Digests.{digest_lives}
+use Rattle.dist_world_model.proofs.HappeningEffects.{Act, Acted, Begins, Comes, Ends, Reaches, Reports, Resets, acts, change-ok, where-applied}
+use Rattle.dist_world_model.proofs.Lookups.{changed-at, more-at}
+use Rattle.dist_world_model.proofs.Places.{get-place}
+use Rattle.dist_world_model.proofs.WireSteps.{bare-stays}
 
 -- ---- changes, one after another
 
@@ -35,7 +24,7 @@ by-append [] ws s = refl
 by-append (v ∷ vs) ws s = by-append vs ws (setup_after s v)
 
 -- a change leaves the creation
-creation-by : (vs : List Change) (s : Setup) → (let r = setup_by vs s in r.creation) ≡ s.creation
+creation-by : (vs : List Change) (s : Setup) → (setup_by vs s).creation ≡ s.creation
 creation-by [] s = refl
 creation-by (v ∷ vs) s = creation-by vs (setup_after s v) ∙ ap (λ (r : Setup). r.creation) (bare-stays s v)
 
@@ -153,52 +142,44 @@ module _ (ss : List Setup) where
   unclosed w (happening.Reset a v) i = refl
   unclosed w h i = refl
 
-  one-more : (w : World) (h : Happening) → w.setups ≡ ss → (i who : ℕ) (t : Setup) → Starts ss (slice_get (let x = happens w h in x.lives) i) who t
-      → (s : Setup) × Starts ss (slice_get w.lives i) who s × Makes (where_applied (applied_at w h) (change_by w h i)) s t
-  one-more w h own i who t = by (applied_at w h) (at (ltb w.clock most_applied))
+  one-more : (w : World) (h : Happening) → w.setups ≡ ss → (i who : ℕ) (t : Setup) → Starts ss (slice_get (happens w h).lives i) who t
+      → (s : Setup) × Starts ss (slice_get w.lives i) who s × Makes (cond (is_some (applied_at w h)) (change_by w h i) []) s t
+  one-more w h own i who t = by (applied_at w h) (where-applied (Changed (without_closing w) h) w h (changed (without_closing w) h own))
     where
-      at : (b : Bool) → IfSome (cond b (world_after (without_closing w) h) None) (Changed (without_closing w) h)
-      at true = changed (without_closing w) h own
-      at false = tt
-
-      by : (o : Option World) → IfSome o (Changed (without_closing w) h) → Starts ss (slice_get (let x = ticked_on w o in x.lives) i) who t
-          → (s : Setup) × Starts ss (slice_get w.lives i) who s × Makes (where_applied o (change_by w h i)) s t
+      by : (o : Option World) → IfSome o (Changed (without_closing w) h) → Starts ss (slice_get (ticked_on w o).lives i) who t
+          → (s : Setup) × Starts ss (slice_get w.lives i) who s × Makes (cond (is_some o) (change_by w h i) []) s t
       by None g st = (t, st, makes-none t)
       by (Some x) g st = let c = g i who t st in (c.0, c.1, subst (λ vs. Makes vs c.0 t) (unclosed w h i) c.2)
 
 -- the setups of the nodes stay
-pub setups-stay : (w : World) (h : Happening) → (let x = happens w h in x.setups) ≡ w.setups
-setups-stay w h = by (applied_at w h) (at (ltb w.clock most_applied))
+pub setups-stay : (w : World) (h : Happening) → (happens w h).setups ≡ w.setups
+setups-stay w h = by (applied_at w h) (where-applied (Acted h (without_closing w)) w h (acts (without_closing w) h))
   where
-    at : (b : Bool) → IfSome (cond b (world_after (without_closing w) h) None) (Acted h (without_closing w))
-    at true = acts (without_closing w) h
-    at false = tt
-
-    by : (o : Option World) → IfSome o (Acted h (without_closing w)) → (let x = ticked_on w o in x.setups) ≡ w.setups
+    by : (o : Option World) → IfSome o (Acted h (without_closing w)) → (ticked_on w o).setups ≡ w.setups
     by None g = refl
     by (Some x) g = g.setups
 
-pub run-setups : (hs : List Happening) (w : World) → (let x = run hs w in x.setups) ≡ w.setups
+pub run-setups : (hs : List Happening) (w : World) → (run hs w).setups ≡ w.setups
 run-setups [] w = refl
 run-setups (h ∷ hs) w = run-setups hs (happens w h) ∙ setups-stay w h
 
 -- ---- all happenings
 
 module _ (ss : List Setup) where
-  all-changed : (hs : List Happening) (w : World) → w.setups ≡ ss → (i who : ℕ) (t : Setup) → Starts ss (slice_get (let x = run hs w in x.lives) i) who t
+  all-changed : (hs : List Happening) (w : World) → w.setups ≡ ss → (i who : ℕ) (t : Setup) → Starts ss (slice_get (run hs w).lives i) who t
       → (s : Setup) × Starts ss (slice_get w.lives i) who s × Makes (changes_at hs w i) s t
   all-changed [] w own i who t st = (t, st, makes-none t)
   all-changed (h ∷ hs) w own i who t st =
       let later = all-changed hs (happens w h) (setups-stay w h ∙ own) i who t st in
       let first = one-more ss w h own i who later.0 later.1 in
-      (first.0, first.1, makes-both (where_applied (applied_at w h) (change_by w h i)) (changes_at hs (happens w h) i) first.0 later.0 t first.2 later.2)
+      (first.0, first.1, makes-both (cond (is_some (applied_at w h)) (change_by w h i) []) (changes_at hs (happens w h) i) first.0 later.0 t first.2 later.2)
 
   -- the setup of its node, with a creation of its own, and what was made of it
   pub begun-with : (hs : List Happening) (i : ℕ) (l : Life) → slice_get (let x = run hs (empty ss) in x.lives) i ≡ Some l
-      → (b : Setup) × (slice_get ss l.who ≡ Some b) × Makes (changes_at hs (empty ss) i) (record b { creation = (let n = l.node in let own = n.setup in own.creation) }) l.node.setup
+      → (b : Setup) × (slice_get ss l.who ≡ Some b) × Makes (changes_at hs (empty ss) i) (record b { creation = l.node.setup.creation }) l.node.setup
   begun-with hs i l at =
       let vs = changes_at hs (empty ss) i in
-      let own : Setup = (let n = l.node in n.setup) in
+      let own : Setup = l.node.setup in
       let g = all-changed hs (empty ss) refl i l.who own (subst (λ (o : Option Life). Starts ss o l.who own) (sym at) (refl, refl)) in
       let start = g.1 in
       let b = start.0 in
@@ -216,14 +197,14 @@ module _ (ss : List Setup) where
   none-by w (happening.Reset a v) i plain = absurd plain
   none-by w h i plain = refl
 
-  none-where : (o : Option World) → where_applied o [] ≡ []
+  none-where : (o : Option World) → cond {A = List Change} (is_some o) [] [] ≡ []
   none-where None = refl
   none-where (Some x) = refl
 
   none-at : (hs : List Happening) (w : World) (i : ℕ) → AreNoResets hs → changes_at hs w i ≡ []
   none-at [] w i plain = refl
   none-at (h ∷ hs) w i plain =
-      ap (λ vs. where_applied (applied_at w h) vs ++ changes_at hs (happens w h) i) (none-by w h i plain.0)
+      ap (λ vs. cond (is_some (applied_at w h)) vs [] ++ changes_at hs (happens w h) i) (none-by w h i plain.0)
       ∙ ap (λ vs. vs ++ changes_at hs (happens w h) i) (none-where (applied_at w h))
       ∙ none-at hs (happens w h) i plain.1
 
@@ -241,7 +222,7 @@ module _ (laws : NodeLaws) where
       let g = unchanged ss hs plain k l at in
       let z : Some g.0 ≡ Some s = sym g.1 ∙ there in
       let same : g.0 ≡ s = cc in
-      let own : Setup = (let n = l.node in n.setup) in
+      let own : Setup = l.node.setup in
       let digest : own_digest own r.peer r.challenge ≡ own_digest s r.peer r.challenge =
       ap (λ (x : Setup). own_digest x r.peer r.challenge) g.2 ∙ same-digest g.0 own.creation r.peer r.challenge ∙ ap (λ (x : Setup). own_digest x r.peer r.challenge) same in
       ap (same_bytes r.digest_received) (sym digest) ∙ digest_lives laws ss hs k l at i r up

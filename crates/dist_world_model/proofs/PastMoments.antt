@@ -1,19 +1,34 @@
 -- What was, and was not yet, when a number was written.
-use Rattle.std.proofs.Common.{◌≡◌, ℕ, ◌<◌, ◌≤◌, Bool, true, false, ltb, ◌||◌, Option, Some, None, refl, sym, ◌∙◌, arith}
-use Rattle.std.proofs.lemmas.Bool.{false≢true}
-use Rattle.std.proofs.lemmas.Bool.Decides.{nat_tests}
-use Rattle.dist_messages.specs.declared.message.Side.{Side}
-use Rattle.dist_messages.specs.declared.message.Side.TheVariants.{Dialler, Acceptor}
-use Rattle.dist_world_model.specs.Rows.{EndRow, past, holds_peer}
-use Rattle.dist_world_model.specs.Stones.{entered_before, left_before}
+use Rattle.std.specs.Prelude.{◌≡◌, ◌<◌, ◌⊎◌, ◌≤◌, ◌||◌}
+use Rattle.dist_world_model.proofs.Words.{ℕ, Bool, true, false, Option, Some, None, refl, sym, ◌∙◌, arith, Side, Dialler, Acceptor, EndRow, past}
+use Rattle.dist_world_model.proofs.Words.{inl, inr, false≢true, ltb, holds_peer, nat_tests, cases_lt, left_before, entered_before}
+use Rattle.dist_world_model.proofs.Words.{true_from_ne_false}
 
 -- ---- numbers
+
+pub not-below : (a b : ℕ) → (a < b → ⊥) → b ≤ a
+not-below a b h = by (cases_lt a b)
+  where
+    by : (a < b) ⊎ (b ≤ a) → b ≤ a
+    by (inl lt) = absurd (h lt)
+    by (inr le) = le
+
+pub not-above : (a b : ℕ) → (b ≤ a → ⊥) → a < b
+not-above a b h = by (cases_lt a b)
+  where
+    by : (a < b) ⊎ (b ≤ a) → a < b
+    by (inl lt) = lt
+    by (inr le) = absurd (h le)
 
 pub past-is : (t n : ℕ) → past t (Some n) ≡ true → n < t
 past-is t n h = grind (arith, nat_tests)
 
 pub is-past : (t n : ℕ) → n < t → past t (Some n) ≡ true
 is-past t n h = grind (arith, nat_tests)
+
+pub past-some : (t : ℕ) (o : Option ℕ) → past t o ≡ true → (n : ℕ) × (o ≡ Some n) × (n < t)
+past-some t None h = absurd (false≢true h)
+past-some t (Some n) h = (n, refl, past-is t n h)
 
 pub not-past : (t : ℕ) → past t (Some t) ≡ false
 not-past t = grind (arith, nat_tests)
@@ -31,6 +46,9 @@ or-false true b h = absurd cc
 
 pub left-sooner : (s t : ℕ) (row : EndRow) → s ≤ t → left_before t row ≡ false → left_before s row ≡ false
 left-sooner s t row h g = let p = or-false (past t row.doomed) (past t row.closed) g in λ i. past-sooner s t row.doomed h p.0 i || past-sooner s t row.closed h p.1 i
+
+pub left-later : (s t : ℕ) (row : EndRow) → s ≤ t → left_before s row ≡ true → left_before t row ≡ true
+left-later s t row h g = true_from_ne_false (left_before t row) (λ e. false≢true (sym (left-sooner s t row h e) ∙ g))
 
 pub dialled-entered : (t : ℕ) (row : EndRow) → row.side ≡ Dialler → row.given < t → entered_before t row ≡ true
 dialled-entered t row s h = (λ i. holds_peer (s i) (ltb row.given t) (past t row.named)) ∙ is-past t row.given h

@@ -1,17 +1,9 @@
 -- What stands at each place of a list after a change.
-use Rattle.std.proofs.Common.{◌≡◌, ◌≢◌, ◌&&◌, ℕ, zero, suc, ◌+◌, Bool, true, false, cond, eqb, List, [], ◌∷◌, ◌++◌, length, Option, Some, None, refl, sym, ap, ◌∙◌, subst, arith, slice_get, eq-eqb}
+use Rattle.dist_world_model.proofs.Words.{ℕ, Bool, true, false, cond, List, [], Option, Some, None, refl, sym, ap, ◌∙◌, subst, arith, slice_get}
+use Rattle.dist_world_model.proofs.Words.{length, inl, inr, at_place, eqb, eqb-true, option_map, suc, first_where, zero}
+use Rattle.dist_world_model.specs.Lists.{at_each}
+use Rattle.std.proofs.Common.{eq-eqb, ◌≡◌, ◌≢◌, ◌++◌, ◌⊎◌, ◌+◌, ◌∷◌}
 use Rattle.std.proofs.Math.Dec.{eqb-suc-suc, eqb-suc-zero, eqb-zero-suc}
-use Rattle.std.proofs.lemmas.Bool.{eqb-true}
-use Rattle.std.specs.Option.{option_map}
-use Rattle.dist_world_model.specs.Lists.{at_place, at_each, first_where}
-
-pub both-true : (a b : Bool) → (a && b) ≡ true → (a ≡ true) × (b ≡ true)
-both-true true b h = (refl, h)
-both-true false b h = absurd cc
-
-pub and-none : (a b : Bool) → b ≡ false → (a && b) ≡ false
-and-none true b h = h
-and-none false b h = refl
 
 pub flip : {i j : ℕ} → i ≢ j → j ≢ i
 flip n e = n (sym e)
@@ -59,15 +51,18 @@ at-more P xs x new old j y h =
       | false ↦ λ b e. old j y e
     ] refl (sym (get-more xs x j) ∙ h)
 
--- the first that passes passes
-pub first-passes : {A : Type 0} (test : A → Bool) (xs : List A) (i : ℕ) (x : A) → first_where test xs ≡ Some i → slice_get xs i ≡ Some x → test x ≡ true
-first-passes test [] i x h at = absurd cc
-first-passes test (y ∷ xs) i x h at =
-    elim (test y) as (λ b. test y ≡ b → cond b (Some 0) (option_map suc (first_where test xs)) ≡ Some i → test x ≡ true) [
-      | true ↦ λ b e. let z : i ≡ 0 = cc in let same : Some y ≡ Some x = ap (slice_get (y ∷ xs)) (sym z) ∙ at in let q : y ≡ x = cc in ap test (sym q) ∙ b
-      | false ↦ λ b e. by (first_where test xs) (λ k f. first-passes test xs k x f) refl e
+pub one-more : {A : Type 0} (xs : List A) (x : A) (j : ℕ) (y : A) → slice_get (xs ++ x ∷ []) j ≡ Some y → (slice_get xs j ≡ Some y) ⊎ ((j ≡ length xs) × (x ≡ y))
+one-more xs x = at-more (λ j y. (slice_get xs j ≡ Some y) ⊎ ((j ≡ length xs) × (x ≡ y))) xs x (inr (refl, refl)) (λ j y e. inl e)
+
+pub before-map : {A B : Type 0} (f : A → B) (o : Option A) (y : B) → option_map f o ≡ Some y → (x : A) × (o ≡ Some x) × (y ≡ f x)
+before-map f None y e = absurd cc
+before-map f (Some x) y e = (x, refl, (let h : y ≡ f x = cc in h))
+
+-- the first that passes is there and passes
+pub first-at : {A : Type 0} (test : A → Bool) (xs : List A) (i : ℕ) → first_where test xs ≡ Some i → (x : A) × (slice_get xs i ≡ Some x) × (test x ≡ true)
+first-at test [] i h = absurd cc
+first-at test (y ∷ xs) i h =
+    elim (test y) as (λ b. test y ≡ b → cond b (Some 0) (option_map suc (first_where test xs)) ≡ Some i → (x : _) × (slice_get (y ∷ xs) i ≡ Some x) × (test x ≡ true)) [
+      | true ↦ λ b e. let z : 0 ≡ i = cc in (y, ap (slice_get (y ∷ xs)) (sym z), b)
+      | false ↦ λ b e. let k = before-map suc (first_where test xs) i e in let g = first-at test xs k.0 k.1 in (g.0, ap (slice_get (y ∷ xs)) k.2 ∙ g.1, g.2)
     ] refl h
-  where
-    by : (o : Option ℕ) → ((k : ℕ) → first_where test xs ≡ Some k → slice_get xs k ≡ Some x → test x ≡ true) → first_where test xs ≡ o → option_map suc o ≡ Some i → test x ≡ true
-    by None more f e = absurd cc
-    by (Some k) more f e = let z : suc k ≡ i = cc in more k f (ap (slice_get (y ∷ xs)) z ∙ at)

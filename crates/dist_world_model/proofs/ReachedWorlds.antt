@@ -1,17 +1,11 @@
 -- Worlds that can be.
-use Rattle.std.proofs.Common.{◌≡◌, List, [], ◌∷◌, ◌++◌, refl, sym, ap, ◌∙◌, subst, ℕ}
-use Rattle.std.specs.List.{AllByRecursion}
-use Rattle.dist_core_setup.specs.declared.setup.Setup.{Setup}
-use Rattle.dist_world_model.specs.declared.happening.Happening.{Happening}
-use Rattle.dist_world_model.specs.World.{World, empty}
-use Rattle.dist_world_model.specs.Happenings.{happens}
-use Rattle.dist_world_model.specs.Run.{run}
-use Rattle.dist_world_model.specs.Agreement.{AreSetups, AllFit, Fits, IsReached, Agreement, Counts, IsUp}
+use Rattle.std.specs.Prelude.{◌≡◌, ◌++◌, ◌∷◌}
+use Rattle.dist_world_model.proofs.Words.{ℕ, List, [], refl, sym, ap, ◌∙◌, subst, Setup, NodeLaws, Happening, World, empty, run, AllLives, IsUp}
+use Rattle.dist_world_model.proofs.Words.{Agreement, AreSetups, AllFit, UpsAreLinked, Fits, happens, AllByRecursion}
+use Rattle.dist_world_model.specs.Agreement.{Counts, IsReached}
 use Rattle.dist_world_model.proofs.AgreementOfWorlds.{agreement_holds}
-use Rattle.dist_world_model.specs.Laws.{AllLives, UpsAreLinked}
-use Rattle.dist_world_model.proofs.HappeningEffects.{is-running}
 use Rattle.dist_world_model.proofs.EndConnections.{linked_lives}
-use Rattle.dist_world_model.specs.NodeLaws.{NodeLaws}
+use Rattle.dist_world_model.proofs.HappeningEffects.{is-running}
 
 run-append : (hs gs : List Happening) (w : World) → run (hs ++ gs) w ≡ run gs (run hs w)
 run-append [] gs w = refl

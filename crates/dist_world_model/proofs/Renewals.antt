@@ -1,33 +1,26 @@
 -- A node that is renewed is one that ended and began again.
-use Rattle.std.proofs.Common.{◌≡◌, ◌≢◌, ℕ, zero, suc, ◌+◌, ◌<◌, ◌≤◌, Bool, true, false, cond, eqb, ltb, ◌&&◌, List, [], ◌∷◌, ◌++◌, length, Option, Some, None, Ok, Err, refl, sym, ap, ◌∙◌, subst, arith, is_none, slice_get}
-use Rattle.std.proofs.lemmas.Bool.{eqb-true, false≢true, lt-ltb}
-use Rattle.std.specs.Option.{option_map}
-use Rattle.std.specs.List.{list_any}
-use Rattle.std.specs.FinMap as finite
+use Rattle.std.specs.Prelude.{◌≡◌, ◌<◌, ◌&&◌, ◌≢◌, ◌++◌, ◌+◌, ◌≤◌, ◌∷◌}
+use Rattle.dist_world_model.proofs.Words.{ℕ, Bool, true, false, cond, List, [], Option, Some, None, Ok, refl, sym, ap, ◌∙◌, subst, arith}
+use Rattle.dist_world_model.proofs.Words.{slice_get, Creation, Setup, NodeState, length, at_place, Life, Happening, World, runs, empty, run, Err}
+use Rattle.dist_world_model.proofs.Words.{false≢true, OnlyLastRuns, eqb, ltb, eqb-true, option_map, names, after_change, with_node, suc, is_none}
+use Rattle.dist_world_model.proofs.Words.{Change, change, finds_no_room, is_in_use, first_where, runs_for, running, most_begins, new_life, life_after_end}
+use Rattle.dist_world_model.proofs.Words.{world_after, without_closing, ticked_on, most_applied, applied_at, happens, zero, setup_after, opening, changes_at}
+use Rattle.dist_world_model.proofs.Words.{setup_by, resets, and_right}
+use Rattle.dist_core.specs.Changing.{has_usual}
 use Rattle.dist_core_ends.specs.Ends.{table_of}
 use Rattle.dist_core_laws.proofs.Limits.{no-entries}
-use Rattle.dist_names.specs.declared.creation.Creation.{Creation}
-use Rattle.dist_core_setup.specs.declared.setup.Setup.{Setup}
-use Rattle.dist_core.specs.declared.changing.Change.{Change}
-use Rattle.dist_core.specs.declared.changing.Change.TheVariants as changes
+use Rattle.dist_world_model.specs.Renewals.{HasOpened, HasRoom, renewal}
+use Rattle.std.proofs.lemmas.Bool.{lt-ltb}
+use Rattle.std.specs.List.{list_any}
 use Rattle.dist_core.specs.declared.changing.ChangeError.TheVariants as change_error
-use Rattle.dist_core.specs.Changing.{after_change, change, finds_no_room, has_usual, is_in_use, setup_after}
-use Rattle.dist_core.specs.Node.{NodeState}
-use Rattle.dist_core.specs.Runs.{opening}
-use Rattle.dist_world_model.specs.declared.happening.Happening.{Happening}
+use Rattle.dist_core.specs.declared.changing.Change.TheVariants as changes
+use Rattle.std.specs.FinMap as finite
 use Rattle.dist_world_model.specs.declared.happening.Happening.TheVariants as happening
-use Rattle.dist_world_model.specs.Lists.{at_place, first_where}
-use Rattle.dist_world_model.specs.World.{World, Life, running, runs, runs_for, empty}
-use Rattle.dist_world_model.specs.Happenings.{applied_at, happens, life_after_end, most_applied, most_begins, new_life, ticked_on, with_node, without_closing, world_after}
-use Rattle.dist_world_model.specs.Run.{run}
-use Rattle.dist_world_model.specs.Order.{OnlyLastRuns}
-use Rattle.dist_world_model.specs.OwnSetups.{changes_at, setup_by}
-use Rattle.dist_world_model.specs.Renewals.{HasOpened, HasRoom, renewal, resets}
 use Rattle.dist_world_model.proofs.Conditions.{holds, succeeds, there}
-use Rattle.dist_world_model.proofs.Places.{and-none, eqb-self, get-more}
 use Rattle.dist_world_model.proofs.HappeningEffects.{is-running}
 use Rattle.dist_world_model.proofs.Lookups.{at-other, placed}
 use Rattle.dist_world_model.proofs.OwnSetups.{AllFindRoom, begun-with, run-setups}
+use Rattle.dist_world_model.proofs.Places.{eqb-self, get-more}
 
 -- ---- the first that passes
 
@@ -92,10 +85,10 @@ module _ (node : ℕ) where
         rows = h.rows;
       })
 
-  clock-once : (w : World) (h : Happening) → (let x = happens w h in x.clock) ≤ w.clock + 1
+  clock-once : (w : World) (h : Happening) → (happens w h).clock ≤ w.clock + 1
   clock-once w h = by (applied_at w h)
     where
-      by : (o : Option World) → (let x = ticked_on w o in x.clock) ≤ w.clock + 1
+      by : (o : Option World) → (ticked_on w o).clock ≤ w.clock + 1
       by None = omega arith
       by (Some x) = omega arith
 
@@ -130,11 +123,11 @@ module _ (node : ℕ) where
 
     none-after : (j : ℕ) (x : Life) → slice_get ended.lives j ≡ Some x → runs_for node x ≡ false
     none-after = at-other (λ j x. runs_for node x ≡ false) place (life_after_end w.clock) w.lives
-        (λ x ax. and-none (eqb x.who node) false refl)
+        (λ x ax. and_right (eqb x.who node) false refl)
         (λ j x n ax. by j x n ax (eqb x.who node) refl)
       where
         by : (j : ℕ) (x : Life) → place ≢ j → slice_get w.lives j ≡ Some x → (b : Bool) → eqb x.who node ≡ b → runs_for node x ≡ false
-        by j x n ax true e = and-none (eqb x.who node) (runs x) (other-over j x n ax (eqb-true x.who node e))
+        by j x n ax true e = and_right (eqb x.who node) (runs x) (other-over j x n ax (eqb-true x.who node e))
         by j x n ax false e = ap (λ b. b && runs x) e
 
     abbrev new : Life
@@ -172,11 +165,11 @@ module _ (node : ℕ) where
 pub renews : ((ss : List Setup) (hs : List Happening) → OnlyLastRuns (run hs (empty ss)))
     → (ss : List Setup) (hs : List Happening) (node place : ℕ) (l : Life) → running (run hs (empty ss)) node ≡ Some place → slice_get (let w = run hs (empty ss) in w.lives) place ≡ Some l
     → HasRoom (run hs (empty ss)) (changes_at hs (empty ss) place)
-    → HasOpened (run (renewal node (let n = l.node in let own = n.setup in own.creation) (changes_at hs (empty ss) place)) (run hs (empty ss))) node l.node.setup
+    → HasOpened (run (renewal node l.node.setup.creation (changes_at hs (empty ss) place)) (run hs (empty ss))) node l.node.setup
 renews last ss hs node place l runs-at at room =
     let w : World = run hs (empty ss) in
     let vs = changes_at hs (empty ss) place in
-    let own : Setup = (let n = l.node in n.setup) in
+    let own : Setup = l.node.setup in
     let g = begun-with ss hs place l at in
     let made = g.2 in
     let few = room.applied in

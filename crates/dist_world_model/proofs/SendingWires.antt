@@ -1,34 +1,22 @@
 -- What is sent at the event's own end, and the frame that it takes, keep all connections wires.
-use Rattle.std.proofs.Common.{◌≡◌, ℕ, true, false, cond, eqb, List, length, Option, Some, None, refl, sym, ap, ◌∙◌, subst, slice_get}
-use Rattle.std.proofs.lemmas.Bool.{false≢true}
-use Rattle.std.specs.Option.{option_map}
-use Rattle.std.specs.Int.{w16}
-use Rattle.dist_messages.specs.declared.message.Side.TheVariants.{Dialler}
-use Rattle.dist_frames.specs.Stream.{first_body}
-use Rattle.dist_peers.specs.declared.entry.EndId.{EndId}
-use Rattle.dist_core_ends.specs.declared.known.End.{End}
-use Rattle.dist_core.specs.declared.event.Event.{Event}
+use Rattle.std.specs.Prelude.{◌≡◌}
+use Rattle.dist_world_model.proofs.Words.{ℕ, true, false, List, Option, Some, None, refl, sym, ap, ◌∙◌, subst, slice_get, Dialler, EndId, End, Event}
+use Rattle.dist_world_model.proofs.Words.{EndRow, row_after, NodeLaws, length, at_place, given_by, mark, new_row, Conn, row_of_life, says, conns_after_saying}
+use Rattle.dist_world_model.proofs.Words.{w16, first_body, text_to, false≢true, option_map, dooms, shuts_end, conn_of, spoken_on, row_at, body_taken, change_to}
 use Rattle.dist_core.specs.declared.event.Event.TheVariants as event
-use Rattle.dist_world_model.specs.Lists.{at_place, add_some}
-use Rattle.dist_world_model.specs.Rows.{EndRow, given_by, mark, row_after, new_row, dooms, shuts_end}
-use Rattle.dist_world_model.specs.World.{Conn, row_of_life, row_at}
-use Rattle.dist_world_model.specs.Delivery.{body_taken, says, text_to, change_to, spoken_on, conns_after_saying}
-use Rattle.dist_world_model.specs.Happenings.{conn_of}
-use Rattle.dist_world_model.proofs.Places.{get-more, eqb-self}
-use Rattle.dist_world_model.proofs.EndStates.{Fits, Beside}
+use Rattle.dist_world_model.proofs.EndStates.{Beside, Fits}
+use Rattle.dist_world_model.proofs.EventEnds.{frame-end, gives, own-end}
+use Rattle.dist_world_model.proofs.GrowingRows.{spoken-none}
 use Rattle.dist_world_model.proofs.HappeningEffects.{IsPlain}
-use Rattle.dist_world_model.proofs.StepEffects.{is_given}
-use Rattle.dist_world_model.proofs.UnchangedRows.{get-row, get-row-old, same-length}
-use Rattle.dist_world_model.proofs.OtherRows.{gives}
 use Rattle.dist_world_model.proofs.Lookups.{place-twice}
-use Rattle.dist_world_model.specs.NodeLaws.{NodeLaws}
-use Rattle.dist_world_model.proofs.EventEnds.{own-end}
-use Rattle.dist_world_model.proofs.GrowingRows.{frame-end, spoken-none}
 use Rattle.dist_world_model.proofs.OwnWires.{own-says, own-takes}
-use Rattle.dist_world_model.proofs.SilentWires.{Kept, beside, deed, me, rows', silent, the-row, Notifying}
+use Rattle.dist_world_model.proofs.Places.{eqb-self}
+use Rattle.dist_world_model.proofs.SilentWires.{Kept, Notifying, beside, deed, me, rows', silent}
+use Rattle.dist_world_model.proofs.StepEffects.{is_given}
+use Rattle.dist_world_model.proofs.UnchangedRows.{get-row-old, row-new, same-length}
 
 module _ (laws : NodeLaws) (notifying : Notifying) where
-  open notifying use {w, lives, fit, linked, wires, i, old, v, fresh, f, small, at, live, ok}
+  open notifying use {w, lives, fit, wired, i, old, v, fresh, f, small, at, live, ok}
 
   -- ---- the event's own row
 
@@ -52,14 +40,14 @@ module _ (laws : NodeLaws) (notifying : Notifying) where
 
   -- ---- a row that is given out
 
-  pub long : length old.rows ≡ length (let n = old.node in n.ends)
-  long = sym (same-length (let n = old.node in n.ends) old.rows (beside laws notifying))
+  pub long : length old.rows ≡ length old.node.ends
+  long = sym (same-length old.node.ends old.rows (beside laws notifying))
 
   pub new-row-at : (new : EndRow) → is_given v ≡ true → given_by w.clock v ≡ Some new → slice_get (rows' laws notifying) (me laws notifying) ≡ Some (mark w.clock f.reply (me laws notifying) new)
   new-row-at new g is =
-      let id : (me laws notifying) ≡ length (let n = old.node in n.ends) = (let h = gives old.node v f (deed laws notifying) g in h.id) in
-      get-row w.clock v f.reply old.rows (me laws notifying) ∙ ap (λ o. option_map (mark w.clock f.reply (me laws notifying)) (slice_get (add_some old.rows o) (me laws notifying))) is
-      ∙ ap (option_map (mark w.clock f.reply (me laws notifying))) (get-more old.rows new (me laws notifying) ∙ ap (λ k. cond (eqb k (me laws notifying)) (Some new) (slice_get old.rows (me laws notifying))) (long ∙ sym id) ∙ ap (λ b. cond b (Some new) (slice_get old.rows (me laws notifying))) (eqb-self (me laws notifying)))
+      let h = gives old.node v f (deed laws notifying) g in
+      let P : ℕ → Type 0 = λ k. slice_get (rows' laws notifying) k ≡ Some (mark w.clock f.reply k new) in
+      subst P (long ∙ sym h.id) (row-new w.clock v f.reply old.rows new is)
 
   dial-conn : is_given v ≡ true → IsPlain v → conn_of (slice_get (rows' laws notifying) (me laws notifying)) ≡ None
   dial-conn g plain = by v refl
@@ -67,10 +55,7 @@ module _ (laws : NodeLaws) (notifying : Notifying) where
       by : (u : Event) → v ≡ u → conn_of (slice_get (rows' laws notifying) (me laws notifying)) ≡ None
       by (event.Dial p o) is = ap conn_of (new-row-at (new_row Dialler (Some p) None w.clock) g (ap (given_by w.clock) is))
       by (event.Incoming link) is = absurd (subst IsPlain is plain)
-      by (event.Opened id link) is = absurd (false≢true (ap is_given (sym is) ∙ g))
-      by (event.Frame id body) is = absurd (false≢true (ap is_given (sym is) ∙ g))
-      by (event.Lost id y) is = absurd (false≢true (ap is_given (sym is) ∙ g))
-      by (event.Tick id) is = absurd (false≢true (ap is_given (sym is) ∙ g))
+      by u is = absurd (false≢true (ap is_given (sym is) ∙ g))
 
   plain-not : IsPlain v → (link : ℕ) → v ≡ event.Incoming link → ⊥
   plain-not plain link is = subst IsPlain is plain
@@ -82,13 +67,13 @@ module _ (laws : NodeLaws) (notifying : Notifying) where
   ] refl
     where
       own : is_given v ≡ false → Found → (Kept laws notifying) (conns_after_saying ds (slice_get (rows' laws notifying) (me laws notifying)) f.reply.say)
-      own ng q = by (let x = q.x0 in x.conn) refl
+      own ng q = by q.x0.conn refl
         where
-          by : (o : Option ℕ) → (let x = q.x0 in x.conn) ≡ o → (Kept laws notifying) (conns_after_saying ds (slice_get (rows' laws notifying) (me laws notifying)) f.reply.say)
+          by : (o : Option ℕ) → q.x0.conn ≡ o → (Kept laws notifying) (conns_after_saying ds (slice_get (rows' laws notifying) (me laws notifying)) f.reply.say)
           by None none = subst (Kept laws notifying) (sym (spoken-none ds (slice_get (rows' laws notifying) (me laws notifying)) f.reply.say (ap conn_of q.row-is ∙ none) ∙ e)) ((silent laws notifying) (plain-not plain) (conn-not q.x0 q.at-x none))
           by (Some c) on =
-              let k = linked.only i (me laws notifying) c q.x0 (ap (λ o. row_of_life o (me laws notifying)) at ∙ q.at-x) on in
-              subst (Kept laws notifying) (sym ((λ n. conns_after_saying (e n) (q.row-is n) f.reply.say) ∙ ap (λ o. spoken_on w.conns o (let x = q.x0 in x.side) f.reply.say) on))
+              let k = wired.0.only i (me laws notifying) c q.x0 (ap (λ o. row_of_life o (me laws notifying)) at ∙ q.at-x) on in
+              subst (Kept laws notifying) (sym ((λ n. conns_after_saying (e n) (q.row-is n) f.reply.say) ∙ ap (λ o. spoken_on w.conns o q.x0.side f.reply.say) on))
               ((own-says laws notifying) q.x0 q.e0 q.at-x q.at-e q.fits q.row-is c on k.conn k.there ng plain)
 
   pub take-notified : (ds : List Conn) (id : EndId) (row : EndRow) (c : ℕ) (k : Conn) (body : List ℕ) → v ≡ event.Frame id body → row_at w i id.0 ≡ Some row → row.conn ≡ Some c → slice_get w.conns c ≡ Some k → (let u = text_to row.side k in first_body w16 u.come) ≡ Some body → ds ≡ at_place c (change_to row.side body_taken) w.conns
@@ -96,12 +81,12 @@ module _ (laws : NodeLaws) (notifying : Notifying) where
   take-notified ds id row c k body is ar on ak first e =
       let ng : is_given v ≡ false = ap is_given is in
       let q = found ng in
-      let own : (me laws notifying) ≡ id.0 = ap (λ (y : EndId). y.0) (frame-end laws old.node v fresh f id body (the-row laws notifying) is) in
+      let own : (me laws notifying) ≡ id.0 = ap (λ (y : EndId). y.0) (frame-end old.node v f id body (deed laws notifying) is) in
       let z : Some q.x0 ≡ Some row = sym q.at-x ∙ ap (slice_get old.rows) own ∙ sym (ap (λ o. row_of_life o id.0) at) ∙ ar in
       let same : row ≡ q.x0 = cc in
-      let on0 : (let x = q.x0 in x.conn) ≡ Some c = ap (λ (r : EndRow). r.conn) (sym same) ∙ on in
+      let on0 : q.x0.conn ≡ Some c = ap (λ (r : EndRow). r.conn) (sym same) ∙ on in
       let first0 : (let s = let x = q.x0 in x.side in let u = text_to s k in first_body w16 u.come) ≡ Some body = ap (λ (r : EndRow). let u = text_to r.side k in first_body w16 u.come) (sym same) ∙ first in
-      let ds0 : ds ≡ at_place c (change_to (let x = q.x0 in x.side) body_taken) w.conns = e ∙ ap (λ (r : EndRow). at_place c (change_to r.side body_taken) w.conns) same in
-      subst (Kept laws notifying) (sym ((λ n. conns_after_saying (ds0 n) (q.row-is n) f.reply.say) ∙ ap (λ o. spoken_on (at_place c (change_to (let x = q.x0 in x.side) body_taken) w.conns) o (let x = q.x0 in x.side) f.reply.say) on0
-      ∙ place-twice c (change_to (let x = q.x0 in x.side) body_taken) (says (let x = q.x0 in x.side) f.reply.say) w.conns))
+      let ds0 : ds ≡ at_place c (change_to q.x0.side body_taken) w.conns = e ∙ ap (λ (r : EndRow). at_place c (change_to r.side body_taken) w.conns) same in
+      subst (Kept laws notifying) (sym ((λ n. conns_after_saying (ds0 n) (q.row-is n) f.reply.say) ∙ ap (λ o. spoken_on (at_place c (change_to q.x0.side body_taken) w.conns) o q.x0.side f.reply.say) on0
+      ∙ place-twice c (change_to q.x0.side body_taken) (says q.x0.side f.reply.say) w.conns))
       ((own-takes laws notifying) q.x0 q.e0 q.at-x q.at-e q.fits q.row-is c on0 k ak ng id body is first0)

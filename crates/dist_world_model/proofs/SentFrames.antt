@@ -1,23 +1,18 @@
 -- What a node sends is whole frames of messages that it may send.
-use Rattle.std.proofs.Common.{◌≡◌, ℕ, ◌^◌, ◌<◌, true, false, cond, List, [], ◌∷◌, length, Option, Ok, inr, inl, refl, sym, ◌∙◌, subst, arith, is_some, lit<}
-use Rattle.dist_names.specs.NodeName.{IsNodeName}
-use Rattle.dist_messages.specs.Spelling.{Fits, is_said_by}
+use Rattle.dist_world_model.proofs.Words.{ℕ, true, false, cond, List, [], Option, Ok, refl, sym, ◌∙◌, subst, arith, is_some, Side, Dialler}
+use Rattle.dist_world_model.proofs.Words.{Acceptor, Message, Setup, Form, announced_by, knows_six, status_text, greeting_text, challenge_text, tick_text}
+use Rattle.dist_world_model.proofs.Words.{NodeLaws, length, inl, inr, name_text, IsNodeName, is_said_by, Status}
+use Rattle.dist_core_setup.specs.Rules.{own_digest}
+use Rattle.dist_core_setup.specs.Saying.{CanBeSaid, ack_message, ack_text, complement_message, frame_of, frames_of_messages, new_challenge_message}
+use Rattle.dist_core_setup.specs.Saying.{new_name_message, old_challenge_message, old_name_message, reply_message, reply_text}
 use Rattle.dist_messages.specs.Canonical.{canonical}
 use Rattle.dist_messages.specs.Reading.{read}
-use Rattle.dist_messages.specs.declared.message.Side.{Side}
-use Rattle.dist_messages.specs.declared.message.Side.TheVariants.{Dialler, Acceptor}
-use Rattle.dist_messages.specs.declared.message.Status.{Status}
-use Rattle.dist_messages.specs.declared.message.Message.{Message}
-use Rattle.dist_messages.specs.declared.message.Message.TheVariants as message
-use Rattle.dist_core_setup.specs.declared.setup.Setup.{Setup}
-use Rattle.dist_messages.specs.declared.form.Form.{Form}
+use Rattle.dist_messages.specs.Spelling.{Fits}
+use Rattle.std.proofs.Common.{lit<, ◌≡◌, ◌^◌, ◌<◌, ◌&&◌, ◌∷◌}
 use Rattle.dist_messages.specs.declared.form.Form.TheVariants as form
-use Rattle.dist_core_setup.specs.Rules.{announced_by, knows_six, own_digest}
-use Rattle.dist_core_setup.specs.Saying.{CanBeSaid, frame_of, frames_of_messages, name_text, status_text, greeting_text, challenge_text, reply_text, ack_text, tick_text, new_challenge_message, old_challenge_message, complement_message, reply_message, ack_message, new_name_message, old_name_message}
-use Rattle.dist_world_model.proofs.WholeFrames.{Whole, whole-one, whole-append, whole-empty}
-use Rattle.dist_world_model.specs.Agreement.{both_six}
-use Rattle.dist_world_model.proofs.Wires.{MaySay, MayAnswer, Said, is_newer}
-use Rattle.dist_world_model.specs.NodeLaws.{NodeLaws}
+use Rattle.dist_messages.specs.declared.message.Message.TheVariants as message
+use Rattle.dist_world_model.proofs.WholeFrames.{Whole, whole-append, whole-empty, whole-one}
+use Rattle.dist_world_model.proofs.Wires.{MayAnswer, MaySay, Said, Voice, is_newer, voice}
 
 -- the setup's name is a name, and its numbers fit
 pub record IsFit (s : Setup) : Type 0 where
@@ -67,47 +62,46 @@ module _ (laws : NodeLaws) where
   -- ---- the dialling side
 
   module _ (s : Setup) (fit : IsFit s) (replied : Option ℕ) where
-    old-name-said : Whole (Said Dialler (MaySay s replied)) (frames_of_messages (old_name_message s ∷ []))
-    old-name-said = message-said laws Dialler (MaySay s replied) (old_name_message s) (laws.sayings.says_old_name _ _ fit.name) (let f = fit.flags in omega arith) (refl, refl)
+    old-name-said : Whole (Said Dialler (MaySay (voice s) replied)) (frames_of_messages (old_name_message s ∷ []))
+    old-name-said = message-said laws Dialler (MaySay (voice s) replied) (old_name_message s) (laws.sayings.says_old_name _ _ fit.name) (let f = fit.flags in omega arith) (refl, refl)
 
-    pub name-said : (o : Form) → Whole (Said Dialler (MaySay s replied)) (name_text s o)
+    pub name-said : (o : Form) → Whole (Said Dialler (MaySay (voice s) replied)) (name_text s o)
     name-said form.New =
-        elim (knows_six s) as (λ v. knows_six s ≡ v → Whole (Said Dialler (MaySay s replied)) (frames_of_messages (cond v (new_name_message s) (old_name_message s) ∷ []))) [
-          | true ↦ λ v. message-said laws Dialler (MaySay s replied) (new_name_message s) (laws.sayings.says_new_name _ _ _ fit.name) (fit.flags, fit.creation) (v, refl, refl, refl)
+        elim (knows_six s) as (λ v. knows_six s ≡ v → Whole (Said Dialler (MaySay (voice s) replied)) (frames_of_messages (cond v (new_name_message s) (old_name_message s) ∷ []))) [
+          | true ↦ λ v. message-said laws Dialler (MaySay (voice s) replied) (new_name_message s) (laws.sayings.says_new_name _ _ _ fit.name) (fit.flags, fit.creation) (v, refl, refl, refl)
           | false ↦ λ v. old-name-said
         ] refl
     name-said form.Old = old-name-said
     name-said form.Five = old-name-said
 
-    pub reply-said : (o : Form) (p : List ℕ) (fresh challenge : ℕ) → fresh < 2 ^ 32 → is_some replied ≡ true → Whole (Said Dialler (MaySay s replied)) (reply_text s o p fresh challenge)
-    reply-said form.New p fresh challenge f h = message-said laws Dialler (MaySay s replied) (reply_message s p fresh challenge) (laws.sayings.says_reply fresh _ (digest-length laws s p challenge)) (f, digest-length laws s p challenge) h
-    reply-said form.Old p fresh challenge f h = two-said laws Dialler (MaySay s replied) (complement_message s) (reply_message s p fresh challenge) (laws.sayings.says_complement _ _) ((let g = fit.flags in omega arith), fit.creation) (refl, refl) (laws.sayings.says_reply fresh _ (digest-length laws s p challenge)) (f, digest-length laws s p challenge) h
-    reply-said form.Five p fresh challenge f h = message-said laws Dialler (MaySay s replied) (reply_message s p fresh challenge) (laws.sayings.says_reply fresh _ (digest-length laws s p challenge)) (f, digest-length laws s p challenge) h
+    pub reply-said : (o : Form) (p : List ℕ) (fresh challenge : ℕ) → fresh < 2 ^ 32 → is_some replied ≡ true → Whole (Said Dialler (MaySay (voice s) replied)) (reply_text s o p fresh challenge)
+    reply-said form.New p fresh challenge f h = message-said laws Dialler (MaySay (voice s) replied) (reply_message s p fresh challenge) (laws.sayings.says_reply fresh _ (digest-length laws s p challenge)) (f, digest-length laws s p challenge) h
+    reply-said form.Old p fresh challenge f h = two-said laws Dialler (MaySay (voice s) replied) (complement_message s) (reply_message s p fresh challenge) (laws.sayings.says_complement _ _) ((let g = fit.flags in omega arith), fit.creation) (refl, refl) (laws.sayings.says_reply fresh _ (digest-length laws s p challenge)) (f, digest-length laws s p challenge) h
+    reply-said form.Five p fresh challenge f h = message-said laws Dialler (MaySay (voice s) replied) (reply_message s p fresh challenge) (laws.sayings.says_reply fresh _ (digest-length laws s p challenge)) (f, digest-length laws s p challenge) h
 
   -- ---- the accepting side
 
-  module _ (s other : Setup) (fit : IsFit s) (named rose : Option ℕ) where
+  module _ (s : Setup) (other : Voice) (fit : IsFit s) (named rose : Option ℕ) where
     abbrev May : Message → Type 0
-    May = MayAnswer s other named rose
+    May = MayAnswer (voice s) other named rose
 
     -- ---- the challenge, after a status or alone
 
     module _ (fresh : ℕ) (f : fresh < 2 ^ 32) (h : is_some named ≡ true) where
-      new-challenge-said : both_six s other ≡ true → Whole (Said Acceptor May) (frames_of_messages (new_challenge_message s fresh ∷ []))
+      new-challenge-said : (knows_six s && other.six) ≡ true → Whole (Said Acceptor May) (frames_of_messages (new_challenge_message s fresh ∷ []))
       new-challenge-said v = message-said laws Acceptor May (new_challenge_message s fresh) (laws.sayings.says_challenge _ fresh _ _ fit.name) (fit.flags, f, fit.creation) (h, v, refl, refl, refl)
 
-      old-challenge-said : both_six s other ≡ false → Whole (Said Acceptor May) (frames_of_messages (old_challenge_message s fresh ∷ []))
+      old-challenge-said : (knows_six s && other.six) ≡ false → Whole (Said Acceptor May) (frames_of_messages (old_challenge_message s fresh ∷ []))
       old-challenge-said v = message-said laws Acceptor May (old_challenge_message s fresh) (laws.sayings.says_old_challenge _ fresh _ fit.name) ((let g = fit.flags in omega arith), f) (h, v, refl, refl)
 
-      pub challenge-said : (o : Form) → both_six s other ≡ is_newer o → Whole (Said Acceptor May) (challenge_text s o fresh)
-      challenge-said form.New v = new-challenge-said v
-      challenge-said form.Old v = new-challenge-said v
+      pub challenge-said : (o : Form) → (knows_six s && other.six) ≡ is_newer o → Whole (Said Acceptor May) (challenge_text s o fresh)
       challenge-said form.Five v = old-challenge-said v
+      challenge-said o v = new-challenge-said v
 
     after-status : (k : Status) (m : Message) → is_said_by k Acceptor ≡ true → Whole (Said Acceptor May) (frames_of_messages (m ∷ [])) → Whole (Said Acceptor May) (frames_of_messages (message.Status k ∷ m ∷ []))
     after-status k m b w = whole-append (Said Acceptor May) (frame_of (message.Status k)) (frames_of_messages (m ∷ [])) (message-said laws Acceptor May (message.Status k) (laws.sayings.says_status Acceptor k b) tt tt) w
 
-    pub greeting-said : (k : Status) (fresh : ℕ) (o : Form) → is_said_by k Acceptor ≡ true → fresh < 2 ^ 32 → is_some named ≡ true → both_six s other ≡ is_newer o → Whole (Said Acceptor May) (greeting_text s k o fresh)
+    pub greeting-said : (k : Status) (fresh : ℕ) (o : Form) → is_said_by k Acceptor ≡ true → fresh < 2 ^ 32 → is_some named ≡ true → (knows_six s && other.six) ≡ is_newer o → Whole (Said Acceptor May) (greeting_text s k o fresh)
     greeting-said k fresh form.New b f h v = after-status k (new_challenge_message s fresh) b (new-challenge-said fresh f h v)
     greeting-said k fresh form.Old b f h v = after-status k (new_challenge_message s fresh) b (new-challenge-said fresh f h v)
     greeting-said k fresh form.Five b f h v = after-status k (old_challenge_message s fresh) b (old-challenge-said fresh f h v)

@@ -1,37 +1,27 @@
 -- An event that a running incarnation gets: the connections on which nothing is sent are wires still.
-use Rattle.std.proofs.Common.{◌≡◌, ℕ, ◌^◌, ◌<◌, true, false, cond, eqb, List, length, Option, Some, None, Ok, ◌⊎◌, inl, inr, refl, sym, ap, ◌∙◌, is_some, slice_get}
-use Rattle.std.specs.Option.{option_map}
-use Rattle.dist_messages.specs.declared.message.Side.TheVariants.{Dialler}
-use Rattle.dist_core.specs.declared.event.Event.{Event}
+use Rattle.std.specs.Prelude.{◌≡◌, ◌^◌, ◌<◌, ◌⊎◌}
+use Rattle.dist_world_model.proofs.Words.{ℕ, true, List, Option, Some, None, Ok, refl, sym, ap, ◌∙◌, slice_get, Side, Dialler, Acceptor, Event}
+use Rattle.dist_world_model.proofs.Words.{Effect, StepRow, EndRow, NodeLaws, length, inl, inr, at_place, given_by, mark, new_row, Life, Conn, row_of_life}
+use Rattle.dist_world_model.proofs.Words.{end_of_life, World, runs, not, rows_after, effect_of, after, life_after, same_Some}
 use Rattle.dist_core.specs.declared.event.Event.TheVariants as event
-use Rattle.dist_core.specs.declared.effect.Effect.{Effect}
-use Rattle.dist_core.specs.Step.{effect_of, after}
-use Rattle.dist_core.specs.Rows.{StepRow}
-use Rattle.dist_world_model.specs.Lists.{at_place, add_some}
-use Rattle.dist_world_model.specs.Rows.{EndRow, past, given_by, mark, rows_after, new_row}
-use Rattle.dist_world_model.specs.World.{World, Life, Conn, runs, row_of_life, end_of_life}
-use Rattle.dist_world_model.specs.Happenings.{life_after}
-use Rattle.dist_world_model.proofs.Places.{get-more}
+use Rattle.dist_world_model.proofs.AllWires.{Alike, AreWired, Loc, WireAt, alike-refl, conns-same, hush-refl, linked-same, voice-refl, wire-alike}
+use Rattle.dist_world_model.proofs.ConnectionRows.{Stays, VoiceStays, Was, row_of}
 use Rattle.dist_world_model.proofs.EndStates.{AreBeside}
-use Rattle.dist_world_model.proofs.StepEffects.{Deed, is_given, deed_of}
-use Rattle.dist_world_model.proofs.UnchangedRows.{get-row}
-use Rattle.dist_world_model.proofs.Wires.{Quiet, Hushed, quiet-refl, named_of, replied_of, rose_of}
+use Rattle.dist_world_model.proofs.IncarnationFacts.{IsLife}
+use Rattle.dist_world_model.proofs.Lookups.{changed-at, far, life-there, placed, row_in, voice_in, voice_of}
+use Rattle.dist_world_model.proofs.OtherRows.{end-hushed, row-quiet}
+use Rattle.dist_world_model.proofs.OwnSide.{IsPast}
 use Rattle.dist_world_model.proofs.SentFrames.{IsFit}
-use Rattle.dist_world_model.proofs.OtherRows.{row-quiet, end-hushed}
-use Rattle.dist_world_model.proofs.IncarnationFacts.{IsLife, before-map}
-use Rattle.dist_world_model.proofs.Lookups.{row_in, end_in, setup_in, setup_of, far, changed-at, placed, life-there}
-use Rattle.dist_world_model.proofs.ConnectionRows.{Linked, Stays, Was, SetupStays}
-use Rattle.dist_world_model.proofs.AllWires.{WireAt, Wires, Alike, alike-refl, wire-alike, conns-same, linked-same, was-refl, stays-refl, setup-refl, hush-refl}
-use Rattle.dist_world_model.specs.NodeLaws.{NodeLaws}
-use Rattle.dist_world_model.proofs.GrowingRows.{add-keeps}
+use Rattle.dist_world_model.proofs.StepEffects.{Deed, deed_of, is_given}
+use Rattle.dist_world_model.proofs.UnchangedRows.{Came, Fresh, Old, came, row-then}
+use Rattle.dist_world_model.proofs.Wires.{Hushed, Quiet, marks_of, quiet-refl}
 
 -- an event that a running incarnation gets, in a world all of whose connections are wires
 pub record Notifying : Type 0 where
   pub w : World
   pub lives : (i : ℕ) (l : Life) → slice_get w.lives i ≡ Some l → IsLife w.clock l
   pub fit : (i : ℕ) (l : Life) → slice_get w.lives i ≡ Some l → IsFit l.node.setup
-  pub linked : Linked w.lives w.conns
-  pub wires : Wires w.lives w.conns
+  pub wired : AreWired w.lives w.conns
   pub i : ℕ
   pub old : Life
   pub v : Event
@@ -43,7 +33,7 @@ pub record Notifying : Type 0 where
   pub ok : effect_of old.node v fresh ≡ Ok f
 
 module _ (laws : NodeLaws) (notifying : Notifying) where
-  open notifying use {w, lives, fit, linked, wires, i, old, v, fresh, f, small, at, live, ok}
+  open notifying use {w, lives, fit, wired, i, old, v, fresh, f, small, at, live, ok}
 
   abbrev pub now : Life
   now = life_after w.clock v f.reply (after old.node v f) old
@@ -61,9 +51,9 @@ module _ (laws : NodeLaws) (notifying : Notifying) where
   life = lives i old at
 
   pub deed : Deed old.node v f
-  deed = deed_of laws old.node life.legal v fresh f ok
+  deed = deed_of laws old.node v fresh f ok
 
-  pub beside : AreBeside (let n = old.node in n.ends) old.rows
+  pub beside : AreBeside old.node.ends old.rows
   beside = life.beside live
 
   pub the-row : StepRow old.node v fresh f
@@ -72,46 +62,39 @@ module _ (laws : NodeLaws) (notifying : Notifying) where
   pub get-now : slice_get ls' i ≡ Some now
   get-now = placed i (λ (l : Life). now) w.lives old at
 
-  pub notify-setups : (j : ℕ) → SetupStays (setup_in w.lives j) (setup_in ls' j)
-  notify-setups j = changed-at setup_of SetupStays setup-refl i (λ (l : Life). now) w.lives old at j (λ e s h. h)
+  pub notify-voices : (j : ℕ) → VoiceStays (voice_in w.lives j) (voice_in ls' j)
+  notify-voices j = changed-at voice_of VoiceStays voice-refl i (λ (l : Life). now) w.lives old at j (λ e s h. h)
 
   -- ---- rows stay with their connections
 
   row-stays : (p : ℕ) → Stays (slice_get old.rows p) (slice_get rows' p)
-  row-stays p c x e h = (mark w.clock f.reply p x, get-row w.clock v f.reply old.rows p ∙ ap (option_map (mark w.clock f.reply p)) (add-keeps old.rows (given_by w.clock v) p x e), refl, h)
+  row-stays p c x e h = (mark w.clock f.reply p x, row-then w.clock v f.reply old.rows p x e, refl, h)
 
-  row-was : ((link : ℕ) → v ≡ event.Incoming link → ⊥) → (p : ℕ) → Was (slice_get old.rows p) (slice_get rows' p)
-  row-was not p c y e h =
-      let g = before-map (mark w.clock f.reply p) (slice_get (add_some old.rows (given_by w.clock v)) p) y (sym (get-row w.clock v f.reply old.rows p) ∙ e) in
-      let on : (let m = g.0 in m.conn) ≡ Some c = ap (λ (r : EndRow). r.conn) (sym g.2) ∙ h in
-      (g.0, by v refl g.0 on g.1, ap (λ (r : EndRow). r.side) (sym g.2), on)
+  -- a row that was not given out now was there
+  pub row-was : (p : ℕ) → (length old.rows ≡ p → (link : ℕ) → v ≡ event.Incoming link → ⊥) → Was (slice_get old.rows p) (slice_get rows' p)
+  row-was p not c y e h = by (came w.clock v f.reply old.rows p y e)
     where
-      by : (u : Event) → v ≡ u → (m : EndRow) → m.conn ≡ Some c → slice_get (add_some old.rows (given_by w.clock v)) p ≡ Some m → slice_get old.rows p ≡ Some m
-      by u is m on q = on-event u is (ap (λ z. slice_get (add_some old.rows (given_by w.clock z)) p) (sym is) ∙ q)
+      by : Came w.clock v f.reply old.rows p y → (x : EndRow) × (slice_get old.rows p ≡ Some x) × (x.side ≡ y.side) × (x.conn ≡ Some c)
+      by (Old x ax z) = (x, ax, ap (λ (r : EndRow). r.side) (sym z), ap (λ (r : EndRow). r.conn) (sym z) ∙ h)
+      by (Fresh side q link long g z) = absurd (given-conn v refl g)
         where
-          on-event : (u : Event) → v ≡ u → slice_get (add_some old.rows (given_by w.clock u)) p ≡ Some m → slice_get old.rows p ≡ Some m
-          on-event (event.Incoming link) is q = absurd (not link is)
-          on-event (event.Dial a o) is q = elim (eqb (length old.rows) p) as (λ b. cond b (Some (new_row Dialler (Some a) None w.clock)) (slice_get old.rows p) ≡ Some m → slice_get old.rows p ≡ Some m) [
-            | true ↦ λ z. absurd (let s : new_row Dialler (Some a) None w.clock ≡ m = cc in let n : None ≡ Some c = ap (λ (r : EndRow). r.conn) s ∙ on in cc)
-            | false ↦ λ z. z
-          ] (sym (get-more old.rows (new_row Dialler (Some a) None w.clock) p) ∙ q)
-          on-event (event.Opened id link) is q = q
-          on-event (event.Frame id body) is q = q
-          on-event (event.Lost id y) is q = q
-          on-event (event.Tick id) is q = q
+          given-conn : (u : Event) → v ≡ u → given_by w.clock u ≡ Some (new_row side q link w.clock) → ⊥
+          given-conn (event.Incoming k) is g = not (sym long) k is
+          given-conn (event.Dial a o) is g = let n : None ≡ Some c = ap (λ (r : EndRow). r.conn) (same_Some _ _ g) ∙ ap (λ (r : EndRow). r.conn) (sym z) ∙ h in cc
+          given-conn u is g = cc
 
   pub all-stay : (j p : ℕ) → Stays (row_in w.lives j p) (row_in ls' j p)
-  all-stay j p = changed-at (λ o. row_of_life o p) Stays stays-refl i (λ (l : Life). now) w.lives old at j (λ e. row-stays p)
+  all-stay j p = changed-at (λ o. row_of_life o p) Stays (λ o c x e h. (x, e, refl, h)) i (λ (l : Life). now) w.lives old at j (λ e. row-stays p)
 
   pub all-were : ((link : ℕ) → v ≡ event.Incoming link → ⊥) → (j p : ℕ) → Was (row_in w.lives j p) (row_in ls' j p)
-  all-were not j p = changed-at (λ o. row_of_life o p) Was was-refl i (λ (l : Life). now) w.lives old at j (λ e. row-was not p)
+  all-were not j p = changed-at (λ o. row_of_life o p) Was (λ o c x e h. (x, e, refl, h)) i (λ (l : Life). now) w.lives old at j (λ e. row-was p (λ long. not))
 
   -- ---- what is quiet
 
-  pub loc : (j p : ℕ) → (i ≡ j → me ≡ p → is_given v ≡ true) → Quiet (row_in w.lives j p) (row_in ls' j p) × Hushed (end_in w.lives j p) (end_in ls' j p)
+  pub loc : (j p : ℕ) → (i ≡ j → me ≡ p → is_given v ≡ true) → Loc w.lives ls' j p
   loc j p h = (
-    changed-at (λ o. row_of_life o p) Quiet quiet-refl i (λ (l : Life). now) w.lives old at j (λ e. (row-quiet laws) old.node life.legal old.rows beside w.clock v fresh f ok p (h e)),
-    changed-at (λ o. end_of_life o p) Hushed hush-refl i (λ (l : Life). now) w.lives old at j (λ e. (end-hushed laws) old.node life.legal old.rows beside w.clock v fresh f ok p (h e)),
+    changed-at (λ o. row_of_life o p) Quiet quiet-refl i (λ (l : Life). now) w.lives old at j (λ e. row-quiet laws old.node life.legal v fresh f ok p (h e) old.rows w.clock),
+    changed-at (λ o. end_of_life o p) Hushed hush-refl i (λ (l : Life). now) w.lives old at j (λ e. end-hushed laws old.node life.legal v fresh f ok p (h e)),
   )
 
   -- a row of another connection
@@ -119,40 +102,36 @@ module _ (laws : NodeLaws) (notifying : Notifying) where
   own-row j p x e q h = ap (slice_get old.rows) q ∙ sym (ap (λ o. row_of_life o p) at) ∙ ap (λ k. row_in w.lives k p) e ∙ h
 
   pub other-wire : (d : ℕ) (k h : Conn) → slice_get w.conns d ≡ Some k → Alike w.lives k h → ((y : ℕ) → h.accepted ≡ Some y → (k.accepted ≡ Some y) ⊎ (is_given v ≡ true)) → ((x : EndRow) → slice_get old.rows me ≡ Some x → x.conn ≡ Some d → is_given v ≡ true) → WireAt ls' h
-  other-wire d k h ak a far-was free = wire-alike w.lives ls' w.conns notify-setups linked wires d k h ak a (record {
-    row = (let g = dialled in g.0);
-    end_ = (let g = dialled in g.1);
-    far_row = λ y e. (let g = accepted y (far-was y e) in g.0);
-    far_end = λ y e. (let g = accepted y (far-was y e) in g.1);
-  })
+  other-wire d k h ak a far-was free = wire-alike w.lives ls' w.conns notify-voices wired.0 wired.1 d k h ak a
+      (let r = wired.0.dialled d k ak in loc k.life k.dialler (λ e q. free r.row (own-row k.life k.dialler r.row e q r.there) r.conn)) (λ y e. accepted y (far-was y e))
     where
-      dialled : Quiet (row_in w.lives k.life k.dialler) (row_in ls' k.life k.dialler) × Hushed (end_in w.lives k.life k.dialler) (end_in ls' k.life k.dialler)
-      dialled = let r = linked.dialled d k ak in loc k.life k.dialler (λ e q. free r.row (own-row k.life k.dialler r.row e q r.there) r.conn)
-
-      accepted : (y : ℕ) → (k.accepted ≡ Some y) ⊎ (is_given v ≡ true) → Quiet (row_in w.lives k.target y) (row_in ls' k.target y) × Hushed (end_in w.lives k.target y) (end_in ls' k.target y)
-      accepted y (inl s) = let r = linked.accepted d y k ak s in loc k.target y (λ e q. free r.row (own-row k.target y r.row e q r.there) r.conn)
+      accepted : (y : ℕ) → (k.accepted ≡ Some y) ⊎ (is_given v ≡ true) → Loc w.lives ls' k.target y
+      accepted y (inl s) = let r = wired.0.accepted d y k ak s in loc k.target y (λ e q. free r.row (own-row k.target y r.row e q r.there) r.conn)
       accepted y (inr g) = loc k.target y (λ e q. g)
 
   -- ---- nothing is sent on a connection
 
   abbrev pub Kept : List Conn → Type 0
-  Kept cs' = Linked ls' cs' × Wires ls' cs'
+  Kept cs' = AreWired ls' cs'
 
   pub silent : ((link : ℕ) → v ≡ event.Incoming link → ⊥) → ((c : ℕ) (x : EndRow) → slice_get old.rows me ≡ Some x → x.conn ≡ Some c → is_given v ≡ true) → Kept w.conns
   silent not free = (
-    linked-same w.lives ls' w.conns w.conns all-stay (all-were not) notify-setups (conns-same w.conns) linked,
+    linked-same w.lives ls' w.conns w.conns all-stay (all-were not) notify-voices (conns-same w.conns) wired.0,
     λ c k ak. other-wire c k k ak (alike-refl w.lives k) (λ y e. inl e) (free c),
   )
 
-  -- ---- the past of what stands elsewhere
-
-  pub below-at : (j p : ℕ) → (past w.clock (named_of (row_in w.lives j p)) ≡ is_some (named_of (row_in w.lives j p))) × (past w.clock (rose_of (row_in w.lives j p)) ≡ is_some (rose_of (row_in w.lives j p))) × (past w.clock (replied_of (row_in w.lives j p)) ≡ is_some (replied_of (row_in w.lives j p)))
+  -- the numbers of each row are past
+  below-at : (j p : ℕ) → IsPast w.clock (marks_of (row_in w.lives j p))
   below-at j p = by (row_in w.lives j p) refl
     where
-      by : (o : Option EndRow) → row_in w.lives j p ≡ o → (past w.clock (named_of o) ≡ is_some (named_of o)) × (past w.clock (rose_of o) ≡ is_some (rose_of o)) × (past w.clock (replied_of o) ≡ is_some (replied_of o))
+      by : (o : Option EndRow) → row_in w.lives j p ≡ o → IsPast w.clock (marks_of o)
       by None e = (refl, refl, refl)
-      by (Some x) e = let g = life-there w.lives j p x e in let l = lives j g.0 g.1 in let b = l.below p x g.2 in (b.named, b.rose, b.replied)
+      by (Some x) e = let g = life-there w.lives j p x e in let l = lives j g.0 g.1 in let b = l.below p x g.2 in (b.named, b.replied, b.rose)
 
-  pub far-below : (j : ℕ) (o : Option ℕ) → (past w.clock (named_of (far (row_in w.lives j) o)) ≡ is_some (named_of (far (row_in w.lives j) o))) × (past w.clock (rose_of (far (row_in w.lives j) o)) ≡ is_some (rose_of (far (row_in w.lives j) o)))
-  far-below j None = (refl, refl)
-  far-below j (Some y) = let g = below-at j y in (g.0, g.1)
+  pub past-marks : (side : Side) (k : Conn) → IsPast w.clock (marks_of (row_of w.lives side k))
+  past-marks Dialler k = below-at k.life k.dialler
+  past-marks Acceptor k = by k.accepted
+    where
+      by : (o : Option ℕ) → IsPast w.clock (marks_of (far (row_in w.lives k.target) o))
+      by None = (refl, refl, refl)
+      by (Some y) = below-at k.target y

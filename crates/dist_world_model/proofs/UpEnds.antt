@@ -1,26 +1,19 @@
 -- An end that counts its peer as up: its connection, and the record that it keeps.
-use Rattle.std.proofs.Common.{◌≡◌, ℕ, true, false, not, Option, Some, None, refl, sym, ap, ◌∙◌, subst, is_some, slice_get}
-use Rattle.std.proofs.lemmas.Bool.{false≢true}
-use Rattle.dist_messages.specs.declared.message.Side.{Side}
-use Rattle.dist_messages.specs.declared.message.Side.TheVariants.{Dialler, Acceptor}
-use Rattle.dist_core_setup.specs.declared.setup.Setup.{Setup}
-use Rattle.dist_core_ends.specs.declared.known.End.{End}
+use Rattle.std.specs.Prelude.{◌≡◌}
+use Rattle.dist_world_model.proofs.Words.{ℕ, true, false, Option, Some, None, refl, sym, ap, ◌∙◌, subst, is_some, slice_get, Side, Dialler, Acceptor}
+use Rattle.dist_world_model.proofs.Words.{Setup, End, EndRow, past, NodeLaws, Life, Conn, row_of_life, end_of_life, World, runs, IsUp, not, false≢true}
+use Rattle.dist_core_setup.specs.Rules.{announced_by, announced_in}
 use Rattle.dist_core_ends.specs.declared.known.End.TheVariants as ends
-use Rattle.dist_core_setup.specs.Rules.{announced_in, announced_by}
-use Rattle.dist_world_model.specs.Rows.{EndRow, past, is_dialler}
-use Rattle.dist_world_model.specs.World.{World, Life, Conn, runs, row_of_life, end_of_life}
-use Rattle.dist_world_model.specs.Agreement.{bare, IsUp}
+use Rattle.dist_world_model.proofs.ConnectionRows.{ConnOf, IsEndOf, RowOf, end_of, row_of}
+use Rattle.dist_world_model.proofs.EndPairs.{IsOpen, Line, Seat}
+use Rattle.dist_world_model.proofs.EndStates.{Beside, Fits, Stand, is_dialler, open-row}
 use Rattle.dist_world_model.proofs.HappeningEffects.{is-running}
-use Rattle.dist_world_model.proofs.EndStates.{Stand, Fits, Beside}
+use Rattle.dist_world_model.proofs.Lookups.{end_in, far, life-there, row_in, voice-there, voice_in, voice_of}
+use Rattle.dist_world_model.proofs.PastMoments.{past-is, past-some}
 use Rattle.dist_world_model.proofs.WholeFrames.{on_way}
-use Rattle.dist_world_model.proofs.Wires.{IsWire, named_of, replied_of, rose_of, peer_of}
-use Rattle.dist_world_model.proofs.EventEnds.{open-row}
-use Rattle.dist_world_model.proofs.IncarnationSpans.{up-open}
+use Rattle.dist_world_model.proofs.Wires.{IsEnd, Voice, marks_of, peer_of, voice}
+use Rattle.dist_world_model.proofs.WithEvent.{up-open}
 use Rattle.dist_world_model.proofs.WorldFacts.{IsKept}
-use Rattle.dist_world_model.proofs.Lookups.{row_in, end_in, setup_in, setup_of, far, life-there, setup-there}
-use Rattle.dist_world_model.proofs.ConnectionRows.{RowOf, ConnOf, IsEndOf}
-use Rattle.dist_world_model.proofs.EndPairs.{Seat, Line, IsOpen}
-use Rattle.dist_world_model.specs.NodeLaws.{NodeLaws}
 
 pub announced-is : (s : Setup) → announced_by s ≡ announced_in s.version s.flags.0
 unfolding announced_by
@@ -29,10 +22,6 @@ announced-is s = refl
 is-some : (o : Option ℕ) → is_some o ≡ true → (n : ℕ) × (o ≡ Some n)
 is-some None h = absurd (false≢true h)
 is-some (Some n) h = (n, refl)
-
-pub past-some : (t : ℕ) (o : Option ℕ) → past t o ≡ true → (n : ℕ) × (o ≡ Some n)
-past-some t None h = absurd (false≢true h)
-past-some t (Some n) h = (n, refl)
 
 one-some : (o : Option ℕ) (i j : ℕ) → o ≡ Some i → o ≡ Some j → i ≡ j
 one-some o i j a b = let z : Some i ≡ Some j = sym a ∙ b in cc
@@ -43,39 +32,41 @@ module _ (laws : NodeLaws) where
 
     pub record LineOf (c : ℕ) (k : Conn) : Type 0 where
       pub line : Line w c
-      pub life_is : (let s = line in let x = s.dialled in x.place) ≡ k.life
-      pub id_is : (let s = line in let x = s.dialled in x.id) ≡ k.dialler
-      pub target_is : (let s = line in let y = s.accepted in y.place) ≡ k.target
-      pub accepted_is : k.accepted ≡ Some (let s = line in let y = s.accepted in y.id)
+      pub life_is : line.dialled.place ≡ k.life
+      pub id_is : line.dialled.id ≡ k.dialler
+      pub target_is : line.accepted.place ≡ k.target
+      pub accepted_is : k.accepted ≡ Some line.accepted.id
 
-    line-of : (c : ℕ) (k : Conn) → slice_get w.conns c ≡ Some k → (r : ℕ) → replied_of (row_in w.lives k.life k.dialler) ≡ Some r → LineOf c k
-    line-of c k ak r e = by k.accepted refl (wire.replies r e)
+    line-of : (c : ℕ) (k : Conn) → slice_get w.conns c ≡ Some k → (r : ℕ) → (marks_of (row_in w.lives k.life k.dialler)).replied ≡ Some r → LineOf c k
+    line-of c k ak r e = by k.accepted refl (near.follows.0 r e)
       where
         d : RowOf w.lives Dialler k.life k.dialler c
-        d = let l = h.linked in l.dialled c k ak
+        d = h.wired.0.dialled c k ak
 
-        li : (l : Life) × (slice_get w.lives k.life ≡ Some l) × (slice_get l.rows k.dialler ≡ Some (let g = d in g.row))
+        li : (l : Life) × (slice_get w.lives k.life ≡ Some l) × (slice_get l.rows k.dialler ≡ Some d.row)
         li = let g = d in life-there w.lives k.life k.dialler g.row g.there
 
-        target : (m : Setup) × (setup_in w.lives k.target ≡ Some m)
-        target = let l = h.linked in l.target c k ak
+        target : (m : Voice) × (voice_in w.lives k.target ≡ Some m)
+        target = h.wired.0.target c k ak
 
-        lj : (l : Life) × (slice_get w.lives k.target ≡ Some l) × (bare l.node.setup ≡ (let g = target in g.0))
-        lj = let g = target in setup-there w.lives k.target g.0 g.1
+        lj : (l : Life) × (slice_get w.lives k.target ≡ Some l) × (voice l.node.setup ≡ target.0)
+        lj = let g = target in voice-there w.lives k.target g.0 g.1
 
-        wire : IsWire (let g = li in let l = g.0 in bare l.node.setup) (let g = lj in let l = g.0 in bare l.node.setup) (on_way k.there) (on_way k.back) (row_in w.lives k.life k.dialler) (far (row_in w.lives k.target) k.accepted) (end_in w.lives k.life k.dialler) (far (end_in w.lives k.target) k.accepted)
-        wire = h.wires c k ak _ _ (let g = li in ap setup_of g.1) (let g = lj in ap setup_of g.1)
+        near : IsEnd Dialler (voice li.0.node.setup) (voice lj.0.node.setup) (on_way k.there) (row_of w.lives Dialler k) (row_of w.lives Acceptor k) (end_of w.lives Dialler k)
+        near = let g = h.wired.1 c k ak in g.0 _ _ (ap voice_of li.1) (ap voice_of lj.1)
 
-        by : (o : Option ℕ) → k.accepted ≡ o → past r (named_of (far (row_in w.lives k.target) k.accepted)) ≡ true → LineOf c k
-        by None a p = absurd (false≢true (ap (λ o. past r (named_of (far (row_in w.lives k.target) o))) (sym a) ∙ p))
+        away-end : IsEnd Acceptor (voice lj.0.node.setup) (voice li.0.node.setup) (on_way k.back) (row_of w.lives Acceptor k) (row_of w.lives Dialler k) (end_of w.lives Acceptor k)
+        away-end = let g = h.wired.1 c k ak in g.1 _ _ (ap voice_of lj.1) (ap voice_of li.1)
+
+        by : (o : Option ℕ) → k.accepted ≡ o → past r (marks_of (far (row_in w.lives k.target) k.accepted)).named ≡ true → LineOf c k
+        by None a p = absurd (false≢true (ap (λ o. past r (marks_of (far (row_in w.lives k.target) o)).named) (sym a) ∙ p))
         by (Some y) a p =
-            let q : RowOf w.lives Acceptor k.target y c = (let l = h.linked in l.accepted c y k ak a) in
+            let q : RowOf w.lives Acceptor k.target y c = (h.wired.0.accepted c y k ak a) in
             let far-is : far (row_in w.lives k.target) k.accepted ≡ Some q.row = ap (far (row_in w.lives k.target)) a ∙ q.there in
-            let p' : past r (let z = q.row in z.named) ≡ true = ap (λ o. past r (named_of o)) (sym far-is) ∙ p in
-            let nm = past-some r (let z = q.row in z.named) p' in
+            let p' : past r q.row.named ≡ true = ap (λ o. past r (marks_of o).named) (sym far-is) ∙ p in
+            let nm = past-some r q.row.named p' in
             let gi = li in let gj = lj in let gd = d in
-            let near : row_in w.lives k.life k.dialler ≡ Some gd.row = gd.there in
-            let wi = wire in
+            let at-near : row_in w.lives k.life k.dialler ≡ Some gd.row = gd.there in
             record {
               line = record {
                 dialled = record { place = k.life; id = k.dialler; life = gi.0; row = gd.row; at_ = gi.1; there = gi.2; side_is = gd.side_is; conn = gd.conn };
@@ -83,11 +74,11 @@ module _ (laws : NodeLaws) where
                 named = nm.0;
                 replied = r;
                 named_is = nm.1;
-                replied_is = ap replied_of (sym near) ∙ e;
-                first = Rattle.dist_world_model.proofs.PastMoments.past-is r nm.0 (ap (past r) (sym nm.1) ∙ p');
-                rises = λ u ro. Rattle.dist_world_model.proofs.PastMoments.past-is u r (ap (past u) (sym e) ∙ wi.rises u (ap rose_of far-is ∙ ro));
-                peer_back = ap peer_of (sym near) ∙ wi.peer_back (ap is_some e);
-                peer_there = ap peer_of (sym far-is) ∙ wi.peer_there (ap (λ o. is_some (named_of o)) far-is ∙ ap is_some nm.1);
+                replied_is = ap (λ o. (marks_of o).replied) (sym at-near) ∙ e;
+                first = nm.2;
+                rises = λ u ro. past-is u r (ap (past u) (sym e) ∙ away-end.follows u (ap (λ o. (marks_of o).rose) far-is ∙ ro));
+                peer_back = ap peer_of (sym at-near) ∙ near.peer (ap is_some e);
+                peer_there = ap peer_of (sym far-is) ∙ away-end.peer (ap (λ o. is_some (marks_of o).named) far-is ∙ ap is_some nm.1);
               };
               life_is = refl;
               id_is = refl;
@@ -106,7 +97,7 @@ module _ (laws : NodeLaws) where
 
       fits : Fits (ends.Up x.kept) x.row
       fits =
-          let s = h.seen x.place x.life x.lives in let t = s.timed in let l = t.life in
+          let s = h.seen x.place x.life x.lives in let l = s.0 in
           let b : Beside (slice_get own.node.ends x.id) (slice_get own.rows x.id) = (let r = running-is in l.beside r.1 x.id) in
           let P : Option End → Option EndRow → Type 0 = λ o q. Beside o q in
           subst (P (Some (ends.Up x.kept))) x.beside (subst (λ o. P o (slice_get own.rows x.id)) x.is_up b)
@@ -124,7 +115,7 @@ module _ (laws : NodeLaws) where
       rose-is = is-some x.row.rose (sym (ap (λ (s : Stand). s.rose) stand-is))
 
       pub conn-is : ConnOf w.conns x.row.side x.place x.id c
-      conn-is = let l = h.linked in l.only x.place x.id c x.row (ap (λ o. row_of_life o x.id) x.lives ∙ x.beside) x.on
+      conn-is = h.wired.0.only x.place x.id c x.row (ap (λ o. row_of_life o x.id) x.lives ∙ x.beside) x.on
 
       row-is : (j p : ℕ) → x.place ≡ j → x.id ≡ p → row_in w.lives j p ≡ Some x.row
       row-is j p e q = (λ n. row_in w.lives (sym e n) (sym q n)) ∙ ap (λ o. row_of_life o x.id) x.lives ∙ x.beside
@@ -132,8 +123,8 @@ module _ (laws : NodeLaws) where
       pub end-is : (j p : ℕ) → x.place ≡ j → x.id ≡ p → end_in w.lives j p ≡ Some (ends.Up x.kept)
       end-is j p e q = (λ n. end_in w.lives (sym e n) (sym q n)) ∙ ap (λ o. end_of_life o x.id) x.lives ∙ x.is_up
 
-      pub setup-is : (j : ℕ) → x.place ≡ j → setup_in w.lives j ≡ Some (bare own.node.setup)
-      setup-is j e = ap (setup_in w.lives) (sym e) ∙ ap setup_of x.lives
+      pub setup-is : (j : ℕ) → x.place ≡ j → voice_in w.lives j ≡ Some (voice own.node.setup)
+      setup-is j e = ap (voice_in w.lives) (sym e) ∙ ap voice_of x.lives
 
       -- the seat of this end
       pub record Sits {side : Side} {d : ℕ} (s : Seat w side d) : Type 0 where
@@ -164,15 +155,16 @@ module _ (laws : NodeLaws) where
           by Dialler s e =
               let rp : is_some x.row.replied ≡ true = sym (ap (λ (z : Stand). z.replied) stand-is) ∙ ap is_dialler s in
               let r = is-some x.row.replied rp in
-              let g = line-of c k ak r.0 (ap replied_of (row-is k.life k.dialler e.0 e.1) ∙ r.1) in
+              let g = line-of c k ak r.0 (ap (λ o. (marks_of o).replied) (row-is k.life k.dialler e.0 e.1) ∙ r.1) in
               stand-dialled k e.0 e.1 g
           by Acceptor s e =
-              let d = (let l = h.linked in l.dialled c k ak) in
+              let d = h.wired.0.dialled c k ak in
               let li = life-there w.lives k.life k.dialler d.row d.there in
-              let wi = h.wires c k ak _ _ (ap setup_of li.1) (setup-is k.target e.0) in
+              let wi = h.wired.1 c k ak in
+              let away = wi.1 _ _ (setup-is k.target e.0) (ap voice_of li.1) in
               let u = rose-is in
               let far-is : far (row_in w.lives k.target) k.accepted ≡ Some x.row = ap (far (row_in w.lives k.target)) e.1 ∙ row-is k.target x.id e.0 refl in
-              let far-rose : rose_of (far (row_in w.lives k.target) k.accepted) ≡ Some u.0 = ap rose_of far-is ∙ u.1 in
-              let r = past-some u.0 (replied_of (row_in w.lives k.life k.dialler)) (wi.rises u.0 far-rose) in
+              let far-rose : (marks_of (far (row_in w.lives k.target) k.accepted)).rose ≡ Some u.0 = ap (λ o. (marks_of o).rose) far-is ∙ u.1 in
+              let r = past-some u.0 (marks_of (row_in w.lives k.life k.dialler)).replied (away.follows u.0 far-rose) in
               let g = line-of c k ak r.0 r.1 in
               stand-accepted k e.0 e.1 g

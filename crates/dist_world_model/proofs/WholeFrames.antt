@@ -1,14 +1,14 @@
 -- Whole frames: what is sent, delivered and taken.
-use Rattle.std.proofs.Common.{◌≡◌, ℕ, ◌^◌, ◌<◌, ◌≤◌, true, false, cond, leb, List, [], ◌∷◌, ◌++◌, length, take, drop, Some, None, refl, sym, ap, ◌∙◌, subst, arith, append_assoc, length-append}
-use Rattle.std.proofs.lemmas.List.{take-append-le, take-append-drop, drop-append-le, append-nil}
-use Rattle.std.proofs.lemmas.Bool.{leb-true, and_parts}
+use Rattle.dist_world_model.proofs.Words.{ℕ, true, false, cond, List, [], Some, None, refl, sym, ap, ◌∙◌, subst, arith, length, append-nil}
+use Rattle.dist_world_model.proofs.Words.{w16, first_body, after_delivery, body_taken, Text, more_said, AllByRecursion, and_parts}
+use Rattle.dist_frames.specs.Stream.{behind, body_frame, front, has_first, head}
+use Rattle.std.proofs.Common.{append_assoc, drop, leb, length-append, take, ◌≡◌, ◌^◌, ◌<◌, ◌++◌, ◌≤◌, ◌∷◌}
+use Rattle.std.proofs.Math.Seq.{drop-append_seam, take-append_seam}
+use Rattle.std.proofs.lemmas.Bool.{leb-true}
+use Rattle.std.proofs.lemmas.List.{drop-append-le, take-append-drop, take-append-le}
 use Rattle.std.proofs.lemmas.Nat.{from_be_bytes-to_be_bytes_2}
-use Rattle.std.proofs.Math.Seq.{take-append_seam, drop-append_seam}
-use Rattle.std.specs.Int.{w16, from_be_bytes, to_be_bytes}
-use Rattle.std.specs.List.{flat_map, AllByRecursion}
-use Rattle.dist_frames.specs.Stream.{body_frame, head, has_first, front, behind, first_body}
-use Rattle.dist_world_model.specs.World.{Text}
-use Rattle.dist_world_model.specs.Delivery.{more_said, after_delivery, body_taken}
+use Rattle.std.specs.Int.{from_be_bytes, to_be_bytes}
+use Rattle.std.specs.List.{flat_map}
 
 -- a body that fits a frame, and of which P holds
 abbrev pub Fine : (List ℕ → Type 0) → List ℕ → Type 0

@@ -1,114 +1,84 @@
 -- All connections are wires still, where a node begins, ends or changes its setup, or bytes come.
-use Rattle.std.proofs.Common.{◌≡◌, ℕ, List, [], ◌∷◌, ◌++◌, Option, Some, None, inl, refl, sym, ap, ◌∙◌, subst, slice_get}
-use Rattle.std.specs.Option.{option_map}
-use Rattle.dist_messages.specs.declared.message.Side.{Side}
-use Rattle.dist_messages.specs.declared.message.Side.TheVariants.{Dialler, Acceptor}
-use Rattle.dist_core_setup.specs.declared.setup.Setup.{Setup}
-use Rattle.dist_core.specs.declared.changing.Change.{Change}
+use Rattle.std.specs.Prelude.{◌≡◌, ◌++◌, ◌∷◌}
+use Rattle.dist_world_model.proofs.Words.{ℕ, List, [], Option, Some, None, refl, sym, ap, ◌∙◌, subst, slice_get, Side, Dialler, Acceptor, Setup, EndRow}
+use Rattle.dist_world_model.proofs.Words.{at_place, Life, Conn, row_of_life, end_of_life, bare, text_to, option_map, shut_row, shut_all}
+use Rattle.dist_world_model.proofs.Words.{Change, after_delivery, change_to, setup_after, same_Some}
 use Rattle.dist_core.specs.declared.changing.Change.TheVariants as change
-use Rattle.dist_core.specs.Changing.{after_change, setup_after}
-use Rattle.dist_world_model.specs.Lists.{at_place}
-use Rattle.dist_world_model.specs.Rows.{EndRow}
-use Rattle.dist_world_model.specs.World.{Life, Conn, row_of_life, end_of_life}
-use Rattle.dist_world_model.specs.Delivery.{after_delivery, change_to}
-use Rattle.dist_world_model.specs.Happenings.{life_after_end, shut_row, with_node}
-use Rattle.dist_world_model.specs.Agreement.{bare}
-use Rattle.dist_world_model.proofs.WholeFrames.{way-delivered}
-use Rattle.dist_world_model.proofs.Wires.{Quiet, Hushed, quiet-refl}
+use Rattle.dist_world_model.proofs.AllWires.{AreWired, RowKept, conns-at, conns-same, hush-refl, quiet-wired, row-refl, same-conn, voice-refl}
+use Rattle.dist_world_model.proofs.ConnectionRows.{SameEnds, VoiceStays}
+use Rattle.dist_world_model.proofs.Lookups.{at-other, changed-at, end_in, more-at, row_in, voice_in, voice_of}
+use Rattle.dist_world_model.proofs.WholeFrames.{on_way, way-delivered}
+use Rattle.dist_world_model.proofs.Wires.{Hushed, same-voice}
 use Rattle.dist_world_model.proofs.WithoutEvent.{get-shut}
-use Rattle.dist_world_model.proofs.IncarnationFacts.{before-map}
-use Rattle.dist_world_model.proofs.Lookups.{row_in, end_in, setup_in, setup_of, changed-at, more-at, at-other}
-use Rattle.dist_world_model.proofs.ConnectionRows.{Linked, Stays, Was, SetupStays, SameEnds}
-use Rattle.dist_world_model.proofs.AllWires.{Alike, Wires, alike-refl, all-were, conns-at, conns-same, hush-refl, linked-same, setup-refl, stays-refl, was-refl, wires-quiet}
+
+texts-same : (cs : List Conn) (c : ℕ) (k h : Conn) → slice_get cs c ≡ Some k → slice_get cs c ≡ Some h → (side : Side) → on_way (text_to side h) ≡ on_way (text_to side k)
+texts-same cs c k h a b side = ap (λ (k : Conn). on_way (text_to side k)) (sym (same-conn cs c k h a b))
 
 -- ---- a node begins
 
-module _ (ls : List Life) (new : Life) (bare : new.rows ≡ []) (empty : (let n = new.node in n.ends) ≡ []) where
+module _ (ls : List Life) (new : Life) (bare : new.rows ≡ []) (empty : new.node.ends ≡ []) where
   no-row : (p : ℕ) → slice_get new.rows p ≡ None
   no-row p = ap (λ rows. slice_get rows p) bare
 
-  no-end : (p : ℕ) → (let n = new.node in slice_get n.ends p) ≡ None
+  no-end : (p : ℕ) → slice_get new.node.ends p ≡ None
   no-end p = ap (λ es. slice_get es p) empty
 
-  more-setups : (i : ℕ) → SetupStays (setup_in ls i) (setup_in (ls ++ new ∷ []) i)
-  more-setups i = more-at setup_of SetupStays setup-refl ls new (λ s e. absurd cc) i
-
-  pub begun-linked : (cs : List Conn) → Linked ls cs → Linked (ls ++ new ∷ []) cs
-  begun-linked cs = linked-same ls (ls ++ new ∷ []) cs cs
-      (λ i p. more-at (λ o. row_of_life o p) Stays stays-refl ls new (λ c x e. absurd cc) i)
-      (λ i p. more-at (λ o. row_of_life o p) Was was-refl ls new (λ c x e. absurd (let z : None ≡ Some x = sym (no-row p) ∙ e in cc)) i)
-      more-setups (conns-same cs)
-
-  pub begun-wires : (cs : List Conn) → Linked ls cs → Wires ls cs → Wires (ls ++ new ∷ []) cs
-  begun-wires cs = wires-quiet ls (ls ++ new ∷ []) cs cs more-setups
-      (λ i p. more-at (λ o. row_of_life o p) Quiet quiet-refl ls new (subst (Quiet None) (sym (no-row p)) (quiet-refl None)) i)
+  pub begun-wired : (cs : List Conn) → AreWired ls cs → AreWired (ls ++ new ∷ []) cs
+  begun-wired cs = quiet-wired ls (ls ++ new ∷ []) cs cs
+      (λ i. more-at voice_of VoiceStays voice-refl ls new (λ s e. absurd cc) i)
+      (λ i p. more-at (λ o. row_of_life o p) RowKept row-refl ls new (subst (RowKept None) (sym (no-row p)) (row-refl None)) i)
       (λ i p. more-at (λ o. end_of_life o p) Hushed hush-refl ls new (subst (Hushed None) (sym (no-end p)) (hush-refl None)) i)
-      (all-were ls cs)
+      (conns-same cs) (texts-same cs)
 
--- ---- a node ends
-
-shut-stays : (t : ℕ) (o : Option EndRow) → Stays o (option_map (shut_row t) o)
-shut-stays t o c x e h = (shut_row t x, ap (option_map (shut_row t)) e, refl, h)
-
-shut-was : (t : ℕ) (o : Option EndRow) → Was o (option_map (shut_row t) o)
-shut-was t o c y e h = let g = before-map (shut_row t) o y e in (g.0, g.1, ap (λ (r : EndRow). r.side) (sym g.2), ap (λ (r : EndRow). r.conn) (sym g.2) ∙ h)
-
-shut-quiet : (t : ℕ) (o : Option EndRow) → Quiet o (option_map (shut_row t) o)
-shut-quiet t None = quiet-refl None
-shut-quiet t (Some row) = record { named = refl; replied = refl; rose = refl; peer_named = λ h. refl; peer_replied = λ h. refl }
-
-module _ (t i : ℕ) (ls : List Life) (old : Life) (at : slice_get ls i ≡ Some old) where
-  shut-rel : (R : Option EndRow → Option EndRow → Type 0) → ((o : Option EndRow) → R o o) → ((o : Option EndRow) → R o (option_map (shut_row t) o)) → (j p : ℕ) → R (row_in ls j p) (row_in (at_place i (life_after_end t) ls) j p)
-  shut-rel R same map j p = changed-at (λ o. row_of_life o p) R same i (life_after_end t) ls old at j (λ e. subst (R (slice_get old.rows p)) (sym (get-shut t old.rows p)) (map (slice_get old.rows p)))
-
-  shut-setups : (j : ℕ) → SetupStays (setup_in ls j) (setup_in (at_place i (life_after_end t) ls) j)
-  shut-setups j = changed-at setup_of SetupStays setup-refl i (life_after_end t) ls old at j (λ e s h. h)
-
-  pub ended-linked : (cs : List Conn) → Linked ls cs → Linked (at_place i (life_after_end t) ls) cs
-  ended-linked cs = linked-same ls (at_place i (life_after_end t) ls) cs cs (shut-rel Stays stays-refl (shut-stays t)) (shut-rel Was was-refl (shut-was t)) shut-setups (conns-same cs)
-
-  pub ended-wires : (cs : List Conn) → Linked ls cs → Wires ls cs → Wires (at_place i (life_after_end t) ls) cs
-  ended-wires cs = wires-quiet ls (at_place i (life_after_end t) ls) cs cs shut-setups (shut-rel Quiet quiet-refl (shut-quiet t))
-      (λ j p. changed-at (λ o. end_of_life o p) Hushed hush-refl i (life_after_end t) ls old at j (λ e a b h. h)) (all-were ls cs)
-
--- ---- a node changes its setup
+-- ---- an incarnation changes
 
 pub bare-stays : (s : Setup) (v : Change) → bare (setup_after s v) ≡ bare s
 bare-stays s (change.Cookie p c) = refl
 bare-stays s (change.UsualCookie c) = refl
 bare-stays s (change.Allow ps) = refl
 
-module _ (i : ℕ) (v : Change) (ls : List Life) (old : Life) (at : slice_get ls i ≡ Some old) where
-  abbrev pub reset-lives : List Life
-  reset-lives = at_place i (with_node (after_change (let l = old in l.node) v)) ls
+-- its ends stay, and its rows but for what a connection does not see
+pub turned-wired : (i : ℕ) (g : Life → Life) (ls : List Life) (old : Life) → slice_get ls i ≡ Some old → bare (g old).node.setup ≡ bare old.node.setup → (g old).node.ends ≡ old.node.ends
+    → ((p : ℕ) → RowKept (slice_get old.rows p) (slice_get (g old).rows p)) → (cs : List Conn) → AreWired ls cs → AreWired (at_place i g ls) cs
+turned-wired i g ls old at setup ends rows cs = quiet-wired ls (at_place i g ls) cs cs
+    (λ j. changed-at voice_of VoiceStays voice-refl i g ls old at j (λ e s h. ap Some (same-voice (g old).node.setup old.node.setup setup) ∙ h))
+    (λ j p. changed-at (λ o. row_of_life o p) RowKept row-refl i g ls old at j (λ e. rows p))
+    (λ j p. changed-at (λ o. end_of_life o p) Hushed hush-refl i g ls old at j (λ e. subst (Hushed (slice_get old.node.ends p)) (ap (λ es. slice_get es p) (sym ends)) (hush-refl (slice_get old.node.ends p))))
+    (conns-same cs) (texts-same cs)
 
-  -- rows and ends stay
-  reset-same : {X : Type 0} (L : Option Life → X) (R : X → X → Type 0) → ((x : X) → R x x) → L (Some (with_node (after_change old.node v) old)) ≡ L (Some old) → (j : ℕ) → R (L (slice_get ls j)) (L (slice_get reset-lives j))
-  reset-same L R same alike j = changed-at L R same i (with_node (after_change old.node v)) ls old at j (λ e. subst (R (L (Some old))) (sym alike) (same (L (Some old))))
-
-  reset-setups : (j : ℕ) → SetupStays (setup_in ls j) (setup_in reset-lives j)
-  reset-setups = reset-same setup_of SetupStays setup-refl (ap Some (bare-stays old.node.setup v))
-
-  pub reset-linked : (cs : List Conn) → Linked ls cs → Linked reset-lives cs
-  reset-linked cs = linked-same ls reset-lives cs cs (λ j p. reset-same (λ o. row_of_life o p) Stays stays-refl refl j) (λ j p. reset-same (λ o. row_of_life o p) Was was-refl refl j) reset-setups (conns-same cs)
-
-  pub reset-wires : (cs : List Conn) → Linked ls cs → Wires ls cs → Wires reset-lives cs
-  reset-wires cs = wires-quiet ls reset-lives cs cs reset-setups (λ j p. reset-same (λ o. row_of_life o p) Quiet quiet-refl refl j) (λ j p. reset-same (λ o. end_of_life o p) Hushed hush-refl refl j) (all-were ls cs)
+pub shut-kept : (t : ℕ) (rows : List EndRow) (p : ℕ) → RowKept (slice_get rows p) (slice_get (shut_all t rows) p)
+shut-kept t rows p = subst (RowKept (slice_get rows p)) (sym (get-shut t rows p)) (by (slice_get rows p))
+  where
+    by : (o : Option EndRow) → RowKept o (option_map (shut_row t) o)
+    by None = row-refl None
+    by (Some row) = record {
+      stays = λ c x e h. (shut_row t x, ap (option_map (shut_row t)) e, refl, h);
+      was = λ c y e h. (let z : shut_row t row ≡ y = same_Some _ _ e in (row, refl, ap (λ (r : EndRow). r.side) z, ap (λ (r : EndRow). r.conn) z ∙ h));
+      quiet = record { marks = refl; peer = λ s h. refl };
+    }
 
 -- ---- bytes come
 
 module _ (side : Side) (c n : ℕ) (ls : List Life) (cs : List Conn) where
-  same-ends : (s : Side) (k : Conn) → SameEnds k (change_to s (after_delivery n) k) × ((let h = change_to s (after_delivery n) k in h.accepted) ≡ k.accepted)
-  same-ends Dialler k = (record { life = refl; dialler = refl; target = refl }, refl)
-  same-ends Acceptor k = (record { life = refl; dialler = refl; target = refl }, refl)
+  abbrev come : Conn → Conn
+  come = change_to side (after_delivery n)
 
-  alike : (s : Side) (k : Conn) → Alike ls k (change_to s (after_delivery n) k)
-  alike Dialler k = record { same = record { life = refl; dialler = refl; target = refl }; there = refl; back = way-delivered n k.back; accepted = inl refl }
-  alike Acceptor k = record { same = record { life = refl; dialler = refl; target = refl }; there = way-delivered n k.there; back = refl; accepted = inl refl }
+  same-ends : (k : Conn) → SameEnds k (come k) × ((come k).accepted ≡ k.accepted)
+  same-ends k = by side
+    where
+      by : (s : Side) → SameEnds k (change_to s (after_delivery n) k) × ((change_to s (after_delivery n) k).accepted ≡ k.accepted)
+      by Dialler = (record { life = refl; dialler = refl; target = refl }, refl)
+      by Acceptor = (record { life = refl; dialler = refl; target = refl }, refl)
 
-  pub come-linked : Linked ls cs → Linked ls (at_place c (change_to side (after_delivery n)) cs)
-  come-linked = linked-same ls ls cs (at_place c (change_to side (after_delivery n)) cs) (λ i p. stays-refl (row_in ls i p)) (λ i p. was-refl (row_in ls i p)) (λ i. setup-refl (setup_in ls i)) (conns-at c (change_to side (after_delivery n)) cs (same-ends side))
+  same-texts : (d : ℕ) (h : Conn) → slice_get (at_place c come cs) d ≡ Some h → (k : Conn) × (slice_get cs d ≡ Some k) × ((to : Side) → on_way (text_to to h) ≡ on_way (text_to to k))
+  same-texts = at-other (λ d h. (k : Conn) × (slice_get cs d ≡ Some k) × ((to : Side) → on_way (text_to to h) ≡ on_way (text_to to k))) c come cs (λ k at. (k, at, by side k)) (λ d k n at. (k, at, λ to. refl))
+    where
+      by : (s : Side) (k : Conn) (to : Side) → on_way (text_to to (change_to s (after_delivery n) k)) ≡ on_way (text_to to k)
+      by Dialler k Dialler = way-delivered n k.back
+      by Dialler k Acceptor = refl
+      by Acceptor k Dialler = refl
+      by Acceptor k Acceptor = way-delivered n k.there
 
-  pub come-wires : Linked ls cs → Wires ls cs → Wires ls (at_place c (change_to side (after_delivery n)) cs)
-  come-wires = wires-quiet ls ls cs (at_place c (change_to side (after_delivery n)) cs) (λ i. setup-refl (setup_in ls i)) (λ i p. quiet-refl (row_in ls i p)) (λ i p. hush-refl (end_in ls i p))
-      (at-other (λ d h. (k : Conn) × (slice_get cs d ≡ Some k) × Alike ls k h) c (change_to side (after_delivery n)) cs (λ k at. (k, at, alike side k)) (λ d k n at. (k, at, alike-refl ls k)))
+  pub come-wired : AreWired ls cs → AreWired ls (at_place c come cs)
+  come-wired = quiet-wired ls ls cs (at_place c come cs) (λ i. voice-refl (voice_in ls i)) (λ i p. row-refl (row_in ls i p)) (λ i p. hush-refl (end_in ls i p)) (conns-at c come cs same-ends)
+      (λ d k h a b to. let g = same-texts d h b in g.2 to ∙ ap (λ (k : Conn). on_way (text_to to k)) (same-conn cs d g.0 k g.1 a))

@@ -1,14 +1,8 @@
 -- AGREEMENT: what two running nodes have in common that each count the other as up.
-use Rattle.std.specs.Prelude.{◌≡◌, ◌≢◌, ℕ, ◌<◌, ◌^◌, Bool, ◌&&◌, if◌then◌else◌, ◌⊎◌, List, [], Option, Some, None, slice_get}
-use Rattle.std.specs.List.{AllByRecursion}
-use Rattle.dist_names.specs.NodeName.{IsNodeName}
-use Rattle.dist_names.specs.Flags.{common}
-use Rattle.dist_names.specs.declared.creation.Creation.{Creation}
-use Rattle.dist_core_setup.specs.declared.setup.Setup.{Setup}
-use Rattle.dist_core_ends.specs.declared.known.UpRecord.{UpRecord}
+use Rattle.std.specs.Prelude.{if◌then◌else◌, ◌&&◌, ◌≡◌, ◌≢◌, ◌<◌, ◌^◌, ◌⊎◌}
+use Rattle.dist_world_model.specs.Words.{ℕ, List, [], Option, Some, None, UpRecord, slice_get, Setup, Creation, Happening}
+use Rattle.dist_world_model.specs.Words.{own_digest, AllByRecursion, IsNodeName, common, announced_in, knows_six}
 use Rattle.dist_core_ends.specs.declared.known.End.TheVariants as ends
-use Rattle.dist_core_setup.specs.Rules.{announced_in, knows_six, own_digest}
-use Rattle.dist_world_model.specs.declared.happening.Happening.{Happening}
 use Rattle.dist_world_model.specs.declared.happening.Happening.TheVariants as happening
 use Rattle.dist_world_model.specs.Rows.{EndRow}
 use Rattle.dist_world_model.specs.World.{World, Life, Conn, running, empty}
@@ -47,13 +41,9 @@ pub record Counts (w : World) (a b : ℕ) : Type 0 where
 abbrev pub bare : Setup → Setup
 bare s = record s { cookies = record { usual = []; own = [] }; allow = None }
 
--- both know version 6
-abbrev pub both_six : Setup → Setup → Bool
-both_six own other = knows_six own && knows_six other
-
 -- THE OTHER'S CREATION WHERE KNOWN: where both know version 6
 abbrev pub known_creation : Setup → Setup → Option Creation
-known_creation own other = if both_six own other then Some other.creation else None
+known_creation own other = if knows_six own && knows_six other then Some other.creation else None
 
 -- the record has the flags that both announced, the other's creation where known, and the digest of the own cookie for the
 -- other and the own challenge

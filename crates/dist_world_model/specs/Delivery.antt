@@ -1,9 +1,6 @@
 -- DELIVERY: what each side sends is appended to a text, its front moves on to the other side, and whole frames are taken.
-use Rattle.std.specs.Prelude.{ℕ, List, [], ◌++◌, take, drop, Option, Some, None}
-use Rattle.std.specs.Int.{w16}
-use Rattle.dist_messages.specs.declared.message.Side.{Side}
-use Rattle.dist_messages.specs.declared.message.Side.TheVariants.{Dialler, Acceptor}
-use Rattle.dist_frames.specs.Stream.{after_first}
+use Rattle.std.specs.Prelude.{◌++◌}
+use Rattle.dist_world_model.specs.Words.{ℕ, List, [], Option, Some, None, Side, Dialler, Acceptor, take, drop, w16, after_first}
 use Rattle.dist_world_model.specs.Lists.{at_place}
 use Rattle.dist_world_model.specs.Rows.{EndRow}
 use Rattle.dist_world_model.specs.World.{Text, Conn}

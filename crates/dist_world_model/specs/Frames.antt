@@ -1,15 +1,7 @@
 -- THE FRAMES OF A WORLD: how their bodies are spelled.
-use Rattle.std.specs.Prelude.{◌≡◌, ◌⊎◌, ℕ, List, [], Some, slice_get}
-use Rattle.std.specs.Int.{w16}
-use Rattle.dist_names.specs.Flags.{low_half}
-use Rattle.dist_messages.specs.declared.message.Side.{Side}
-use Rattle.dist_messages.specs.declared.message.Message.{Message}
+use Rattle.std.specs.Prelude.{◌≡◌, ◌⊎◌}
+use Rattle.dist_world_model.specs.Words.{ℕ, List, [], Some, Side, slice_get, Setup, w16, first_body, low_half, Message, Fits, canonical, announced_by}
 use Rattle.dist_messages.specs.declared.message.Message.TheVariants as message
-use Rattle.dist_messages.specs.Spelling.{Fits}
-use Rattle.dist_messages.specs.Canonical.{canonical}
-use Rattle.dist_frames.specs.Stream.{first_body}
-use Rattle.dist_core_setup.specs.declared.setup.Setup.{Setup}
-use Rattle.dist_core_setup.specs.Rules.{announced_by}
 use Rattle.dist_world_model.specs.World.{World, Conn}
 use Rattle.dist_world_model.specs.Delivery.{text_to}
 

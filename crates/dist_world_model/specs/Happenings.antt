@@ -1,24 +1,10 @@
 -- ONE HAPPENING OF THE WORLD.
-use Rattle.std.specs.Prelude.{ℕ, ◌+◌, Bool, true, false, ◌&&◌, if◌then◌else◌, nat_lt, List, [], ◌∷◌, ◌++◌}
-use Rattle.std.specs.Prelude.{length, Option, Some, None, is_none, option_and_then, slice_get}
-use Rattle.std.specs.Option.{option_map}
+use Rattle.std.specs.Prelude.{if◌then◌else◌, ◌∷◌, ◌++◌, ◌&&◌, ◌+◌}
+use Rattle.dist_world_model.specs.Words.{ℕ, Bool, List, [], Option, Some, None, option_map, true, false, nat_lt, EndId, Event}
+use Rattle.dist_world_model.specs.Words.{Reply, slice_get, Setup, End, NodeState, w16, length, is_none, option_and_then, Creation, first_body, Change}
+use Rattle.dist_world_model.specs.Words.{is_open, is_dialing, change, step, opening, Happening}
 use Rattle.std.specs.Result.{result_ok}
-use Rattle.std.specs.Int.{w16}
-use Rattle.dist_names.specs.declared.creation.Creation.{Creation}
-use Rattle.dist_frames.specs.Stream.{first_body}
-use Rattle.dist_peers.specs.declared.entry.EndId.{EndId}
-use Rattle.dist_core_setup.specs.declared.setup.Setup.{Setup}
-use Rattle.dist_core_ends.specs.declared.known.End.{End}
-use Rattle.dist_core.specs.declared.changing.Change.{Change}
-use Rattle.dist_core.specs.declared.event.Event.{Event}
 use Rattle.dist_core.specs.declared.event.Event.TheVariants as event
-use Rattle.dist_core.specs.declared.reply.Reply.{Reply}
-use Rattle.dist_core_ends.specs.Ends.{is_open, is_dialing}
-use Rattle.dist_core.specs.Node.{NodeState}
-use Rattle.dist_core.specs.Changing.{change}
-use Rattle.dist_core.specs.Step.{step}
-use Rattle.dist_core.specs.Runs.{opening}
-use Rattle.dist_world_model.specs.declared.happening.Happening.{Happening}
 use Rattle.dist_world_model.specs.declared.happening.Happening.TheVariants as happening
 use Rattle.dist_world_model.specs.Lists.{at_place}
 use Rattle.dist_world_model.specs.Rows.{EndRow, rows_after, once}

@@ -1,9 +1,6 @@
 -- WHICH ENDS OF AN INCARNATION HOLD A PEER, at each moment.
-use Rattle.std.specs.Prelude.{◌≡◌, ◌≢◌, ℕ, Bool, true, false, List, Option, Some, None, slice_get}
-use Rattle.dist_names.specs.Order.{Name}
-use Rattle.dist_core_ends.specs.declared.phase.Kind.{Kind}
-use Rattle.dist_core_ends.specs.declared.phase.Kind.TheVariants.{In, Up}
-use Rattle.dist_core_ends.specs.Ends.{Claim, is_claim}
+use Rattle.std.specs.Prelude.{◌≡◌, ◌≢◌}
+use Rattle.dist_world_model.specs.Words.{ℕ, Bool, List, Option, Some, None, true, false, Name, Kind, In, Up, Claim, slice_get, is_claim}
 use Rattle.dist_world_model.specs.Rows.{EndRow, claim_before}
 
 -- what the end of this row held just before number t

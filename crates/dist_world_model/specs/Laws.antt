@@ -1,8 +1,7 @@
 -- LAWS OF EVERY INCARNATION of a world.
-use Rattle.std.specs.Prelude.{◌≡◌, ℕ, true, Some, slice_get}
-use Rattle.dist_core_ends.specs.declared.known.UpRecord.{UpRecord}
+use Rattle.std.specs.Prelude.{◌≡◌}
+use Rattle.dist_world_model.specs.Words.{ℕ, Some, true, UpRecord, slice_get, own_digest, same_bytes}
 use Rattle.dist_core_ends.specs.declared.known.End.TheVariants as ends
-use Rattle.dist_core_setup.specs.Rules.{own_digest, same_bytes}
 use Rattle.dist_world_model.specs.Rows.{EndRow}
 use Rattle.dist_world_model.specs.World.{World, Life, runs}
 use Rattle.dist_world_model.specs.Holders.{AreApart}

@@ -1,6 +1,6 @@
 -- Words on lists.
-use Rattle.std.specs.Prelude.{ℕ, zero, suc, Bool, if◌then◌else◌, List, [], ◌∷◌, ◌++◌, Option, Some, None}
-use Rattle.std.specs.Option.{option_map}
+use Rattle.std.specs.Prelude.{if◌then◌else◌, ◌∷◌, ◌++◌}
+use Rattle.dist_world_model.specs.Words.{ℕ, zero, suc, Bool, List, [], Option, Some, None, option_map}
 
 -- the list with f done at one place
 abbrev pub at_place : {A : Type 0} → ℕ → (A → A) → List A → List A

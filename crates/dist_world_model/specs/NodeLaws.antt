@@ -1,37 +1,21 @@
 -- WHAT THE LAWS OF WORLDS TAKE FROM ONE NODE: each is a contract of a crate below.
-use Rattle.std.specs.Prelude.{◌≡◌, ℕ, ◌<◌, ◌≤◌, ◌^◌, ◌&&◌, true, false, List, length, Some, Ok, slice_get}
-use Rattle.dist_names.specs.NodeName.{IsNodeName}
-use Rattle.dist_names.specs.Flags.{low_half, common, has_all, handshake_23}
-use Rattle.dist_names.specs.Order.{Name, same_name}
+use Rattle.std.specs.Prelude.{◌&&◌, ◌≡◌, ◌<◌, ◌^◌, ◌≤◌}
+use Rattle.dist_world_model.specs.Words.{ℕ, List, Some, true, false, Name, EndId, Side, Dialler, Acceptor, Event, slice_get, Setup, End, NodeState}
+use Rattle.dist_world_model.specs.Words.{length, Creation, Change, change, step, opening, IsNodeName, common, knows_six, low_half, Message, Fits}
+use Rattle.dist_world_model.specs.Words.{canonical, announced_by, Ok, has_all, handshake_23, same_name, is_said_by, AreLegal, ends_after, node_after}
+use Rattle.dist_world_model.specs.Words.{effect_of}
 use Rattle.dist_names.specs.declared.flags.Flags.{Flags}
-use Rattle.dist_names.specs.declared.creation.Creation.{Creation}
-use Rattle.dist_messages.specs.declared.message.Side.{Side}
-use Rattle.dist_messages.specs.declared.message.Side.TheVariants.{Dialler, Acceptor}
 use Rattle.dist_messages.specs.declared.message.Status.{Status}
-use Rattle.dist_messages.specs.declared.message.Message.{Message}
 use Rattle.dist_messages.specs.declared.message.Message.TheVariants as message
-use Rattle.dist_messages.specs.Spelling.{Fits, is_said_by}
-use Rattle.dist_messages.specs.Canonical.{canonical}
 use Rattle.dist_messages.specs.Reading.{read}
-use Rattle.dist_peers.specs.declared.entry.EndId.{EndId}
-use Rattle.dist_core_ends.specs.declared.known.End.{End}
 use Rattle.dist_core_ends.specs.Change.{IsThere, view_after}
-use Rattle.dist_core_ends.specs.Ends.{AreLegal}
-use Rattle.dist_core_setup.specs.declared.setup.Setup.{Setup}
-use Rattle.dist_core_setup.specs.Rules.{announced_by, knows_six}
 use Rattle.dist_core_setup.specs.Saying.{CanBeSaid}
 use Rattle.dist_secret.specs.Digest.{digest_of}
-use Rattle.dist_core.specs.declared.changing.Change.{Change}
 use Rattle.dist_core.specs.Acts.{changed_or}
-use Rattle.dist_core.specs.Changing.{change}
-use Rattle.dist_core.specs.declared.event.Event.{Event}
 use Rattle.dist_core.specs.declared.effect.Effect.{Effect}
 use Rattle.dist_core_laws.specs.Laws.{IsOther}
 use Rattle.dist_core_laws.specs.Records.{AreRight}
-use Rattle.dist_core.specs.Node.{NodeState, ends_after}
 use Rattle.dist_core.specs.Rows.{StepRow, Heard}
-use Rattle.dist_core.specs.Runs.{opening, node_after}
-use Rattle.dist_core.specs.Step.{effect_of, step}
 
 -- names that compare as equal are one name, and a name is one with itself
 pub record NameLaws : Type 0 where

@@ -1,5 +1,6 @@
 -- THE ORDER OF NUMBERS, of incarnations and on connections.
-use Rattle.std.specs.Prelude.{◌≡◌, ℕ, ◌<◌, false, Some, slice_get}
+use Rattle.std.specs.Prelude.{◌≡◌, ◌<◌}
+use Rattle.dist_world_model.specs.Words.{ℕ, Some, false, slice_get}
 use Rattle.dist_world_model.specs.Rows.{EndRow}
 use Rattle.dist_world_model.specs.World.{World, Life, Conn, runs}
 
@@ -33,23 +34,23 @@ pub record Accepted (k : Conn) (b : Life) : Type 0 where
 pub record Named (k : Conn) (a b : Life) (x : EndRow) (n : ℕ) : Type 0 where
   pub end_ : Accepted k b
   pub at_ : ℕ
-  pub named : (let e = end_ in let y = e.row in y.named) ≡ Some at_
+  pub named : end_.row.named ≡ Some at_
   pub before : at_ < n
   pub peer : x.peer ≡ Some b.node.setup.name
-  pub other : (let e = end_ in let y = e.row in y.peer) ≡ Some a.node.setup.name
+  pub other : end_.row.peer ≡ Some a.node.setup.name
 
 -- the accepted end came up before number n
 pub record Risen (k : Conn) (b : Life) (n : ℕ) : Type 0 where
   pub end_ : Accepted k b
   pub at_ : ℕ
-  pub rose : (let e = end_ in let y = e.row in y.rose) ≡ Some at_
+  pub rose : end_.row.rose ≡ Some at_
   pub before : at_ < n
 
 -- ON ONE CONNECTION the name is taken, the reply sent, the accepted end comes up and then the dialled end, in this order;
 -- x is the row of the end that incarnation a dialled, and the connection leads to incarnation b
 pub record InOrder (k : Conn) (a b : Life) (x : EndRow) : Type 0 where
   pub replies : (r : ℕ) → x.replied ≡ Some r → Named k a b x r
-  pub rises : (e : Accepted k b) (u : ℕ) → (let y = e.row in y.rose) ≡ Some u → (r : ℕ) × (x.replied ≡ Some r) × (r < u)
+  pub rises : (e : Accepted k b) (u : ℕ) → e.row.rose ≡ Some u → (r : ℕ) × (x.replied ≡ Some r) × (r < u)
   pub follows : (u : ℕ) → x.rose ≡ Some u → Risen k b u
 
 -- EACH CONNECTION IS IN ORDER

@@ -1,13 +1,8 @@
 -- THE SETUP OF EACH INCARNATION: that of its node, with a creation of its own and the changes of its own resets, in order.
-use Rattle.std.specs.Prelude.{◌≡◌, ℕ, ◌==◌, Bool, true, false, if◌then◌else◌, List, [], ◌∷◌, ◌++◌, Option, Some, None, slice_get}
-use Rattle.std.specs.List.{AllByRecursion}
-use Rattle.dist_core_ends.specs.declared.known.UpRecord.{UpRecord}
+use Rattle.std.specs.Prelude.{if◌then◌else◌, ◌∷◌, ◌++◌, ◌==◌, ◌≡◌}
+use Rattle.dist_world_model.specs.Words.{ℕ, is_some, Bool, List, [], Option, Some, None, true, false, UpRecord, slice_get, Setup, Change}
+use Rattle.dist_world_model.specs.Words.{Happening, own_digest, same_bytes, AllByRecursion, setup_after}
 use Rattle.dist_core_ends.specs.declared.known.End.TheVariants as ends
-use Rattle.dist_core_setup.specs.declared.setup.Setup.{Setup}
-use Rattle.dist_core_setup.specs.Rules.{own_digest, same_bytes}
-use Rattle.dist_core.specs.declared.changing.Change.{Change}
-use Rattle.dist_core.specs.Changing.{setup_after}
-use Rattle.dist_world_model.specs.declared.happening.Happening.{Happening}
 use Rattle.dist_world_model.specs.declared.happening.Happening.TheVariants as happening
 use Rattle.dist_world_model.specs.World.{World, Life, running}
 use Rattle.dist_world_model.specs.Happenings.{applied_at, happens}
@@ -24,15 +19,10 @@ abbrev pub change_by : World → Happening → ℕ → List Change
 change_by w (happening.Reset node v) i = if is_place (running w node) i then v ∷ [] else []
 change_by w h i = []
 
--- these, where a happening applies
-abbrev pub where_applied : Option World → List Change → List Change
-where_applied None vs = []
-where_applied (Some x) vs = vs
-
 -- the changes that these happenings make of the setup of incarnation i, in order
 abbrev pub changes_at : List Happening → World → ℕ → List Change
 changes_at [] w i = []
-changes_at (h ∷ hs) w i = where_applied (applied_at w h) (change_by w h i) ++ changes_at hs (happens w h) i
+changes_at (h ∷ hs) w i = (if is_some (applied_at w h) then change_by w h i else []) ++ changes_at hs (happens w h) i
 
 -- the setup after these changes, one after another
 abbrev pub setup_by : List Change → Setup → Setup
@@ -45,7 +35,7 @@ setup_by (v ∷ vs) s = setup_by vs (setup_after s v)
 abbrev pub IsSetUp : List Setup → List Change → Life → Type 0
 IsSetUp setups changes l =
     (s : Setup) × (slice_get setups l.who ≡ Some s)
-    × (l.node.setup ≡ setup_by changes (record s { creation = (let n = l.node in let own = n.setup in own.creation) }))
+    × (l.node.setup ≡ setup_by changes (record s { creation = l.node.setup.creation }))
 
 -- EVERY END THAT IS UP HOLDS THE DIGEST OF THE COOKIE that its node's setup, one of these, has for the peer
 abbrev pub HasSetDigests : List Setup → Life → Type 0

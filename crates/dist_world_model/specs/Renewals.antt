@@ -1,10 +1,6 @@
 -- A NODE THAT IS RENEWED, as a world has it: it ends, and begins again.
-use Rattle.std.specs.Prelude.{◌≡◌, ℕ, ◌+◌, ◌<◌, ◌≤◌, List, [], ◌∷◌, length, Some, slice_get}
-use Rattle.dist_names.specs.declared.creation.Creation.{Creation}
-use Rattle.dist_core_setup.specs.declared.setup.Setup.{Setup}
-use Rattle.dist_core.specs.declared.changing.Change.{Change}
-use Rattle.dist_core.specs.Runs.{opening}
-use Rattle.dist_world_model.specs.declared.happening.Happening.{Happening}
+use Rattle.std.specs.Prelude.{◌∷◌, ◌+◌, ◌≡◌, ◌<◌, ◌≤◌}
+use Rattle.dist_world_model.specs.Words.{ℕ, List, [], Some, slice_get, Setup, length, Creation, Change, opening, Happening}
 use Rattle.dist_world_model.specs.declared.happening.Happening.TheVariants as happening
 use Rattle.dist_world_model.specs.World.{World, Life, running}
 use Rattle.dist_world_model.specs.Happenings.{most_applied, most_begins}

@@ -1,20 +1,10 @@
 -- The row of an end: what stays of it for ever.
-use Rattle.std.specs.Prelude.{ℕ, ◌==◌, Bool, true, false, not, ◌&&◌, ◌||◌, if◌then◌else◌, nat_lt, List, Option, Some, None}
-use Rattle.std.specs.Option.{option_map}
-use Rattle.dist_names.specs.Order.{Name}
-use Rattle.dist_peers.specs.declared.entry.EndId.{EndId}
-use Rattle.dist_messages.specs.declared.message.Side.{Side}
-use Rattle.dist_messages.specs.declared.message.Side.TheVariants.{Dialler, Acceptor}
-use Rattle.dist_core.specs.declared.event.Event.{Event}
+use Rattle.std.specs.Prelude.{if◌then◌else◌, ◌==◌, ◌&&◌, ◌||◌}
+use Rattle.dist_world_model.specs.Words.{ℕ, Bool, List, Option, Some, None, option_map, true, false, not, nat_lt, Name, EndId}
+use Rattle.dist_world_model.specs.Words.{Side, Dialler, Acceptor, Event, Why, UpRecord, Reply, Kind, Out, In, Up, Claim}
 use Rattle.dist_core.specs.declared.event.Event.TheVariants as event
 use Rattle.dist_core.specs.declared.reply.Note.{Note}
 use Rattle.dist_core.specs.declared.reply.Note.TheVariants as note
-use Rattle.dist_core_ends.specs.declared.why.Why.{Why}
-use Rattle.dist_core_ends.specs.declared.known.UpRecord.{UpRecord}
-use Rattle.dist_core.specs.declared.reply.Reply.{Reply}
-use Rattle.dist_core_ends.specs.declared.phase.Kind.{Kind}
-use Rattle.dist_core_ends.specs.declared.phase.Kind.TheVariants.{Out, In, Up}
-use Rattle.dist_core_ends.specs.Ends.{Claim}
 use Rattle.dist_world_model.specs.Lists.{at_each, add_some}
 
 -- THE ROW OF AN END: its side, peer and connection, and the numbers of the happenings at which it was
@@ -44,15 +34,13 @@ given_by t _ = None
 
 -- the note reports a name taken
 abbrev pub takes_name : Note → Bool
-takes_name note.Nothing = false
 takes_name (note.NameTaken p x) = true
-takes_name note.ReplySaid = false
+takes_name _ = false
 
 -- the note reports a reply sent
 abbrev pub says_reply : Note → Bool
-says_reply note.Nothing = false
-says_reply (note.NameTaken p x) = false
 says_reply note.ReplySaid = true
+says_reply _ = false
 
 -- the end is that of number i
 abbrev pub is_end : ℕ → Option EndId → Bool
@@ -61,9 +49,8 @@ is_end i (Some x) = x.0 == i
 
 -- the note reports end i as doomed
 abbrev pub dooms : Note → ℕ → Bool
-dooms note.Nothing i = false
 dooms (note.NameTaken p x) i = is_end i x
-dooms note.ReplySaid i = false
+dooms _ i = false
 
 -- the reply reports end i as closed
 abbrev pub shuts_end : Option (EndId × Why) → ℕ → Bool
@@ -77,9 +64,8 @@ rises (Some r) = true
 
 -- the peer after this note
 abbrev pub peer_by : Note → Option Name → Option Name
-peer_by note.Nothing old = old
 peer_by (note.NameTaken p x) old = Some p
-peer_by note.ReplySaid old = old
+peer_by _ old = old
 
 -- a number once written stays
 abbrev pub once : Bool → ℕ → Option ℕ → Option ℕ
@@ -114,11 +100,6 @@ rows_after t v r rows = at_each 0 (mark t r) (add_some rows (given_by t v))
 abbrev pub past : ℕ → Option ℕ → Bool
 past t None = false
 past t (Some n) = nat_lt n t
-
--- the end was dialled
-abbrev pub is_dialler : Side → Bool
-is_dialler Dialler = true
-is_dialler Acceptor = false
 
 -- how an end of this side holds its peer, by whether it came up
 abbrev pub kind_by : Side → Bool → Kind

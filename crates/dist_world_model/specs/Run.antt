@@ -1,6 +1,6 @@
 -- RUNS OF THE WORLD.
-use Rattle.std.specs.Prelude.{ℕ, ◌+◌, List, [], ◌∷◌, Option, Some, None}
-use Rattle.dist_world_model.specs.declared.happening.Happening.{Happening}
+use Rattle.std.specs.Prelude.{◌∷◌, ◌+◌}
+use Rattle.dist_world_model.specs.Words.{ℕ, List, [], Option, Some, None, Happening}
 use Rattle.dist_world_model.specs.World.{World}
 use Rattle.dist_world_model.specs.Happenings.{happens, applied_at}
 

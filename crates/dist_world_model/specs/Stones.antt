@@ -1,16 +1,14 @@
 -- WHAT THE AGREEMENT RESTS ON, within one incarnation.
-use Rattle.std.specs.Prelude.{◌≡◌, ◌≢◌, ℕ, ◌<◌, nat_lt, Bool, true, false, ◌||◌, List, Some, slice_get}
-use Rattle.dist_names.specs.Order.{Name}
-use Rattle.dist_messages.specs.declared.message.Side.TheVariants.{Dialler, Acceptor}
-use Rattle.dist_core_ends.specs.declared.phase.Kind.{Kind}
+use Rattle.std.specs.Prelude.{◌||◌, ◌≡◌, ◌≢◌, ◌<◌}
+use Rattle.dist_world_model.specs.Words.{ℕ, Bool, List, Some, true, false, nat_lt, Name, Dialler, Acceptor, Kind, slice_get}
 use Rattle.dist_world_model.specs.Rows.{EndRow, past, holds_peer}
 use Rattle.dist_world_model.specs.Holders.{held_before}
 
--- it had entered before number t
+-- before happening number t the end had begun to hold its peer: dialled, when given out; accepted, when it took the name
 abbrev pub entered_before : ℕ → EndRow → Bool
 entered_before t row = holds_peer row.side (nat_lt row.given t) (past t row.named)
 
--- it had left before number t
+-- before happening number t the end had stopped holding its peer: it was doomed or closed
 abbrev pub left_before : ℕ → EndRow → Bool
 left_before t row = past t row.doomed || past t row.closed
 
@@ -38,7 +36,7 @@ DialsIdle rows =
     (i : ℕ) (x : EndRow) (p : Name) → slice_get rows i ≡ Some x → x.side ≡ Dialler → x.peer ≡ Some p → (k : Kind) (j : ℕ)
     → held_before rows x.given p k j ≡ false
 
--- IF IT COMES UP, no other end of its peer came up there in between
+-- IF A DIALLED END COMES UP, no other end of its peer came up after it was given out and before that
 abbrev pub RisesFirst : List EndRow → Type 0
 RisesFirst rows =
     (i j : ℕ) (x y : EndRow) (p : Name) (u v : ℕ) → i ≢ j → slice_get rows i ≡ Some x → slice_get rows j ≡ Some y → x.peer ≡ Some p → y.peer ≡ Some p

@@ -1,10 +1,6 @@
 -- THE WORLD: several nodes, all their incarnations, and the connections between them.
-use Rattle.std.specs.Prelude.{ℕ, ◌==◌, Bool, not, ◌&&◌, List, [], Option, Some, None, is_some, slice_get}
-use Rattle.dist_peers.specs.declared.entry.EndId.{EndId}
-use Rattle.dist_core_ends.specs.declared.why.Why.{Why}
-use Rattle.dist_core_setup.specs.declared.setup.Setup.{Setup}
-use Rattle.dist_core_ends.specs.declared.known.End.{End}
-use Rattle.dist_core.specs.Node.{NodeState}
+use Rattle.std.specs.Prelude.{◌==◌, ◌&&◌}
+use Rattle.dist_world_model.specs.Words.{ℕ, Bool, List, [], Option, Some, None, not, EndId, Why, is_some, slice_get, Setup, End, NodeState}
 use Rattle.dist_world_model.specs.Lists.{first_where}
 use Rattle.dist_world_model.specs.Rows.{EndRow}
 

@@ -1,4 +1,4 @@
--- What the words of a port mapper ask for (ERTS Reference Manual, epmd).
+-- What the command line of `distmapd` asks for: options of epmd (ERTS Reference Manual, epmd), and some of our own.
 use Rattle.std.specs.Prelude.{ℕ, true, false, ◌&&◌, ◌==◌, List, [], ◌∷◌, Option, Some, None}
 use Rattle.std.specs.Prelude.{Result, Ok, Err, codes, nat_lt, nat_le, if◌then◌else◌}
 use Rattle.std.proofs.Common.{Bor}

@@ -8,27 +8,10 @@ use Rattle.dist_script_play.specs.Scenes.{IsBad, IsCut}
 use Rattle.dist_commands.specs.declared.fault.Fault.{Fault}
 use Rattle.dist_commands.specs.declared.fault.Fault.TheVariants as fault
 use Rattle.dist_commands.specs.Fault.{status_of, fault_line}
-use Rattle.dist_commands.specs.Printed.{PrintsCookie, PrintsNames, PrintsEscapedNames}
 use Rattle.dist_commands.specs.Stopped.{EndsByFault, StopsCookie, StopsNames, StopsEscapedNames}
 use Rattle.distnode.specs.Printed.{PrintsRunOf}
 use Rattle.distnode.specs.Stopped.{IsNoNodesFile, StopsRunOf}
-use Rattle.distnode.specs.Followed.{PrintsAnswer, StopsCookieAt, StopsTalk, StopsAnswer, StopsRunAt, EndsPlay}
-
--- of the file that was opened
-pub cookie_done : (bytes here left : Option (List ℕ)) (challenge : ℕ) (a b : Option (List ℕ)) → here ≡ bytes → PrintsCookie here left challenge a b → (l : Option (List ℕ)) × PrintsCookie bytes l challenge a b
-cookie_done bytes here left challenge a b same prints = (left, subst (λ x. PrintsCookie x left challenge a b) same prints)
-
-pub run_done : (bytes here left : Option (List ℕ)) (status : ℕ) (a b : Option (List ℕ)) → here ≡ bytes → PrintsRunOf here left status a b → (l : Option (List ℕ)) × PrintsRunOf bytes l status a b
-run_done bytes here left status a b same prints = (left, subst (λ x. PrintsRunOf x left status a b) same prints)
-
--- over the connection that was made
-pub names_done : (terminal : Bool) (talk here left : StreamState) (a b : Option (List ℕ)) → terminal ≡ false → here ≡ talk → PrintsNames here left 1280 a b → PrintsAnswer terminal talk a b
-names_done terminal talk here left a b is same prints =
-    subst (λ t. PrintsAnswer t talk a b) (sym is) (left, subst (λ x. PrintsNames x left 1280 a b) same prints)
-
-pub escaped_done : (terminal : Bool) (talk here left : StreamState) (a b : Option (List ℕ)) → terminal ≡ true → here ≡ talk → PrintsEscapedNames here left 1280 a b → PrintsAnswer terminal talk a b
-escaped_done terminal talk here left a b is same prints =
-    subst (λ t. PrintsAnswer t talk a b) (sym is) (left, subst (λ x. PrintsEscapedNames x left 1280 a b) same prints)
+use Rattle.distnode.specs.Followed.{StopsCookieAt, StopsTalk, StopsAnswer, StopsRunAt, EndsPlay}
 
 -- ---- a fault that ended it
 
@@ -43,16 +26,8 @@ ended_by Stops f c d stops line = record { cause = f; stops = stops; status_is =
 -- ---- `cookie`
 
 cookie_at : (bytes here left : Option (List ℕ)) (challenge : ℕ) (a b : Option (List ℕ)) → here ≡ bytes → (f : Fault) → StopsCookie here left challenge a b f → StopsCookieAt bytes challenge a b f
-cookie_at bytes here left challenge a b same fault.BadCommandLine stops = (left, subst (λ x. StopsCookie x left challenge a b fault.BadCommandLine) same stops)
-cookie_at bytes here left challenge a b same fault.BadNodesFile stops = (left, subst (λ x. StopsCookie x left challenge a b fault.BadNodesFile) same stops)
-cookie_at bytes here left challenge a b same (fault.RunEnded why) stops = (left, subst (λ x. StopsCookie x left challenge a b (fault.RunEnded why)) same stops)
-cookie_at bytes here left challenge a b same fault.ReadFailed stops = (left, subst (λ x. StopsCookie x left challenge a b fault.ReadFailed) same stops)
-cookie_at bytes here left challenge a b same fault.WriteFailed stops = (left, subst (λ x. StopsCookie x left challenge a b fault.WriteFailed) same stops)
 cookie_at bytes here left challenge a b same fault.OpenFailed stops = absurd stops
-cookie_at bytes here left challenge a b same (fault.NoCookie why) stops = (left, subst (λ x. StopsCookie x left challenge a b (fault.NoCookie why)) same stops)
-cookie_at bytes here left challenge a b same fault.ConnectFailed stops = (left, subst (λ x. StopsCookie x left challenge a b fault.ConnectFailed) same stops)
-cookie_at bytes here left challenge a b same (fault.NoAnswer why) stops = (left, subst (λ x. StopsCookie x left challenge a b (fault.NoAnswer why)) same stops)
-cookie_at bytes here left challenge a b same fault.NoMemory stops = (left, subst (λ x. StopsCookie x left challenge a b fault.NoMemory) same stops)
+cookie_at bytes here left challenge a b same f stops = (left, subst (λ x. StopsCookie x left challenge a b f) same stops)
 
 -- of the file that was opened
 pub cookie_ended : (bytes here left : Option (List ℕ)) (challenge : ℕ) (a b c d : Option (List ℕ)) → here ≡ bytes → EndsByFault (StopsCookie here left challenge a b) 1 c d → EndsByFault (StopsCookieAt bytes challenge a b) 1 c d
@@ -73,17 +48,9 @@ escaped_of_talk terminal talk here left a b is same f stops =
     subst (λ t. StopsTalk t talk a b f) (sym is) (left, subst (λ x. StopsEscapedNames x left 1280 a b f) same stops)
 
 at_talk : (terminal : Bool) (talk : StreamState) (a b : Option (List ℕ)) (f : Fault) → StopsTalk terminal talk a b f → StopsAnswer terminal talk a b f
-at_talk terminal talk a b fault.BadCommandLine stops = stops
-at_talk terminal talk a b fault.BadNodesFile stops = stops
-at_talk terminal talk a b (fault.RunEnded why) stops = stops
-at_talk terminal talk a b fault.ReadFailed stops = stops
-at_talk terminal talk a b fault.WriteFailed stops = stops
-at_talk terminal talk a b fault.OpenFailed stops = stops
-at_talk terminal talk a b (fault.NoCookie why) stops = stops
 at_talk true talk a b fault.ConnectFailed stops = absurd stops.1
 at_talk false talk a b fault.ConnectFailed stops = absurd stops.1
-at_talk terminal talk a b (fault.NoAnswer why) stops = stops
-at_talk terminal talk a b fault.NoMemory stops = stops
+at_talk terminal talk a b f stops = stops
 
 -- over the connection that was made
 pub names_ended : (terminal : Bool) (talk here left : StreamState) (a b c d : Option (List ℕ)) → terminal ≡ false → here ≡ talk → EndsByFault (StopsNames here left 1280 a b) 1 c d → EndsByFault (StopsAnswer terminal talk a b) 1 c d
@@ -99,16 +66,8 @@ names_unconnected terminal talk a c d line = ended_by (StopsAnswer terminal talk
 -- ---- `run`
 
 run_at : (bytes here left : Option (List ℕ)) (a b : Option (List ℕ)) → here ≡ bytes → (f : Fault) → StopsRunOf here left a b f → StopsRunAt bytes a b f
-run_at bytes here left a b same fault.BadCommandLine stops = (left, subst (λ x. StopsRunOf x left a b fault.BadCommandLine) same stops)
-run_at bytes here left a b same fault.BadNodesFile stops = (left, subst (λ x. StopsRunOf x left a b fault.BadNodesFile) same stops)
-run_at bytes here left a b same (fault.RunEnded why) stops = (left, subst (λ x. StopsRunOf x left a b (fault.RunEnded why)) same stops)
-run_at bytes here left a b same fault.ReadFailed stops = (left, subst (λ x. StopsRunOf x left a b fault.ReadFailed) same stops)
-run_at bytes here left a b same fault.WriteFailed stops = (left, subst (λ x. StopsRunOf x left a b fault.WriteFailed) same stops)
 run_at bytes here left a b same fault.OpenFailed stops = absurd stops.3
-run_at bytes here left a b same (fault.NoCookie why) stops = (left, subst (λ x. StopsRunOf x left a b (fault.NoCookie why)) same stops)
-run_at bytes here left a b same fault.ConnectFailed stops = (left, subst (λ x. StopsRunOf x left a b fault.ConnectFailed) same stops)
-run_at bytes here left a b same (fault.NoAnswer why) stops = (left, subst (λ x. StopsRunOf x left a b (fault.NoAnswer why)) same stops)
-run_at bytes here left a b same fault.NoMemory stops = (left, subst (λ x. StopsRunOf x left a b fault.NoMemory) same stops)
+run_at bytes here left a b same f stops = (left, subst (λ x. StopsRunOf x left a b f) same stops)
 
 -- of the file that was opened
 pub run_ended : (bytes here left : Option (List ℕ)) (a b c d : Option (List ℕ)) → here ≡ bytes → (PrintsRunOf here left 1 a b × (d ≡ c)) ⊎ EndsByFault (StopsRunOf here left a b) 1 c d → ((l : Option (List ℕ)) × PrintsRunOf bytes l 1 a b × (d ≡ c)) ⊎ EndsByFault (StopsRunAt bytes a b) 1 c d

@@ -1,5 +1,6 @@
 -- What is printed in parts.
-use Rattle.std.proofs.Common.{◌≡◌, ◌∙◌, ◌⊎◌, inl, inr, ℕ, zero, suc, ◌+◌, ◌<◌, List, [], ◌∷◌, ◌++◌, codes, Option, Some, length, take, get_or, refl, sym, ap, subst, arith, append-nil, append_assoc}
+use Rattle.std.proofs.Common.{◌≡◌, ◌∙◌, ℕ, zero, suc, ◌+◌, ◌<◌, List, [], ◌∷◌, ◌++◌, codes, Option, Some, length, take, get_or, refl, sym, ap, subst, arith, append-nil, append_assoc, add-one}
+use Rattle.std.specs.List.{flat_map}
 use Rattle.std.specs.Io.KnownBytes.{Appends, Consumes, IsAtEnd}
 use Rattle.std.proofs.KnownBytes.{Appends-nil, Appends-trans}
 use Rattle.dist_world_model.specs.World.{World}
@@ -17,35 +18,27 @@ use Rattle.dist_run_hosts.specs.declared.order_fault.OrderFault.{OrderFault}
 use Rattle.dist_run.specs.Runs.{AreInOrder}
 use Rattle.dist_script_lines.specs.Worlds.{nodes_text, PutsAgreements}
 use Rattle.dist_script_lines.proofs.Printing.{in_three}
-use Rattle.distnode.specs.Printed.{order_line, orders_text, closed_node, closed_text, refusal_text, Puts, IsHeld, IsAudited, IsOfRun, IsUnprinted, PrintsRun, PrintsRunOf, PrintsNothing}
+use Rattle.distnode.specs.Printed.{order_line, orders_text, closed_node, closed_text, refusal_text, Puts, IsHeld, IsAudited, IsOfRun, PrintsRun, PrintsRunOf}
 
 -- nothing more
 pub nothing : (a : Option (List ℕ)) → Appends a a []
 nothing a = Appends-nil a
 
-more_orders : (fs : List OrderFault) (i : ℕ) (d : OrderFault) → i < length fs → orders_text (take (suc i) fs) ≡ orders_text (take i fs) ++ order_line (get_or fs i d)
-more_orders [] i d lt = absurd (omega arith)
-more_orders (f ∷ fs) zero d lt = append-nil (order_line f)
-more_orders (f ∷ fs) (suc i) d lt = ap (λ t. order_line f ++ t) (more_orders fs i d (omega arith)) ∙ sym (append_assoc (order_line f) (orders_text (take i fs)) (order_line (get_or fs i d)))
+more : {X : Type 0} (line : X → List ℕ) (xs : List X) (i : ℕ) (d : X) → i < length xs → flat_map line (take (suc i) xs) ≡ flat_map line (take i xs) ++ line (get_or xs i d)
+more line [] i d lt = absurd (omega arith)
+more line (x ∷ xs) zero d lt = append-nil (line x)
+more line (x ∷ xs) (suc i) d lt = ap (λ t. line x ++ t) (more line xs i d (omega arith)) ∙ sym (append_assoc (line x) (flat_map line (take i xs)) (line (get_or xs i d)))
+
+line_more : {X : Type 0} (line : X → List ℕ) (a b c : Option (List ℕ)) (xs : List X) (i : ℕ) (d : X) → i < length xs → Appends a b (flat_map line (take i xs)) → Appends b c (line (get_or xs i d)) → Appends a c (flat_map line (take (i + 1) xs))
+line_more line a b c xs i d lt p q = rw (add-one i, more line xs i d lt) (Appends-trans a b c _ _ p q)
 
 -- one order more
 pub order_more : (a b c : Option (List ℕ)) (fs : List OrderFault) (i : ℕ) (d : OrderFault) → i < length fs → Appends a b (orders_text (take i fs)) → Appends b c (order_line (get_or fs i d)) → Appends a c (orders_text (take (i + 1) fs))
-order_more a b c fs i d lt p q =
-    let next : suc i ≡ i + 1 = omega arith in
-    subst (λ k. Appends a c (orders_text (take k fs))) next (subst (λ t. Appends a c t) (sym (more_orders fs i d lt)) (Appends-trans a b c _ _ p q))
-
--- ---- the closed nodes
-
-more_closed : (cs : List Closed) (i : ℕ) (d : Closed) → i < length cs → closed_text (take (suc i) cs) ≡ closed_text (take i cs) ++ closed_node (get_or cs i d)
-more_closed [] i d lt = absurd (omega arith)
-more_closed (c ∷ cs) zero d lt = append-nil (closed_node c)
-more_closed (c ∷ cs) (suc i) d lt = ap (λ t. closed_node c ++ t) (more_closed cs i d (omega arith)) ∙ sym (append_assoc (closed_node c) (closed_text (take i cs)) (closed_node (get_or cs i d)))
+order_more = line_more order_line
 
 -- one node more
 pub closed_more : (a b c : Option (List ℕ)) (cs : List Closed) (i : ℕ) (d : Closed) → i < length cs → Appends a b (closed_text (take i cs)) → Appends b c (closed_node (get_or cs i d)) → Appends a c (closed_text (take (i + 1) cs))
-closed_more a b c cs i d lt p q =
-    let next : suc i ≡ i + 1 = omega arith in
-    subst (λ k. Appends a c (closed_text (take k cs))) next (subst (λ t. Appends a c t) (sym (more_closed cs i d lt)) (Appends-trans a b c _ _ p q))
+closed_more = line_more closed_node
 
 -- ---- the whole
 
@@ -73,41 +66,7 @@ of_text file plan faults closed status a b says nodes order orders put = record 
 pub of_file : (before after : Option (List ℕ)) (file text : List ℕ) (status : ℕ) (a b : Option (List ℕ)) → text ≡ file → Consumes before after file → IsAtEnd after → PrintsRun text status a b → PrintsRunOf before after status a b
 of_file before after file text status a b same taken end prints = (file, taken, end, subst (λ t. PrintsRun t status a b) same prints)
 
--- a fault with status 1 that left standard output as it was, or could not write it
-pub nothing_of : (e : Fault) (status : ℕ) (a b : Option (List ℕ)) → status ≡ status_of e → IsUnprinted e a b → status ≡ 1 → PrintsNothing a b
-nothing_of e status a b is un one = (e, sym is ∙ one, un)
-
--- what was not begun to be printed
-pub unprinted : (e : Fault) (a : Option (List ℕ)) → IsUnprinted e a a
-unprinted fault.BadCommandLine a = refl
-unprinted fault.BadNodesFile a = refl
-unprinted (fault.RunEnded why) a = refl
-unprinted fault.ReadFailed a = refl
-unprinted fault.WriteFailed a = tt
-unprinted fault.OpenFailed a = refl
-unprinted (fault.NoCookie why) a = refl
-unprinted fault.ConnectFailed a = refl
-unprinted (fault.NoAnswer why) a = refl
-unprinted fault.NoMemory a = refl
-
--- what could not be written
-pub cut : (e : Fault) (a b : Option (List ℕ)) → e ≡ fault.WriteFailed → IsUnprinted e a b
-cut e a b is = subst (λ x. IsUnprinted x a b) (sym is) tt
-
--- the text of a nodes file was run, or nothing of it was printed
-pub run_or_nothing : (before after : Option (List ℕ)) (file text : List ℕ) (a b : Option (List ℕ)) → text ≡ file → Consumes before after file → IsAtEnd after → PrintsRun text 1 a b ⊎ PrintsNothing a b → PrintsRunOf before after 1 a b ⊎ PrintsNothing a b
-run_or_nothing before after file text a b same taken end (inl prints) = inl (of_file before after file text 1 a b same taken end prints)
-run_or_nothing before after file text a b same taken end (inr nothing) = inr nothing
-
 -- no fault ends with status 0
 pub never_zero : (f : Fault) → status_of f ≡ 0 → ⊥
 never_zero fault.BadCommandLine e = cc
-never_zero fault.BadNodesFile e = cc
-never_zero (fault.RunEnded why) e = cc
-never_zero fault.ReadFailed e = cc
-never_zero fault.WriteFailed e = cc
-never_zero fault.OpenFailed e = cc
-never_zero (fault.NoCookie why) e = cc
-never_zero fault.ConnectFailed e = cc
-never_zero (fault.NoAnswer why) e = cc
-never_zero fault.NoMemory e = cc
+never_zero other e = cc

@@ -1,6 +1,6 @@
 -- WHAT `run` PRINTS.
 use Rattle.std.specs.Prelude.{◌≡◌, ℕ, zero, suc, List, [], ◌∷◌, ◌++◌, codes, decimal, Option, Some}
-use Rattle.std.specs.List.{concat}
+use Rattle.std.specs.List.{concat, flat_map}
 use Rattle.std.specs.Io.KnownBytes.{Appends, Consumes, IsAtEnd}
 use Rattle.dist_world_model.specs.World.{World}
 use Rattle.dist_locked_book.specs.declared.closing.Closed.{Closed}
@@ -30,8 +30,7 @@ order_line fault = codes "order " ++ decimal fault.number ++ codes " " ++ order_
 
 -- a line for each order that made no dial
 abbrev pub orders_text : List OrderFault → List ℕ
-orders_text [] = []
-orders_text (fault ∷ faults) = order_line fault ++ orders_text faults
+orders_text = flat_map order_line
 
 -- the line and the table of a node as it was closed
 abbrev pub closed_node : Closed → List ℕ
@@ -39,8 +38,7 @@ closed_node closed = let n = closed.node in let s = n.setup in node_text s.name 
 
 -- those of all nodes
 abbrev pub closed_text : List Closed → List ℕ
-closed_text [] = []
-closed_text (closed ∷ others) = closed_node closed ++ closed_text others
+closed_text = flat_map closed_node
 
 -- audit refused N NAME
 abbrev pub refused_line : AuditError → List ℕ

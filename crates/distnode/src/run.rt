@@ -4,7 +4,7 @@ ghost use Rattle.std.specs.Prelude.{◌≡◌, ◌≤◌, ◌⊎◌, ℕ, List, 
 ghost use Rattle.std.specs.Io.KnownBytes.{Appends};
 ghost use Rattle.dist_script.specs.Texts.{PutsFront};
 ghost use Rattle.distnode.specs.Printed.{order_line, orders_text, closed_text, refused_line, refusal_text};
-ghost use Rattle.distnode.specs.Printed.{Puts, IsHeld, IsAudited, IsOfRun, IsUnprinted, PrintsRun, PrintsRunOf, PrintsNothing};
+ghost use Rattle.distnode.specs.Printed.{Puts, IsHeld, IsAudited, IsOfRun, PrintsRun, PrintsRunOf, PrintsNothing};
 ghost use Rattle.dist_commands.specs.Stopped.{EndsByFault};
 ghost use Rattle.distnode.specs.Stopped.{IsNoNodesFile, StopsPrinting, StopsRun, StopsRunOf};
 ghost use Rattle.dist_run_plan.specs.Plans as plans;
@@ -142,7 +142,6 @@ fn print_ran<W: Write>(alloc: Global, out: &mut W, ran: &Ran) -> Result<u8, Scri
 fn put_ran<W: Write>(alloc: Global, ran: &Ran, out: &mut W) -> Result<u8, Fault>
     ensures status { IfOk result (λ status. status ≤ 1) }
     ensures printed { IfOk result (λ status. Puts (IsOfRun status ran.now.faults.items ran.now.closed.items) (W.contents out.old) (W.contents out.new)) }
-    ensures err { IfErr result (λ fault. IsUnprinted fault (W.contents out.old) (W.contents out.new)) }
     ensures stopped { IfErr result (StopsPrinting ran.now.faults.items ran.now.closed.items (W.contents out.old) (W.contents out.new)) }
 {
     let mut text = Vec::new(alloc);
@@ -156,7 +155,7 @@ fn put_ran<W: Write>(alloc: Global, ran: &Ran, out: &mut W) -> Result<u8, Fault>
 }
 
 // Runs the nodes of a text, audits the result, and prints it. Returns the exit status.
-#[tactic(auto, using(crate::proofs::Printing::of_text, crate::proofs::Printing::unprinted))]
+#[tactic(auto, using(crate::proofs::Printing::of_text))]
 fn perform<R: Machine, G: Gate + Sync, W: Write>(
     rt: &R,
     alloc: Global,
@@ -166,7 +165,6 @@ fn perform<R: Machine, G: Gate + Sync, W: Write>(
 ) -> Result<u8, Fault>
     ensures status { IfOk result (λ status. status ≤ 1) }
     ensures printed { IfOk result (λ status. PrintsRun text.now status (W.contents out.old) (W.contents out.new)) }
-    ensures err { IfErr result (λ fault. IsUnprinted fault (W.contents out.old) (W.contents out.new)) }
     ensures stopped { IfErr result (StopsRun text.now (W.contents out.old) (W.contents out.new)) }
 {
     let plan = plan_in(alloc, text)?;

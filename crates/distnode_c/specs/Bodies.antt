@@ -5,7 +5,6 @@ use Rattle.dist_peers.specs.declared.entry.EndId.{EndId}
 use Rattle.dist_c_guest.specs.Calls.{answer_to, frame_to}
 use Rattle.dist_c_guest.specs.declared.guest.Guest.{Guest}
 use Rattle.distnode_c.specs.declared.replies.DnReply.{DnReply}
-use Rattle.distnode_c.specs.Mapper.{Leaves}
 use Rattle.distnode_c.specs.Steps.{Copies, Keeps, Makes, sent_bytes}
 
 -- a frame can have this body: its length fits two bytes
@@ -24,10 +23,10 @@ ReceivesBody body id fresh code (Some s) new was is = TakesBody (is_short body) 
 
 -- a body is copied, or there is none at this place (6)
 abbrev pub CopiesAt : Option (List ℕ) → ℕ → ℕ → ℕ → List ℕ → List ℕ → Type 0
-CopiesAt None code had len old new = Leaves 6 code had len old new
+CopiesAt None code had len old new = Keeps 6 code had len old new
 CopiesAt (Some body) code had len old new = Copies body code len old new
 
 -- the body at a place of what the newest reply sends is copied, where there is a guest (1)
 abbrev pub SaysBody : ℕ → Option Guest → ℕ → ℕ → ℕ → List ℕ → List ℕ → Type 0
-SaysBody place None code had len old new = Leaves 1 code had len old new
+SaysBody place None code had len old new = Keeps 1 code had len old new
 SaysBody place (Some s) code had len old new = CopiesAt (slice_get (bodies (sent_bytes s.last)) place) code had len old new

@@ -16,8 +16,7 @@ use Rattle.distnode_c.specs.declared.desk.DeskError.{DeskError}
 use Rattle.distnode_c.specs.declared.desk.DeskError.TheVariants as desk
 use Rattle.distnode_c.specs.declared.registry.DnServed.{DnServed}
 use Rattle.distnode_c.specs.Codes.{epmd_code}
-use Rattle.distnode_c.specs.Mapper.{Leaves, Unreported}
-use Rattle.distnode_c.specs.Steps.{Copies}
+use Rattle.distnode_c.specs.Steps.{Copies, Keeps, Silent}
 
 -- 1 where an answer registers the node that asked
 abbrev pub registered_number : Answer → ℕ
@@ -46,7 +45,7 @@ IsReceivedByDesk result conn (Some body) old new = IsReceivedIn result conn (2 +
 
 -- there is a registry without nodes, or memory ran out (3); one that is there stays (2)
 abbrev pub Opens : ℕ → ℕ → ℕ → Option RegistryDesk → Option RegistryDesk → Type 0
-Opens port first code (Some d) new = (code ≡ 2) × (new ≡ Some d)
+Opens port first code (Some d) new = Silent 2 code (Some d) new
 Opens port first code None new = ((code ≡ 0) × (new ≡ Some (record { registry = opening port first; last = None }))) ⊎ ((code ≡ 3) × (new ≡ None))
 
 -- THE ANSWER, as C has it: one that the rules allow is kept and reported, or memory ran out (3)
@@ -54,21 +53,21 @@ abbrev pub Serves : ℕ → Request → ℕ → ℕ → RegistryDesk → Option 
 Serves conn request taken code d new was is =
     ((given : Answer) × (after : Registrations) × Allows d.registry conn request given after × (code ≡ 0)
     × (new ≡ Some (record { registry = after; last = Some given })) × (is ≡ record { taken = taken; registered = registered_number given }))
-    ⊎ Unreported 3 code (Some d) new was is
+    ⊎ Keeps 3 code (Some d) new was is
 
 -- the same of what a frame's body spells, or why it is refused
 abbrev pub ServesBody : ℕ → Result Request EpmdError → ℕ → ℕ → RegistryDesk → Option RegistryDesk → DnServed → DnServed → Type 0
 ServesBody conn (Ok request) taken code d new was is = Serves conn request taken code d new was is
-ServesBody conn (Err e) taken code d new was is = Unreported (epmd_code e) code (Some d) new was is
+ServesBody conn (Err e) taken code d new was is = Keeps (epmd_code e) code (Some d) new was is
 
 -- the same of the frame at the front of bytes, or none has come whole (5)
 abbrev pub ServesFront : ℕ → Option (List ℕ) → ℕ → RegistryDesk → Option RegistryDesk → DnServed → DnServed → Type 0
-ServesFront conn None code d new was is = Unreported 5 code (Some d) new was is
+ServesFront conn None code d new was is = Keeps 5 code (Some d) new was is
 ServesFront conn (Some body) code d new was is = ServesBody conn (read_request body) (2 + length body) code d new was is
 
 -- the same at a struct that may hold no registry (1)
 abbrev pub Asked : ℕ → Option (List ℕ) → ℕ → Option RegistryDesk → Option RegistryDesk → DnServed → DnServed → Type 0
-Asked conn front code None new was is = Unreported 1 code None new was is
+Asked conn front code None new was is = Keeps 1 code None new was is
 Asked conn front code (Some d) new was is = ServesFront conn front code d new was is
 
 -- the bytes of the newest answer, and none before the first
@@ -78,12 +77,12 @@ answer_text (Some given) = written_answer given
 
 -- a text is copied, or memory ran out, or the reason why there is no text
 abbrev pub CopiesText : Result (List ℕ) EpmdError → ℕ → ℕ → ℕ → List ℕ → List ℕ → Type 0
-CopiesText (Ok text) code had len old new = Copies text code len old new ⊎ Leaves 3 code had len old new
-CopiesText (Err e) code had len old new = Leaves (epmd_code e) code had len old new
+CopiesText (Ok text) code had len old new = Copies text code len old new ⊎ Keeps 3 code had len old new
+CopiesText (Err e) code had len old new = Keeps (epmd_code e) code had len old new
 
 -- the newest answer is copied, where there is a registry (1)
 abbrev pub Answers : Option RegistryDesk → ℕ → ℕ → ℕ → List ℕ → List ℕ → Type 0
-Answers None code had len old new = Leaves 1 code had len old new
+Answers None code had len old new = Keeps 1 code had len old new
 Answers (Some d) code had len old new = CopiesText (answer_text d.last) code had len old new
 
 -- a connection is closed, and what was registered on it is dropped

@@ -1,4 +1,5 @@
--- What is reported of an end, and of the oldest one that is not up.
+-- What is reported to C of an end and of the oldest pending one, and the calls that forget causes and renew a node. The numbers
+-- in brackets are return codes (src/codes.rt); a guest is a node with its newest reply.
 use Rattle.std.specs.Prelude.{◌≡◌, ℕ, zero, suc, List, [], length, nat_le, Option, Some, None, slice_get, count_by}
 use Rattle.dist_names.specs.Order.{Name}
 use Rattle.dist_peers.specs.declared.entry.EndId.{EndId}

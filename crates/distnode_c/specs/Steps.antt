@@ -18,11 +18,11 @@ use Rattle.dist_core_ends.specs.declared.why.Why.{Why}
 use Rattle.distnode_c.specs.Codes.{step_code, why_number}
 use Rattle.distnode_c.specs.Replies.{reply_of}
 
--- nothing changed, and the call answered so
-abbrev pub Keeps : ℕ → ℕ → Option Guest → Option Guest → DnReply → DnReply → Type 0
+-- nothing changed, neither of the one nor of the other, and the call answered so
+abbrev pub Keeps : {X Y : Type 0} → ℕ → ℕ → X → X → Y → Y → Type 0
 Keeps wanted code old new was is = (code ≡ wanted) × (new ≡ old) × (is ≡ was)
 
--- nothing is reported but this code
+-- the same of one thing
 abbrev pub Silent : {X : Type 0} → ℕ → ℕ → X → X → Type 0
 Silent wanted code was is = (code ≡ wanted) × (is ≡ was)
 

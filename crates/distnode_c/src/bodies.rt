@@ -15,13 +15,6 @@ use std::alloc::Global;
 // The longest body of a frame, by its length of 2 bytes.
 const LONGEST: usize = 65535;
 
-/// An end, and the challenge that its step may send.
-#[derive(Clone, Copy)]
-pub struct EndDraw {
-    pub id: EndId,
-    pub challenge: u32,
-}
-
 /// Whether a frame can have this body.
 pub fn is_short(body: &[u8]) -> bool
     ensures { result ≡ is_short body.now }
@@ -33,13 +26,14 @@ pub fn is_short(body: &[u8]) -> bool
 fn take_body(
     guest: &mut Guest,
     alloc: Global,
-    draw: EndDraw,
+    id: EndId,
     body: &[u8],
+    challenge: u32,
     reply: &mut DnReply,
 ) -> u32
-    ensures { TakesBody true body.now draw.id draw.challenge result guest.old (Some guest.new) reply.old reply.new }
+    ensures { TakesBody true body.now id challenge result guest.old (Some guest.new) reply.old reply.new }
 {
-    match guest.take(alloc, draw.id, body, draw.challenge) {
+    match guest.take(alloc, id, body, challenge) {
         Ok(()) => {
             if let Some(last) = &guest.last {
                 *reply = reply_of(last, body.len());
@@ -65,12 +59,8 @@ pub extern "C" fn dn_node_body(
     let Some(mut guest) = node.open(alloc) else {
         return NOT_A_NODE;
     };
-    let draw = EndDraw {
-        id: EndId(id),
-        challenge,
-    };
     let code = if is_short(body) {
-        take_body(&mut guest, alloc, draw, body, reply)
+        take_body(&mut guest, alloc, EndId(id), body, challenge, reply)
     } else {
         TOO_LONG
     };

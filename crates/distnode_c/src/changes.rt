@@ -6,9 +6,9 @@ ghost use Rattle.dist_core.specs.declared.changing.Change.{Change};
 ghost use Rattle.dist_core.specs.declared.changing.Change.TheVariants.{UsualCookie};
 ghost use Rattle.dist_core.specs.Changing.{change};
 ghost use Rattle.dist_c_guest.specs.Forms.{form_of_text, has_form};
-ghost use Rattle.dist_c_guest.specs.Planning.{Changes};
+ghost use Rattle.dist_c_guest.specs.Planning.{Changes, lets_in, shuts_out, with_form, without_form};
 ghost use Rattle.dist_c_guest.specs.declared.guest.Guest.{Guest};
-ghost use Rattle.distnode_c.specs.Changes.{Allows, AllowsForm, AllowsText, Amends, AtGuest, Disallows, DisallowsForm, DisallowsText, Keys, KeysUsually, Unkeys};
+ghost use Rattle.distnode_c.specs.Changes.{AllowsText, Amends, AtGuest, ChangesForm, ChangesPeer, DisallowsText, Keys, KeysUsually, Unkeys};
 
 use crate::codes::{NO_MEMORY, NOT_A_NODE, OK, change_code, cookie_code, name_code};
 use crate::held::DnNode;
@@ -30,7 +30,7 @@ fn code_of_change(answer: Result<(), ChangeError>) -> u32
 }
 
 fn allow(guest: &mut Guest, alloc: Global, peer: &[u8]) -> u32
-    ensures { Allows (name_of_bytes peer.now) result guest.old guest.new }
+    ensures { ChangesPeer lets_in (name_of_bytes peer.now) result guest.old guest.new }
 {
     match NodeName::new(alloc, peer) {
         Ok(peer) => code_of_change(guest.allow(alloc, peer)),
@@ -39,7 +39,7 @@ fn allow(guest: &mut Guest, alloc: Global, peer: &[u8]) -> u32
 }
 
 fn allow_form(guest: &mut Guest, alloc: Global, text: &[u8]) -> u32
-    ensures { AllowsForm (form_of_text text.now) result guest.old guest.new }
+    ensures { ChangesForm with_form (form_of_text text.now) result guest.old guest.new }
 {
     match form_of(alloc, text) {
         Ok(form) => match guest.allow_form(alloc, form) {
@@ -75,7 +75,7 @@ pub extern "C" fn dn_node_allow(node: &mut DnNode, alloc: Global, peer: &[u8]) -
 }
 
 fn disallow(guest: &mut Guest, alloc: Global, peer: &[u8]) -> u32
-    ensures { Disallows (name_of_bytes peer.now) result guest.old guest.new }
+    ensures { ChangesPeer shuts_out (name_of_bytes peer.now) result guest.old guest.new }
 {
     match NodeName::new(alloc, peer) {
         Ok(peer) => {
@@ -87,7 +87,7 @@ fn disallow(guest: &mut Guest, alloc: Global, peer: &[u8]) -> u32
 }
 
 fn disallow_form(guest: &mut Guest, alloc: Global, text: &[u8]) -> u32
-    ensures { DisallowsForm (form_of_text text.now) result guest.old guest.new }
+    ensures { ChangesForm without_form (form_of_text text.now) result guest.old guest.new }
 {
     match form_of(alloc, text) {
         Ok(form) => {

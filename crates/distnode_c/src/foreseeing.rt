@@ -5,7 +5,7 @@ ghost use Rattle.dist_frames.specs.Stream.{first_body};
 ghost use Rattle.distnode_c.specs.Foreseeing.{ForeseesFront, ForeseesBody, IsReady, IsReadyBody};
 ghost use Rattle.distnode_c.specs.Bodies.{is_short};
 
-use crate::bodies::{EndDraw, is_short};
+use crate::bodies::is_short;
 use crate::codes::{AWAITS, NOT_A_NODE, OK, TOO_LONG, step_code};
 use crate::held::DnNode;
 use crate::replies::{DnReply, reply_of};
@@ -16,14 +16,15 @@ use std::alloc::Global;
 fn foresee_front(
     guest: &mut Guest,
     alloc: Global,
-    draw: EndDraw,
+    id: EndId,
     bytes: &[u8],
+    challenge: u32,
     reply: &mut DnReply,
 ) -> u32
-    ensures front { ForeseesFront (first_body w16 bytes.now) draw.id draw.challenge result guest.old reply.old reply.new }
+    ensures front { ForeseesFront (first_body w16 bytes.now) id challenge result guest.old reply.old reply.new }
     ensures same { guest.new ≡ guest.old }
 {
-    match guest.ready(alloc, draw.id, bytes, draw.challenge) {
+    match guest.ready(alloc, id, bytes, challenge) {
         Ok((answer, taken)) => {
             *reply = reply_of(&answer, taken);
             OK
@@ -49,11 +50,7 @@ pub extern "C" fn dn_node_ready(
     let Some(mut guest) = node.open(alloc) else {
         return NOT_A_NODE;
     };
-    let draw = EndDraw {
-        id: EndId(id),
-        challenge,
-    };
-    let code = foresee_front(&mut guest, alloc, draw, bytes, reply);
+    let code = foresee_front(&mut guest, alloc, EndId(id), bytes, challenge, reply);
     node.shut(guest);
     code
 }
@@ -61,17 +58,18 @@ pub extern "C" fn dn_node_ready(
 fn foresee_body(
     guest: &mut Guest,
     alloc: Global,
-    draw: EndDraw,
+    id: EndId,
     body: &[u8],
+    challenge: u32,
     reply: &mut DnReply,
 ) -> u32
-    ensures body { ForeseesBody (is_short body.now) body.now draw.id draw.challenge result guest.old reply.old reply.new }
+    ensures body { ForeseesBody (is_short body.now) body.now id challenge result guest.old reply.old reply.new }
     ensures same { guest.new ≡ guest.old }
 {
     if !is_short(body) {
         return TOO_LONG;
     }
-    match guest.foresee(alloc, draw.id, body, draw.challenge) {
+    match guest.foresee(alloc, id, body, challenge) {
         Ok(answer) => {
             *reply = reply_of(&answer, body.len());
             OK
@@ -96,11 +94,7 @@ pub extern "C" fn dn_node_ready_body(
     let Some(mut guest) = node.open(alloc) else {
         return NOT_A_NODE;
     };
-    let draw = EndDraw {
-        id: EndId(id),
-        challenge,
-    };
-    let code = foresee_body(&mut guest, alloc, draw, body, reply);
+    let code = foresee_body(&mut guest, alloc, EndId(id), body, challenge, reply);
     node.shut(guest);
     code
 }

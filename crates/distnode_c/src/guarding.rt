@@ -2,7 +2,7 @@
 ghost use Rattle.std.specs.Prelude.{◌≡◌, Some, true};
 ghost use Rattle.distnode_c.specs.Guarding.{GuardsBody, ReceivesGuarded};
 
-use crate::bodies::{EndDraw, is_short};
+use crate::bodies::is_short;
 use crate::codes::{NOT_A_NODE, OK, SHOWN_END, TOO_LONG, step_code};
 use crate::held::DnNode;
 use crate::replies::{DnReply, reply_of};
@@ -15,13 +15,14 @@ use std::alloc::Global;
 fn guard_body(
     guest: &mut Guest,
     alloc: Global,
-    draw: EndDraw,
+    id: EndId,
     body: &[u8],
+    challenge: u32,
     reply: &mut DnReply,
 ) -> u32
-    ensures { GuardsBody true body.now draw.id draw.challenge result guest.old (Some guest.new) reply.old reply.new }
+    ensures { GuardsBody true body.now id challenge result guest.old (Some guest.new) reply.old reply.new }
 {
-    match take_guarded(guest, alloc, draw.id, body, draw.challenge) {
+    match take_guarded(guest, alloc, id, body, challenge) {
         Ok(None) => {
             if let Some(last) = &guest.last {
                 *reply = reply_of(last, body.len());
@@ -51,12 +52,8 @@ pub extern "C" fn dn_node_guarded_body(
     let Some(mut guest) = node.open(alloc) else {
         return NOT_A_NODE;
     };
-    let draw = EndDraw {
-        id: EndId(id),
-        challenge,
-    };
     let code = if is_short(body) {
-        guard_body(&mut guest, alloc, draw, body, reply)
+        guard_body(&mut guest, alloc, EndId(id), body, challenge, reply)
     } else {
         TOO_LONG
     };

@@ -1,6 +1,8 @@
 //! A reply, as C sees it.
-ghost use Rattle.std.specs.Prelude.{◌≡◌};
-ghost use Rattle.distnode_c.specs.Replies.{reply_of, closed_why, closed_id, up_number, up_flags, up_creation, creation_number, is_known};
+ghost use Rattle.std.specs.Prelude.{◌≡◌, option_and_then};
+ghost use Rattle.std.specs.Option.{option_map_or};
+ghost use Rattle.distnode_c.specs.Codes.{why_number};
+ghost use Rattle.distnode_c.specs.Replies.{reply_of, creation_number, is_known};
 
 use crate::codes::why_number;
 use dist_core::{Reply, UpRecord, Why};
@@ -35,7 +37,7 @@ pub struct DnReply {
 }
 
 fn closed_parts(closed: &Option<(EndId, Why)>) -> (u32, u32)
-    ensures { result ≡ (closed_why closed.now, closed_id closed.now) }
+    ensures { result ≡ (option_map_or (λ x. why_number x.1) closed.now 0, option_map_or (λ x. x.0.0) closed.now 0) }
 {
     match closed {
         None => (0, 0),
@@ -54,7 +56,7 @@ pub fn creation_parts(creation: Option<Creation>) -> (u32, u32)
 }
 
 fn up_parts(up: &Option<UpRecord>) -> (u32, u64, Option<Creation>)
-    ensures { result ≡ (up_number up.now, up_flags up.now, up_creation up.now) }
+    ensures { result ≡ (option_map_or (λ u. 1) up.now 0, option_map_or (λ u. u.common.0) up.now 0, option_and_then (λ u. u.creation) up.now) }
 {
     match up {
         None => (0, 0, None),

@@ -24,13 +24,10 @@ texts_flat (s ∷ ss) = omega (arith, texts_flat ss)
 
 mutual
   depth-levels : (s : Shape) → depth (json_of s) ≤ levels s
-  depth-levels nothing = omega arith
-  depth-levels (truth b) = omega arith
-  depth-levels (number n) = omega arith
-  depth-levels (text s) = omega arith
   depth-levels (texts ss) = omega (arith, texts_flat ss)
   depth-levels (object l) = omega (arith, depth-layout_levels l)
   depth-levels (objects ls) = omega (arith, depth-object_levels ls)
+  depth-levels s = omega arith
 
   depth-layout_levels : (l : Layout) → members_depth (members_in l) ≤ layout_levels l
   depth-layout_levels no_member = omega arith
@@ -99,24 +96,15 @@ escape_visible_below (suc n) e x lt =
     ⊎_elim (λ is. subst (λ y. AreVisible (escape_byte y)) (sym is) (visible_by_test (escape_byte n) parts.0))
     (λ other. escape_visible_below n parts.1 x (omega (arith, other))) (cases_eq x n)
 
-controls_visible : escapes_visible 32 ≡ true
+table_visible : escapes_visible 93 ≡ true
 unfolding escape_byte
-controls_visible = refl
+table_visible = refl
 
-quote_visible : are_visible (escape_byte 34) ≡ true
-unfolding escape_byte
-quote_visible = refl
-
-backslash_visible : are_visible (escape_byte 92) ≡ true
-unfolding escape_byte
-backslash_visible = refl
-
+-- behind the backslash each byte stands for itself
 escape_visible : (x : ℕ) → AreVisible (escape_byte x)
 escape_visible x =
-    ⊎_elim (λ low. escape_visible_below 32 controls_visible x low)
-    (λ high. ⊎_elim (λ is. subst (λ y. AreVisible (escape_byte y)) (sym is) (visible_by_test (escape_byte 34) quote_visible))
-    (λ no_quote. ⊎_elim (λ is. subst (λ y. AreVisible (escape_byte y)) (sym is) (visible_by_test (escape_byte 92) backslash_visible))
-    (λ no_backslash. subst AreVisible (sym (escape_byte_plain x no_quote no_backslash high)) (high, tt)) (cases_eq x 92)) (cases_eq x 34)) (cases_lt x 32)
+    ⊎_elim (λ low. escape_visible_below 93 table_visible x low)
+    (λ high. subst AreVisible (sym (escape_byte_plain x (λ is. omega (arith, high, is)) (λ is. omega (arith, high, is)) (omega (arith, high)))) (omega (arith, high), tt)) (cases_lt x 93)
 
 AreVisible-escape : (s : List ℕ) → AreVisible (escape s)
 AreVisible-escape [] = tt
@@ -127,16 +115,8 @@ AreVisible-quoted s = (omega arith, AreVisible-append (escape s) (34 ∷ []) (Ar
 
 -- the text of a token has no byte below a space
 abbrev IsPlain : Token → Type 0
-IsPlain Token.begin_object = ⊤
-IsPlain Token.end_object = ⊤
-IsPlain Token.begin_array = ⊤
-IsPlain Token.end_array = ⊤
-IsPlain (Token.key s) = ⊤
-IsPlain (Token.string s) = ⊤
 IsPlain (Token.number s) = AreVisible s
-IsPlain (Token.boolean b) = ⊤
-IsPlain Token.null = ⊤
-IsPlain Token.bad = ⊤
+IsPlain t = ⊤
 
 abbrev ArePlain : List Token → Type 0
 ArePlain [] = ⊤
@@ -147,10 +127,6 @@ ArePlain-append [] us h k = k
 ArePlain-append (t ∷ ts) us h k = (h.0, ArePlain-append ts us h.1 k)
 
 AreVisible-token_text : (t : Token) → IsPlain t → AreVisible (token_text t)
-AreVisible-token_text Token.begin_object h = (omega arith, tt)
-AreVisible-token_text Token.end_object h = (omega arith, tt)
-AreVisible-token_text Token.begin_array h = (omega arith, tt)
-AreVisible-token_text Token.end_array h = (omega arith, tt)
 AreVisible-token_text (Token.key s) h = AreVisible-append (quoted s) (58 ∷ []) (AreVisible-quoted s) (omega arith, tt)
 AreVisible-token_text (Token.string s) h = AreVisible-quoted s
 AreVisible-token_text (Token.number s) h = h
@@ -158,6 +134,7 @@ AreVisible-token_text (Token.boolean true) h = (omega arith, (omega arith, (omeg
 AreVisible-token_text (Token.boolean false) h = (omega arith, (omega arith, (omega arith, (omega arith, (omega arith, tt)))))
 AreVisible-token_text Token.null h = (omega arith, (omega arith, (omega arith, (omega arith, tt))))
 AreVisible-token_text Token.bad h = tt
+AreVisible-token_text t h = (omega arith, tt)
 
 comma_visible : (b : Bool) → AreVisible (cond b (44 ∷ []) [])
 comma_visible true = (omega arith, tt)

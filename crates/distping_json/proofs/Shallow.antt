@@ -65,14 +65,8 @@ counts cs = omega (arith, counts_flat cs)
 
 -- a value is at most a list
 value_flat : (v : Value) → levels (shape_of v) ≤ 1
-value_flat value.Null = omega arith
-value_flat (value.Bool b) = omega arith
-value_flat (value.Number n) = omega arith
-value_flat (value.Text s) = omega arith
-value_flat (value.Name bytes) = omega arith
-value_flat (value.Digits flags) = omega arith
 value_flat (value.Names flags) = omega arith
-value_flat (value.Host host) = omega arith
+value_flat v = omega arith
 
 values_flat : (members : List (Bor (List ℕ) × Value)) → layout_levels (layout_of members) ≤ 1
 values_flat [] = omega arith

@@ -144,13 +144,10 @@ pub record BeginsLine (begun : Written) : Type 0 where
 -- how deep objects and lists nest in a value
 abbrev mutual
   pub levels : Shape → ℕ
-  levels nothing = 0
-  levels (truth b) = 0
-  levels (number n) = 0
-  levels (text s) = 0
   levels (texts ss) = 1
   levels (object l) = suc (layout_levels l)
   levels (objects ls) = suc (object_levels ls)
+  levels s = 0
 
   pub layout_levels : Layout → ℕ
   layout_levels no_member = 0

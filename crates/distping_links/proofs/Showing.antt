@@ -53,38 +53,18 @@ ShowsEnd taken.Left e = (awaited_of e ≡ Some awaited.Reply) ⊎ (awaited_of e 
 ShowsEnd other e = Unit {0}
 
 end-shows : (waits : Option Awaited) (e : Option End) → awaited_of e ≡ waits → ShowsEnd (end_verdict waits) e
-end-shows None e is = tt
-end-shows (Some awaited.Connection) e is = tt
 end-shows (Some awaited.Name) e is = is
-end-shows (Some awaited.Status) e is = tt
-end-shows (Some awaited.Challenge) e is = tt
-end-shows (Some awaited.Complement) e is = tt
 end-shows (Some awaited.Reply) e is = inl is
-end-shows (Some awaited.Ack) e is = tt
 end-shows (Some awaited.Nothing) e is = inr is
+end-shows waits e is = tt
 
 fault-shows : (waits : Option Awaited) (e : Option End) → awaited_of e ≡ waits → (stop : TurnError) → ShowsEnd (fault_verdict waits stop) e
 fault-shows waits e is fault.Limit = tt
-fault-shows waits e is fault.Ended = end-shows waits e is
-fault-shows waits e is fault.ReadFailed = end-shows waits e is
-fault-shows waits e is fault.WriteFailed = end-shows waits e is
+fault-shows waits e is stop = end-shows waits e is
 
 close-shows : (w : Why) (e : Option End) → e ≡ Some (ends.Closed w) → ShowsEnd (close_verdict w) e
-close-shows why.Ended e is = tt
-close-shows why.ReadFailed e is = tt
-close-shows why.WriteFailed e is = tt
-close-shows why.GaveUp e is = tt
-close-shows why.DialFailed e is = tt
-close-shows why.Malformed e is = tt
-close-shows why.Unexpected e is = tt
-close-shows why.WrongName e is = tt
-close-shows why.WrongFlags e is = tt
 close-shows why.WrongDigest e is = is
-close-shows why.StatusRefused e is = tt
-close-shows why.Refused e is = tt
-close-shows why.Crossed e is = tt
-close-shows why.Replaced e is = tt
-close-shows why.NoMemory e is = tt
+close-shows w e is = tt
 
 cut-shows : (e : Option End) (stop : TurnError) → ShowsEnd (cut_verdict (still_of e) (awaited_of e) stop) e
 cut-shows None stop = fault-shows None None refl stop
@@ -95,11 +75,9 @@ cut-shows (Some (ends.Closed w)) stop = close-shows w (Some (ends.Closed w)) ref
 
 written-shows : (e : Option End) (stop : Option TurnError) → IfSome (written_verdict stop (still_of e) (awaited_of e)) (λ t. ShowsEnd t e)
 written-shows e (Some stop) = cut-shows e stop
-written-shows None None = tt
-written-shows (Some ends.Unnamed) None = tt
-written-shows (Some (ends.Attempt b)) None = tt
 written-shows (Some (ends.Up kept)) None = (kept, refl)
 written-shows (Some (ends.Closed w)) None = close-shows w (Some (ends.Closed w)) refl
+written-shows e None = tt
 
 -- ---- a verdict
 
@@ -107,25 +85,11 @@ written-shows (Some (ends.Closed w)) None = close-shows w (Some (ends.Closed w))
 put : (s : Setup) (fresh : ℕ) (compares : Bool) (says : Content) (m : NodeState) → (ShowsEnd taken.Up (only m) → Shows s fresh compares says taken.Up m) → (t : Taken) → ShowsEnd t (only m) → Shows s fresh compares says t m
 put s fresh compares says m up taken.Up h = up h
 put s fresh compares says m up taken.Answered h = absurd h
-put s fresh compares says m up taken.WrongCookie h = h
-put s fresh compares says m up taken.NoName h = h
-put s fresh compares says m up taken.Left h = h
-put s fresh compares says m up taken.Silent h = tt
-put s fresh compares says m up taken.Unexpected h = tt
-put s fresh compares says m up (taken.Foreign service) h = tt
-put s fresh compares says m up taken.NoMemory h = tt
-put s fresh compares says m up taken.Stopped h = tt
-put s fresh compares says m up taken.WantsName h = tt
-put s fresh compares says m up taken.NoCaller h = tt
+put s fresh compares says m up t h = h
 
 step-shows : (s : Setup) (fresh : ℕ) (compares : Bool) (says : Content) (m : NodeState) (x : StepError) → Shows s fresh compares says (step_verdict x) m
-step-shows s fresh compares says m error.NoSuchEnd = tt
-step-shows s fresh compares says m (error.Gone w) = tt
-step-shows s fresh compares says m error.WrongPhase = tt
-step-shows s fresh compares says m (error.Busy x) = tt
-step-shows s fresh compares says m error.Spent = tt
-step-shows s fresh compares says m error.Full = tt
 step-shows s fresh compares says m error.NoMemory = tt
+step-shows s fresh compares says m x = tt
 
 -- what each verdict shows, where there is one
 abbrev AllShow : Setup → ℕ → Bool → Content → NodeState → Option Taken → Type 0
@@ -211,12 +175,7 @@ module _ (s : Setup) (steps fresh : ℕ) (compares : Bool) (body : List ℕ) (m 
       }
   first-part (Ok (message.Reply x y)) is true same hands = shut-first content.Reply (reads (Ok (message.Reply x y)) is) hands
   first-part (Ok (message.Reply x y)) is false same hands = shut-first content.Reply (reads (Ok (message.Reply x y)) is) hands
-  first-part (Ok (message.Status x)) is c same hands = shut-first content.Other (reads (Ok (message.Status x)) is) hands
-  first-part (Ok (message.OldChallenge x y z)) is c same hands = shut-first content.Other (reads (Ok (message.OldChallenge x y z)) is) hands
-  first-part (Ok (message.NewChallenge x y z w)) is c same hands = shut-first content.Other (reads (Ok (message.NewChallenge x y z w)) is) hands
-  first-part (Ok (message.Complement x y)) is c same hands = shut-first content.Other (reads (Ok (message.Complement x y)) is) hands
-  first-part (Ok (message.Ack x)) is c same hands = shut-first content.Other (reads (Ok (message.Ack x)) is) hands
-  first-part (Err x) is c same hands = shut-first content.Other (reads (Err x) is) hands
+  first-part res is c same hands = shut-first content.Other (reads res is) hands
 
 -- ---- the second body
 
@@ -251,13 +210,7 @@ module _ (s : Setup) (steps fresh : ℕ) (compares : Bool) (peer : Peer) (body :
   second-part (Ok (message.Reply x y)) is true does hands = handed s fresh compares (content.Name peer) body awaiting m old new turns left verdict hands (λ r e. replied-up x y does (reads-reply (Ok (message.Reply x y)) is r e))
   second-part (Ok (message.Reply x y)) is false does held = subst (AllShow s fresh compares (content.Name peer) m) (sym held.2) (does, ap (λ (k : NodeState). awaited_of (only k)) held.0)
   second-part (Ok (message.OldName f p)) is c does held = subst (AllShow s fresh compares (content.Name peer) m) (sym held.2) tt
-  second-part (Ok (message.NewName x y z)) is c does hands = shut-second (reads-reply (Ok (message.NewName x y z)) is) hands
-  second-part (Ok (message.Status x)) is c does hands = shut-second (reads-reply (Ok (message.Status x)) is) hands
-  second-part (Ok (message.OldChallenge x y z)) is c does hands = shut-second (reads-reply (Ok (message.OldChallenge x y z)) is) hands
-  second-part (Ok (message.NewChallenge x y z w)) is c does hands = shut-second (reads-reply (Ok (message.NewChallenge x y z w)) is) hands
-  second-part (Ok (message.Complement x y)) is c does hands = shut-second (reads-reply (Ok (message.Complement x y)) is) hands
-  second-part (Ok (message.Ack x)) is c does hands = shut-second (reads-reply (Ok (message.Ack x)) is) hands
-  second-part (Err x) is c does hands = shut-second (reads-reply (Err x) is) hands
+  second-part res is c does hands = shut-second (reads-reply res is) hands
 
 -- ---- the talk
 
@@ -271,9 +224,7 @@ instead-shows e came.NoMemory t is = let same : t ≡ taken.NoMemory = cc in sub
 -- what was heard as a body says what it reads as
 body-says : (waits : Option Awaited) (frame : Came) (inbound : Inbound) → IsHeardAs waits frame (Ok inbound) → inbound.content ≡ content_as (read Dialler inbound.body)
 body-says waits (came.Body body) inbound is = is.1 ∙ ap (λ (x : List ℕ). content_as (read Dialler x)) (sym is.0)
-body-says waits (came.Front front) inbound is = absurd cc
-body-says waits (came.Stopped stop count) inbound is = absurd cc
-body-says waits came.NoMemory inbound is = absurd cc
+body-says waits frame inbound is = absurd cc
 
 -- the last verdict shows what it has to, where each does
 last-shows : (s : Setup) (fresh : ℕ) (compares : Bool) (says : Content) (m : NodeState) (o : Option Taken) → AllShow s fresh compares says m o → Shows s fresh compares says (last_verdict o) m

@@ -1,4 +1,4 @@
--- What was observed of a watched node.
+-- The word of a printed verdict, as the lines of watched nodes have it.
 use Rattle.std.specs.Prelude.{ℕ, ◌==◌, Bool, List}
 use Rattle.std.specs.List.{before_first}
 

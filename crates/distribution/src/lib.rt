@@ -1,5 +1,5 @@
 //! What a program that joins Erlang nodes needs, in one crate: everything here stands in a crate of its own below, and is only
-//! named here once more. docs/LIBRARY.md goes through a whole program, `joining`, line by line.
+//! named here once more. docs/LIBRARY.md goes through a whole program, `joining`.
 //!
 //! # The order of the calls
 //!

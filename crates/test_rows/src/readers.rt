@@ -3,8 +3,8 @@
 use std::io;
 use std::io::{Error, ErrorKind, Read, Write};
 
-/// Gives a text by a list of calls, repeats the last call forever, and counts the calls. A call gives at most this many bytes, ends
-/// (`E`) or fails (the others).
+/// Reads a text by a list of calls, repeats the last forever, and counts them. A call is the most bytes that it gives; or `E`,
+/// the end; or a failure: `I` interrupted, `W` would block, `U` unexpected end, `F` other.
 #[derive(Drop)]
 pub struct Scripted<'t> {
     text: &'t [u8],
@@ -57,7 +57,7 @@ impl Read for Scripted<'_> {
     }
 }
 
-/// Takes what is written. It may be an output that can't be flushed.
+/// Keeps what is written. If `is_unflushed`, each flush fails.
 #[derive(Drop)]
 pub struct Sink {
     pub taken: Vec<u8>,

@@ -1,4 +1,4 @@
-//! Serves requests of clients.
+//! Rows of requests that clients send to a port mapper (EPMD Protocol).
 
 use crate::digits::{put_bytes, put_number, put_word, word};
 use crate::streams::{limit_of, stream_of};

@@ -15,7 +15,8 @@ use std::test::*;
 use std::thread::Threads;
 use std::time::Clock;
 
-// The nodes files, each behind the word of the fault of its system: node a, which has one order to dial node b; two nodes that dial each
+// The nodes files, each behind a word: the fault of its system, or `asks` or `ring` on a system without a fault, or `other` for
+// all faults without a file of their own. In turn: node a, which has one order to dial node b; two nodes that dial each
 // other; node b, which requires a flag that node a does not announce; four nodes, of which two dial one each; one node that dials all
 // others; and nodes that each dial the two that follow and the two before, the first beside the last.
 const FILES: &str = r#"# other
@@ -107,7 +108,7 @@ fn report_of(alloc: Global, ran: &Ran) -> Option<String> {
     Some(text)
 }
 
-// What a run on a system with this fault reports, or why it was refused. `None`, here and above: memory was refused.
+// What a run on a system with this fault reports, or why it was refused. `None`: out of memory, or a bad nodes file.
 fn run_on<R>(rt: &R, alloc: Global, fault: &str) -> Option<String>
 where
     R: Net<Listener = TcpListener, Stream = TcpStream>
@@ -162,7 +163,7 @@ fn gated_workers(rt: HostRuntime) {
     assert_eq!(rt; ran.as_deref(), Some("up 1 1 1 1, audit holds"));
 }
 
-// Each of them is up with four. An order is refused as busy if its peer has dialled before, and is up.
+// Each of them is up with four. An order is refused as busy if the node already has an entry for the peer, which dialled first.
 #[test]
 fn sixteen_nodes_that_dial_each_other_come_up(rt: HostRuntime) {
     let ran = run_on(&rt, rt.alloc(), "ring");

@@ -70,11 +70,20 @@ fn digits_of(word: &str) -> Option<&'static str> {
 /// The bytes of frames joined by `+`; `-` is no byte.
 pub fn bytes_of(alloc: Global, words: &str) -> Option<Vec<u8>> {
     let mut bytes = Vec::new(alloc);
-    for word in words.split('+') {
-        let more = hex::decode(alloc, digits_of(word).unwrap_or("")).ok()?;
-        bytes.extend_from_slice(&more).ok()?;
-    }
+    put_frames(alloc, &mut bytes, words)?;
     Some(bytes)
+}
+
+fn put_frames(alloc: Global, bytes: &mut Vec<u8>, words: &str) -> Option<()> {
+    for word in words.split('+') {
+        put_frame(alloc, bytes, digits_of(word).unwrap_or(""))?;
+    }
+    Some(())
+}
+
+fn put_frame(alloc: Global, bytes: &mut Vec<u8>, digits: &str) -> Option<()> {
+    let more = hex::decode(alloc, digits).ok()?;
+    bytes.extend_from_slice(&more).ok()
 }
 
 /// The event for a word: a frame; `dial` of node b; the end is `opened`, has `ended`, or is `replaced`; a connection is `incoming`; for

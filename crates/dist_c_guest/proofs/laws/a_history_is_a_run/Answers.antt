@@ -1,4 +1,4 @@
-use Rattle.dist_c_guest.proofs.Runs.{a-run}
+use Rattle.dist_c_guest.proofs.Acts.{a-run}
 use Rattle.dist_c_guest.proofs.laws.a_history_is_a_run.Goals as goal
 
 pub returns : goal.returns

@@ -1,4 +1,4 @@
-use Rattle.std.proofs.Common.{rules, ◌≡◌, ◌∙◌, sym, ap, codes, Some, None}
+use Rattle.std.proofs.Common.{◌≡◌, ◌∙◌, sym, ap, codes, Some, None}
 use Rattle.clap.specs.Words.{first_of, found_of, rows_of}
 use Rattle.dist_commands.proofs.Rows.{matched, number_read, number_left}
 use Rattle.dist_commands.proofs.matched.challenge_in.Goals as goal

@@ -1,4 +1,4 @@
-use Rattle.std.proofs.Common.{rules, ◌≡◌, codes, refl, Some, None}
+use Rattle.std.proofs.Common.{rules, ◌≡◌, codes, Some, None}
 use Rattle.clap.specs.Words.{first_of, found_of, rows_of}
 use Rattle.dist_commands.proofs.Rows.{matched, no_run}
 use Rattle.dist_commands.proofs.matched.run_order.Goals as goal

@@ -1,6 +1,6 @@
-use Rattle.std.proofs.Common.{rules, ◌≡◌, ◌∙◌, ap, subst, sym, refl, true, map, List, [], inl, inr, Err, Ok}
+use Rattle.std.proofs.Common.{rules, ◌≡◌, ◌∙◌, ap, subst, sym, refl, true, map, [], inl, inr}
 use Rattle.std.specs.Prelude.{IfOk}
-use Rattle.clap.specs.Words.{FailsBy, HasKind, Text, app_of, fault_of, is_simple, is_simple_and_free, subcommand_of, subcommand_rows_of}
+use Rattle.clap.specs.Words.{HasKind, fault_of, is_simple, is_simple_and_free, subcommand_of, subcommand_rows_of}
 use Rattle.clap.proofs.OnLiterals.{clap_on_literals}
 use Rattle.dist_commands.specs.CommandLine.{AsksWith, program_app}
 use Rattle.dist_commands.proofs.Rows.{no_order, not_bad, order_given}

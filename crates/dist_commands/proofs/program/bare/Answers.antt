@@ -1,4 +1,4 @@
-use Rattle.std.proofs.Common.{◌≡◌, ap, true}
+use Rattle.std.proofs.Common.{ap, true}
 use Rattle.clap.specs.Words.{App}
 use Rattle.dist_commands.proofs.program.bare.Goals as goal
 

@@ -1,4 +1,4 @@
-use Rattle.std.proofs.Common.{◌≡◌, ◌∙◌}
+use Rattle.std.proofs.Common.{◌∙◌}
 use Rattle.std.proofs.lemmas.Result.{IfOk-weaker}
 use Rattle.dist_commands.proofs.Aliases.{aliased, still_local}
 use Rattle.dist_commands.proofs.program.port_or_epmd_port.Goals as goal

@@ -1,4 +1,4 @@
-use Rattle.std.proofs.Common.{◌≡◌, ℕ, Bool, true, rules, refl, sym, ap, subst, ◌∙◌}
+use Rattle.std.proofs.Common.{ℕ, Bool, true, rules, refl, sym, ap, subst, ◌∙◌}
 use Rattle.std.specs.Prelude.{IfErr}
 use Rattle.dist_frames.specs.Reader.{Reader, to_come}
 use Rattle.dist_drive.specs.declared.outcome.Ending.{Ending}

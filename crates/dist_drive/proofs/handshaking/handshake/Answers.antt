@@ -1,4 +1,4 @@
-use Rattle.std.proofs.Common.{rules, refl, inl}
+use Rattle.std.proofs.Common.{refl, inl}
 use Rattle.dist_core_ends.specs.declared.why.Why.TheVariants as why
 use Rattle.dist_drive.specs.declared.outcome.Ending.TheVariants as ending
 use Rattle.dist_drive.specs.Driven.{Start}

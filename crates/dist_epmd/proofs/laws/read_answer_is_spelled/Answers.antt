@@ -1,13 +1,13 @@
-use Rattle.std.proofs.Common.{Ok}
-use Rattle.dist_epmd.proofs.Messages.{answer_again, answer_found}
-use Rattle.dist_epmd.proofs.Refusals.{answer_is_refused}
+use Rattle.std.proofs.Common.{subst}
+use Rattle.dist_epmd.specs.Layout.{SpellsAnswer, AnswerFits}
+use Rattle.dist_epmd.proofs.Messages.{IsReading, answer_again, answer_reading}
 use Rattle.dist_epmd.proofs.laws.read_answer_is_spelled.Goals as goal
 
 pub returns-clause-read : goal.returns-clause-read
-returns-clause-read c = λ asked m bytes fits s. answer_again asked m bytes fits s
+returns-clause-read c = answer_again
 
 pub returns-clause-spelled : goal.returns-clause-spelled
-returns-clause-spelled c = λ asked m bytes are e. answer_found asked bytes (Ok m) are e
+returns-clause-spelled c = λ asked m bytes are e. (subst (IsReading (SpellsAnswer asked) AnswerFits bytes) e (answer_reading asked bytes are)).0
 
 pub returns-clause-refused : goal.returns-clause-refused
-returns-clause-refused c = λ asked error bytes are e. answer_is_refused asked error bytes are e
+returns-clause-refused c = λ asked error bytes are e. subst (IsReading (SpellsAnswer asked) AnswerFits bytes) e (answer_reading asked bytes are)

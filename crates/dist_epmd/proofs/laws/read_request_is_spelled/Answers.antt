@@ -1,12 +1,13 @@
-use Rattle.dist_epmd.proofs.Messages.{request_again, request_spelled}
-use Rattle.dist_epmd.proofs.Refusals.{request_is_refused}
+use Rattle.std.proofs.Common.{subst}
+use Rattle.dist_epmd.specs.Layout.{SpellsRequest, RequestFits}
+use Rattle.dist_epmd.proofs.Messages.{IsReading, request_again, request_reading}
 use Rattle.dist_epmd.proofs.laws.read_request_is_spelled.Goals as goal
 
 pub returns-clause-read : goal.returns-clause-read
-returns-clause-read c = λ m body fits s. request_again m body fits s
+returns-clause-read c = request_again
 
 pub returns-clause-spelled : goal.returns-clause-spelled
-returns-clause-spelled c = λ m body bytes e. request_spelled body m bytes e
+returns-clause-spelled c = λ m body bytes e. subst (IsReading SpellsRequest RequestFits body) e (request_reading body bytes)
 
 pub returns-clause-refused : goal.returns-clause-refused
-returns-clause-refused c = λ error body bytes e. request_is_refused error body bytes e
+returns-clause-refused c = λ error body bytes e. subst (IsReading SpellsRequest RequestFits body) e (request_reading body bytes)

@@ -1,13 +1,14 @@
-use Rattle.std.proofs.Common.{arith}
-use Rattle.dist_epmd.proofs.Messages.{request_found, request_only}
-use Rattle.dist_epmd.proofs.Refusals.{request_refusal}
+use Rattle.std.proofs.Common.{arith, subst}
+use Rattle.dist_epmd.specs.Answering.{Answers}
+use Rattle.dist_epmd.specs.Layout.{SpellsRequest, RequestFits}
+use Rattle.dist_epmd.proofs.Messages.{found, refused, request_again, request_reading}
 use Rattle.dist_epmd.proofs.reading.decode_request.Goals as goal
 
 pub returns-clause-found : goal.returns-clause-found
-returns-clause-found c = request_found c.args.body.now c.read_request.result (λ i. omega (arith, c.type_inv.body i)) c.read_request.ensures.exact
+returns-clause-found c = found SpellsRequest RequestFits c.args.body.now _ c.read_request.result (request_reading c.args.body.now (λ i. omega (arith, c.type_inv.body i))) c.read_request.ensures.exact
 
 pub returns-clause-only : goal.returns-clause-only
-returns-clause-only c = λ m fits spelled. request_only c.args.body.now c.read_request.result m c.read_request.ensures.exact fits spelled
+returns-clause-only c = λ m fits spelled. subst (Answers (λ x. x) c.read_request.result) (request_again m c.args.body.now fits spelled) c.read_request.ensures.exact
 
 pub returns-clause-refused : goal.returns-clause-refused
-returns-clause-refused c = request_refusal c.args.body.now c.read_request.result (λ i. omega (arith, c.type_inv.body i)) c.read_request.ensures.exact
+returns-clause-refused c = refused SpellsRequest RequestFits c.args.body.now _ c.read_request.result (request_reading c.args.body.now (λ i. omega (arith, c.type_inv.body i))) c.read_request.ensures.exact

@@ -1,11 +1,11 @@
 use Rattle.std.proofs.Common.{◌∙◌, ap, sym, subst}
 use Rattle.std.specs.Map.{values_of}
 use Rattle.dist_epmd.specs.Named.{StandAtNames}
-use Rattle.dist_epmd.proofs.Named.{put_rows, put_names}
+use Rattle.dist_epmd.proofs.Named.{put_rows}
 use Rattle.dist_epmd.proofs.rows.put_row.Goals as goal
 
 pub returns-clause-ok : goal.returns-clause-ok
-returns-clause-ok c = ap values_of c.in_ok-insert.ensures.entries ∙ put_rows c.args.name c.args.row c.args.rows.now.entries c.requires.own c.requires.names c.requires.fresh
+returns-clause-ok c = ap values_of c.in_ok-insert.ensures.entries ∙ (put_rows c.args.name c.args.row c.requires.own c.args.rows.now.entries c.requires.names c.requires.fresh).0
 
 pub returns-clause-names : goal.returns-clause-names
-returns-clause-names c = subst StandAtNames (sym c.in_ok-insert.ensures.entries) (put_names c.args.name c.args.row c.args.rows.now.entries c.requires.own c.requires.names c.requires.fresh)
+returns-clause-names c = subst StandAtNames (sym c.in_ok-insert.ensures.entries) (put_rows c.args.name c.args.row c.requires.own c.args.rows.now.entries c.requires.names c.requires.fresh).1

@@ -1,16 +1,15 @@
-use Rattle.std.proofs.Common.{ℕ, List, sym, subst}
+use Rattle.std.proofs.Common.{sym, subst}
 use Rattle.dist_epmd.specs.declared.message.Asked.TheVariants as asked
 use Rattle.dist_epmd.specs.declared.message.Request.TheVariants as request
-use Rattle.dist_epmd.specs.Layout.{written_request}
 use Rattle.dist_epmd.specs.Reading.{read_answer}
 use Rattle.dist_epmd_calls.specs.Asking.{AsksFor, Settles, names_meant}
 use Rattle.dist_epmd_calls.proofs.Asks.{reported, answer_of, refusal_of}
 use Rattle.dist_epmd_calls.proofs.ask.ask_names.Goals as goal
 
 pub returns-in_err-bytes : goal.returns-in_err-bytes
-returns-in_err-bytes g c = subst (AsksFor request.Names _ _ _ names_meant) (sym (reported c.from_residual.ensures.1)) (refusal_of asked.Names (written_request request.Names) _ _ _ names_meant _ c.in_err-bytes.ensures)
+returns-in_err-bytes g c = subst (AsksFor request.Names _ _ _ names_meant) (sym (reported c.from_residual.ensures.1)) (refusal_of request.Names _ _ _ names_meant _ c.in_err-bytes.ensures)
 
 pub returns : goal.returns
 returns g c =
-    let exact = subst (λ (b : List ℕ). Settles c.names_of.result (names_meant b) (read_answer asked.Names b)) c.as_slice.ensures c.names_of.ensures in
-    answer_of asked.Names (written_request request.Names) _ _ _ names_meant c.in_ok-bytes.bytes c.names_of.result exact c.in_ok-bytes.ensures
+    let exact = subst (λ b. Settles c.names_of.result (names_meant b) (read_answer asked.Names b)) c.as_slice.ensures c.names_of.ensures in
+    answer_of request.Names _ _ _ names_meant c.in_ok-bytes.bytes c.names_of.result exact c.in_ok-bytes.ensures

@@ -3,11 +3,11 @@ use Rattle.dist_epmd.specs.Layout.{written_request}
 use Rattle.dist_epmd.specs.declared.message.Request.TheVariants as request
 use Rattle.dist_epmd_calls.specs.Asking.{RegistersFor}
 use Rattle.dist_epmd_calls.proofs.Asks.{reported}
-use Rattle.dist_epmd_calls.proofs.Registering.{no_frame, registers_written}
+use Rattle.dist_epmd_calls.proofs.Registering.{registers_unframed, registers_framed}
 use Rattle.dist_epmd_calls.proofs.registration.register.Goals as goal
 
 pub returns-in_err-frame : goal.returns-in_err-frame
-returns-in_err-frame g c = subst (RegistersFor c.args.request.now _ _ _) (sym (reported c.from_residual.ensures.1)) (no_frame _ _ (written_request (request.Alive c.args.request.now)) c.in_err-frame.field-0.0 c.in_err-frame.ensures)
+returns-in_err-frame g c = subst (RegistersFor c.args.request.now _ _ _) (sym (reported c.from_residual.ensures.1)) (registers_unframed _ _ (written_request (request.Alive c.args.request.now)) c.in_err-frame.field-0.0 c.in_err-frame.ensures)
 
 pub returns : goal.returns
-returns g c = registers_written {written = written_request (request.Alive c.args.request.now)} c.in_ok-frame.ensures c.as_slice.ensures c.exchange.ensures
+returns g c = registers_framed {w = written_request (request.Alive c.args.request.now)} c.in_ok-frame.ensures c.as_slice.ensures c.exchange.ensures

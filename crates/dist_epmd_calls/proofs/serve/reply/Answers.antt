@@ -1,5 +1,6 @@
-use Rattle.dist_epmd_calls.proofs.Serves.{reply_none}
+use Rattle.std.proofs.Common.{[], None, refl, inl}
+use Rattle.dist_stream.proofs.Talks.{Says-none}
 use Rattle.dist_epmd_calls.proofs.serve.reply.Goals as goal
 
 pub returns-in_default-clause-says : goal.returns-in_default-clause-says
-returns-in_default-clause-says g c = reply_none c.in_default.ensures.err
+returns-in_default-clause-says g c = record { said = []; stop = None; says = Says-none _ _; means = inl (refl, refl, refl, c.in_default.ensures.err) }

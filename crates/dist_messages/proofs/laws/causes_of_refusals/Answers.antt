@@ -1,17 +1,24 @@
-use Rattle.dist_messages.proofs.Refusals.{empty_law, tag_law, short_law, long_law, status_law}
+use Rattle.dist_messages.specs.Causes.{IsCause}
+use Rattle.dist_messages.specs.declared.message_error.MessageError.TheVariants as errors
+use Rattle.dist_messages.proofs.Refusals.{causes_law}
 use Rattle.dist_messages.proofs.laws.causes_of_refusals.Goals as goal
 
 pub returns-clause-empty : goal.returns-clause-empty
-returns-clause-empty c = empty_law
+unfolding IsCause
+returns-clause-empty c = λ side body fits. causes_law side body errors.Empty fits (λ e. cc)
 
 pub returns-clause-unknown_tag : goal.returns-clause-unknown_tag
-returns-clause-unknown_tag c = tag_law
+unfolding IsCause
+returns-clause-unknown_tag c = λ side body fits. causes_law side body errors.UnknownTag fits (λ e. cc)
 
 pub returns-clause-short : goal.returns-clause-short
-returns-clause-short c = short_law
+unfolding IsCause
+returns-clause-short c = λ side body fits. causes_law side body errors.Short fits (λ e. cc)
 
 pub returns-clause-long : goal.returns-clause-long
-returns-clause-long c = long_law
+unfolding IsCause
+returns-clause-long c = λ side body fits. causes_law side body errors.Long fits (λ e. cc)
 
 pub returns-clause-unknown_status : goal.returns-clause-unknown_status
-returns-clause-unknown_status c = status_law
+unfolding IsCause
+returns-clause-unknown_status c = λ side body fits. causes_law side body errors.UnknownStatus fits (λ e. cc)

@@ -1,14 +1,16 @@
-use Rattle.dist_messages.proofs.Writings.{written_law, tag_law, name_law, status_law}
+use Rattle.std.proofs.Common.{Ok, Err}
+use Rattle.dist_messages.specs.declared.message_error.MessageError.TheVariants as errors
+use Rattle.dist_messages.proofs.Writings.{answers_law}
 use Rattle.dist_messages.proofs.laws.causes_of_writing.Goals as goal
 
 pub returns-clause-written : goal.returns-clause-written
-returns-clause-written c = written_law
+returns-clause-written c = λ side m body. answers_law side m (Ok body)
 
 pub returns-clause-unknown_tag : goal.returns-clause-unknown_tag
-returns-clause-unknown_tag c = tag_law
+returns-clause-unknown_tag c = λ side m. answers_law side m (Err errors.UnknownTag)
 
 pub returns-clause-bad_name : goal.returns-clause-bad_name
-returns-clause-bad_name c = name_law
+returns-clause-bad_name c = λ side m. answers_law side m (Err errors.BadName)
 
 pub returns-clause-unknown_status : goal.returns-clause-unknown_status
-returns-clause-unknown_status c = status_law
+returns-clause-unknown_status c = λ side m. answers_law side m (Err errors.UnknownStatus)

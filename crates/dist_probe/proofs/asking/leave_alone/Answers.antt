@@ -4,4 +4,4 @@ use Rattle.dist_probe.proofs.asking.leave_alone.Goals as goal
 
 pub returns-clause-says : goal.returns-clause-says
 unfolding frame_of
-returns-clause-says g c = record { stop = fault_of c.write_all.result; said = c.write_all.ensures.says }
+returns-clause-says g c = (fault_of c.write_all.result, c.write_all.ensures.says)

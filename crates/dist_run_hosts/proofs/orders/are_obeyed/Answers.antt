@@ -1,4 +1,12 @@
+use Rattle.std.proofs.Common.{refl, length, subst}
+use Rattle.dist_run_hosts.specs.Orders.{RiseWithin}
 use Rattle.dist_run_hosts.proofs.orders.are_obeyed.Goals as goal
 
-pub returns : goal.returns
-returns c = (λ t. record { numbers = (c.are_both.ensures.0 t).0; dials = (c.are_both.ensures.0 t).1 }, λ h. c.are_both.ensures.1 (h.numbers, h.dials))
+pub returns-then-rise_within : goal.returns-then-rise_within
+returns-then-rise_within c = (
+  λ t. record {
+    numbers = subst (λ o. RiseWithin 0 (length o) c.args.faults.now) c.as_slice.ensures (c.if-rise_within.ensures.0 refl);
+    dials = c.are_obedient.ensures.0 t;
+  },
+  λ h. c.are_obedient.ensures.1 h.dials,
+)

@@ -5,7 +5,8 @@ use Rattle.dist_names.specs.Order.{Name}
 use Rattle.dist_peers.specs.declared.entry.Entry.{Entry}
 use Rattle.dist_core_ends.specs.Ends.{table_of}
 use Rattle.dist_core.specs.Node.{NodeState}
-use Rattle.dist_script_lines.proofs.Printing.{row_more, all_rows, no_rows}
+use Rattle.dist_script.proofs.Fronts.{more_put}
+use Rattle.dist_script_lines.proofs.Printing.{next_row, all_rows, no_rows}
 use Rattle.dist_script_lines.proofs.print.table.Goals as goal
 
 abbrev rows_of : NodeState → List (Name × Entry)
@@ -19,7 +20,7 @@ returns-then-entries-eq0 g c =
 pub loop-place-preserved : goal.loop-place-preserved
 loop-place-preserved g c =
     let n = c.args.node.now in
-    row_more _ _ _ n (rows_of n) c.loop-place.place (omega (arith, c.entries-place-end.ensures, map.len-entries (table_of n.ends))) c.loop-place.invariant c.in_ok-write_nth_row.ensures
+    more_put _ _ _ _ _ c.loop-place.invariant _ _ c.in_ok-write_nth_row.ensures (next_row n (rows_of n) c.loop-place.place)
 
 pub returns : goal.returns
 returns g c =

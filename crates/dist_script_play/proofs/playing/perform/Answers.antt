@@ -1,19 +1,23 @@
-use Rattle.std.proofs.Common.{Ok, ap, ◌∙◌}
+use Rattle.std.proofs.Common.{Ok, Some, None, inl, cond, refl, ap, ◌∙◌}
+use Rattle.dist_script.specs.declared.fault.ScriptFault.TheVariants.{SameName}
 use Rattle.dist_script.specs.Scripts.{says}
+use Rattle.dist_script.specs.Scripts.Says.{Events, Happenings}
 use Rattle.dist_script_play.proofs.Pages.{at_err}
-use Rattle.dist_script_play.proofs.Lines.{of_events, of_happenings}
-use Rattle.dist_script_play.proofs.Faults.{bad_script, cut_node, stopped_world}
+use Rattle.dist_script_play.proofs.Lines.{was_played}
+use Rattle.dist_script_play.proofs.Faults.{bad_script, cut_short, stopped_world}
 use Rattle.dist_script_play.proofs.playing.perform.Goals as goal
 
 pub returns-in-Events-clause-played : goal.returns-in-Events-clause-played
 returns-in-Events-clause-played g c =
-    of_events c.in_ok-text.text.items c.deref.result.now c.in-Events.node c.in-Events.lines.items c.deref-in-Events.result.now _ _ _ _
-    c.in_ok-text.ensures.bytes c.in_ok-text.ensures.end c.in_ok-text.ensures.most c.deref.ensures.value (c.in_ok-node.ensures ∙ ap (λ s. Ok (says s)) c.in-Events.is) c.deref-in-Events.ensures.value c.in_ok-play_node-in-Events.ensures.text
+    was_played c.in_ok-text.text.items c.deref.result.now (Events c.in-Events.node c.in-Events.lines.items) (Events c.in-Events.node c.deref-in-Events.result.now) _ _ _ _
+    c.in_ok-text.ensures.bytes c.in_ok-text.ensures.end c.in_ok-text.ensures.most c.deref.ensures.value (c.in_ok-node.ensures ∙ ap (λ s. Ok (says s)) c.in-Events.is)
+    (ap (Events c.in-Events.node) c.deref-in-Events.ensures.value) refl (_, refl, c.in_ok-play_node-in-Events.ensures.text)
 
 pub returns-clause-played : goal.returns-clause-played
 returns-clause-played g c =
-    of_happenings c.in_ok-text.text.items c.deref.result.now c.in-Happenings.nodes.items c.in-Happenings.lines.items c.deref-in-Happenings.result.now _ _ _ _
-    c.in_ok-text.ensures.bytes c.in_ok-text.ensures.end c.in_ok-text.ensures.most c.deref.ensures.value (c.in_ok-node.ensures ∙ ap (λ s. Ok (says s)) c.in-Happenings.is) c.deref-in-Happenings.ensures.value c.in_ok-play_nodes-in-Happenings.ensures.names c.in_ok-play_nodes-in-Happenings.ensures.text
+    was_played c.in_ok-text.text.items c.deref.result.now (Happenings c.in-Happenings.nodes.items c.in-Happenings.lines.items) (Happenings c.in-Happenings.nodes.items c.deref-in-Happenings.result.now) _ _ _ _
+    c.in_ok-text.ensures.bytes c.in_ok-text.ensures.end c.in_ok-text.ensures.most c.deref.ensures.value (c.in_ok-node.ensures ∙ ap (λ s. Ok (says s)) c.in-Happenings.is)
+    (ap (Happenings c.in-Happenings.nodes.items) c.deref-in-Happenings.ensures.value) (ap (λ b. cond b (Some SameName) None) c.in_ok-play_nodes-in-Happenings.ensures.names) c.in_ok-play_nodes-in-Happenings.ensures.text
 
 pub returns-in_err-node-clause-fault : goal.returns-in_err-node-clause-fault
 returns-in_err-node-clause-fault g c =
@@ -23,8 +27,9 @@ returns-in_err-node-clause-fault g c =
 pub returns-in_err-play_node-in-Events-clause-fault : goal.returns-in_err-play_node-in-Events-clause-fault
 returns-in_err-play_node-in-Events-clause-fault g c =
     at_err _ c.from_residual-in_err-play_node-in-Events.result c.in_err-play_node-in-Events.field-0.0 c.from_residual-in_err-play_node-in-Events.ensures.1
-    (cut_node _ _ _ _ c.in_ok-text.text.items c.deref.result.now c.in-Events.node c.in-Events.lines.items c.deref-in-Events.result.now _
-    c.in_ok-text.ensures.bytes c.in_ok-text.ensures.end c.in_ok-text.ensures.most c.deref.ensures.value (c.in_ok-node.ensures ∙ ap (λ s. Ok (says s)) c.in-Events.is) c.deref-in-Events.ensures.value c.in_err-play_node-in-Events.ensures.cut)
+    (cut_short _ _ _ _ c.in_ok-text.text.items c.deref.result.now (Events c.in-Events.node c.in-Events.lines.items) (Events c.in-Events.node c.deref-in-Events.result.now) _
+    c.in_ok-text.ensures.bytes c.in_ok-text.ensures.end c.in_ok-text.ensures.most c.deref.ensures.value (c.in_ok-node.ensures ∙ ap (λ s. Ok (says s)) c.in-Events.is)
+    (ap (Events c.in-Events.node) c.deref-in-Events.ensures.value) refl (inl c.in_err-play_node-in-Events.ensures.cut))
 
 pub returns-in_err-play_nodes-in-Happenings-clause-fault : goal.returns-in_err-play_nodes-in-Happenings-clause-fault
 returns-in_err-play_nodes-in-Happenings-clause-fault g c =

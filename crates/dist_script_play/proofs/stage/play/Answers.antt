@@ -1,12 +1,11 @@
 use Rattle.std.proofs.Common.{refl}
-use Rattle.dist_script_play.specs.Scenes.{PutsFromPart}
 use Rattle.dist_script_play.proofs.Pages.{at_err}
 use Rattle.dist_script_play.proofs.Worlds.{plays, cut_at_end}
 use Rattle.dist_script_play.proofs.stage.play.Goals as goal
 
 pub returns-in_err-put_end-clause-cut : goal.returns-in_err-put_end-clause-cut
 returns-in_err-put_end-clause-cut g c =
-    at_err (PutsFromPart c.args.world.now c.args.happenings.now (g.W.Write.contents c.args.out.now) (g.W.Write.contents c.put_end.new.out) c.args.page.now.text.items c.put_end.new.page.text.items) c.from_residual-in_err-put_end.result c.in_err-put_end.field-0.0 c.from_residual-in_err-put_end.ensures.1
+    at_err _ c.from_residual-in_err-put_end.result c.in_err-put_end.field-0.0 c.from_residual-in_err-put_end.ensures.1
     (cut_at_end c.args.happenings.now _ _ _ _ _ _ _ _ _ _ _ c.in_ok-applied.ensures.text c.in_ok-applied.ensures.after c.in_ok-applied.ensures.count refl c.in_err-put_end.ensures.cut)
 
 pub returns-clause-text : goal.returns-clause-text

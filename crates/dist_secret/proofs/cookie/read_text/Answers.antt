@@ -1,12 +1,6 @@
 use Rattle.std.proofs.lemmas.Grind.{common_steps}
-use Rattle.std.proofs.Common.{rules, arith}
+use Rattle.std.proofs.Common.{arith}
 use Rattle.dist_secret.proofs.cookie.read_text.Goals as goal
-
-pub returns-then-len-eq0 : goal.returns-then-len-eq0
-returns-then-len-eq0 c = search rules
-
-pub invariant_of-result : goal.invariant_of-result
-invariant_of-result c = search rules
 
 pub returns-then-not-all_may_follow : goal.returns-then-not-all_may_follow
 returns-then-not-all_may_follow c = grind (arith, common_steps)

@@ -1,4 +1,4 @@
-use Rattle.dist_world_model.proofs.LastingFacts.{decided_lives}
+use Rattle.dist_world_model.proofs.EndOrder.{decided_lives}
 use Rattle.dist_world_model.proofs.laws.crossings_are_decided.Goals as goal
 
 pub returns : goal.returns

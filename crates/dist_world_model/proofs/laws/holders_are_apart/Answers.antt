@@ -1,4 +1,4 @@
-use Rattle.dist_world_model.proofs.LastingFacts.{apart_lives}
+use Rattle.dist_world_model.proofs.EndOrder.{apart_lives}
 use Rattle.dist_world_model.proofs.laws.holders_are_apart.Goals as goal
 
 pub returns : goal.returns

@@ -1,4 +1,4 @@
-use Rattle.dist_world_model.proofs.HoldingTimes.{alone_lives}
+use Rattle.dist_world_model.proofs.EndOrder.{alone_lives}
 use Rattle.dist_world_model.proofs.laws.replies_are_alone.Goals as goal
 
 pub returns : goal.returns

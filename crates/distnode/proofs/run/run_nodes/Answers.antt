@@ -2,8 +2,7 @@ use Rattle.std.proofs.Common.{◌∙◌, inl, inr, refl, sym, subst}
 use Rattle.dist_script.specs.Texts.{PutsFront}
 use Rattle.dist_commands.specs.Fault.{fault_line}
 use Rattle.distnode.specs.Printed.{PrintsRun}
-use Rattle.distnode.proofs.Printing.{nothing_of}
-use Rattle.distnode.proofs.Stopped.{is_bad}
+use Rattle.distnode.proofs.Stopped.{is_bad, unprinted}
 use Rattle.distnode.proofs.run.run_nodes.Goals as goal
 
 pub returns-in-Ok-clause-refused : goal.returns-in-Ok-clause-refused
@@ -12,7 +11,7 @@ returns-in-Ok-clause-refused g c =
 
 pub returns-in-Err-clause-refused : goal.returns-in-Err-clause-refused
 returns-in-Err-clause-refused g c =
-    λ one. inr (nothing_of c.in-Err.fault _ (g.W.Write.contents c.args.out.now) (g.W.Write.contents c.perform.new.out) c.report_to.ensures.status c.in-Err.ensures.err one)
+    λ one. inr (c.in-Err.fault, sym c.report_to.ensures.status ∙ one, unprinted _ _ _ _ c.in-Err.ensures.stopped)
 
 -- the audit refused, and standard error was left alone
 pub returns-in-Ok-clause-ended : goal.returns-in-Ok-clause-ended

@@ -9,12 +9,7 @@ use Rattle.distping_json.proofs.values.status_or_null.Goals as goal
 -- its text has no byte that is escaped
 escapes_status : (s : Status) → escapes_of (text_of s) ≡ text_of s
 escapes_status status.Ok = refl
-escapes_status status.OkSimultaneous = refl
-escapes_status status.Nok = refl
-escapes_status status.NotAllowed = refl
-escapes_status status.Alive = refl
-escapes_status status.True = refl
-escapes_status status.False = refl
+escapes_status s = refl
 
 pub returns-in-Some : goal.returns-in-Some
 returns-in-Some c = ap text (ap escapes_of c.text.ensures ∙ escapes_status _) ∙ ap (λ s. text_or_null (option_map text_of s)) (sym c.in-Some.is)

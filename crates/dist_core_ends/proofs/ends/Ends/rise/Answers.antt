@@ -1,70 +1,45 @@
-use Rattle.std.proofs.Common.{ℕ, ◌∙◌, List, length, arith, ap, sym, subst, slice_get}
-use Rattle.dist_peers.specs.Table.{entry_of, replaced_by}
-use Rattle.dist_core_ends.specs.declared.known.End.{End}
+use Rattle.std.proofs.Common.{slice_get}
+use Rattle.std.specs.FinMap as map
 use Rattle.dist_core_ends.specs.declared.known.End.TheVariants as ends
-use Rattle.dist_core_ends.specs.Change.{with_change}
-use Rattle.dist_core_ends.specs.declared.slots.Sought.{Sought}
-use Rattle.dist_core_ends.specs.declared.slots.Sought.TheVariants as sought
-use Rattle.dist_core_ends.specs.Keeping.{ends_of_rows, IsPast}
-use Rattle.dist_core_ends.specs.Progress.{replaced_end, CanRise}
-use Rattle.dist_core_ends.proofs.Legal.{agreed}
-use Rattle.dist_core_ends.proofs.Settled.{past-changed}
-use Rattle.dist_core_ends.proofs.Progress.{rise-fits, rise-waits, rise-table, entry-kept}
+use Rattle.dist_peers.specs.Table.{entry_of, replaced_by}
+use Rattle.dist_core_ends.specs.Progress.{replaced_end}
+use Rattle.dist_core_ends.proofs.Agreement.{entry-agreed}
+use Rattle.dist_core_ends.proofs.Progress.{rise-fits, rise-waits, rise-table}
+use Rattle.dist_core_ends.proofs.Settled.{keeps-changed}
 use Rattle.dist_core_ends.proofs.ends.Ends.rise.Goals as goal
 
-pub connect_end-requires-clause-attempt : goal.connect_end-requires-clause-attempt
-connect_end-requires-clause-attempt c =
-    let P : List End → Type 0 = λ xs. CanRise (slice_get xs c.args.id.0) c.args.kept.now.peer in
-    let h = subst P (sym c.self.view_is) c.requires.attempt in
-    (h.0, h.1, h.2)
+pub came_up-replaced-requires : goal.came_up-replaced-requires
+came_up-replaced-requires c =
+    let es = c.self.inside.list.items in
+    let t = c.self.inside.peers in
+    let f = rise-fits c.requires.fits.0 es t c.args.id c.args.kept.now (rw (← c.self.view_is) at c.requires.fits.1) c.self.invariant.agree in
+    rise-waits t c.requires.fits.0 c.args.id c.args.kept.now (slice_get es c.args.id.0) (rw (← c.self.view_is) at c.requires.attempt) f.asks
 
-pub connect_end-requires-clause-waits : goal.connect_end-requires-clause-waits
-connect_end-requires-clause-waits c =
-    let es = ends_of_rows c.self.inside.rows.items c.self.inside.slots.slots in
-    let P : List End → Type 0 = λ xs. CanRise (slice_get xs c.args.id.0) c.args.kept.now.peer in
-    let h = subst P (sym c.self.view_is) c.requires.attempt in
-    let f = rise-fits c.requires.fits.0 c.args.self.now es c.self.inside.peers c.args.id c.args.kept.now c.self.view_is c.requires.fits.1 c.self.invariant.agree in
-    rise-waits c.self.inside.peers c.requires.fits.0 c.args.id c.args.kept.now (slice_get es c.args.id.0) h f.asks
-
-pub connect_end-requires-clause-there : goal.connect_end-requires-clause-there
-connect_end-requires-clause-there c =
-    let es = ends_of_rows c.self.inside.rows.items c.self.inside.slots.slots in
-    let f = rise-fits c.requires.fits.0 c.args.self.now es c.self.inside.peers c.args.id c.args.kept.now c.self.view_is c.requires.fits.1 c.self.invariant.agree in
-    f.other_there
-
-pub connect_end-requires-clause-stays : goal.connect_end-requires-clause-stays
-connect_end-requires-clause-stays c =
-    let es = ends_of_rows c.self.inside.rows.items c.self.inside.slots.slots in
-    let f = rise-fits c.requires.fits.0 c.args.self.now es c.self.inside.peers c.args.id c.args.kept.now c.self.view_is c.requires.fits.1 c.self.invariant.agree in
-    f.other_stays
+pub rise-requires : goal.rise-requires
+rise-requires c =
+    let f = rise-fits c.requires.fits.0 c.self.inside.list.items c.self.inside.peers c.args.id c.args.kept.now (rw (← c.self.view_is) at c.requires.fits.1) c.self.invariant.agree in
+    let h = rw (← c.self.view_is) at c.requires.attempt in
+    record { attempt = (h.0, h.1, h.2); there = rw c.came_up-replaced.ensures.replaced f.other_there; stays = rw c.came_up-replaced.ensures.replaced f.other_stays }
 
 pub invariant_of-self : goal.invariant_of-self
 invariant_of-self c =
-    let rows = c.self.inside.rows.items in
-    let slots = c.self.inside.slots.slots in
-    let es = ends_of_rows rows slots in
+    let es = c.self.inside.list.items in
     let t = c.self.inside.peers in
     let me = c.requires.fits.0 in
-    let up = ends.Up c.args.kept.now in
-    let other = replaced_end (replaced_by (entry_of t c.args.kept.now.peer)) in
-    let P : List End → Type 0 = λ xs. CanRise (slice_get xs c.args.id.0) c.args.kept.now.peer in
-    let h = subst P (sym c.self.view_is) c.requires.attempt in
-    let f = rise-fits me c.args.self.now es t c.args.id c.args.kept.now c.self.view_is c.requires.fits.1 c.self.invariant.agree in
-    let past : (k : Sought) (n : ℕ) → IsPast k rows slots n → IsPast k c.connect_end.new.rows.items c.connect_end.new.slots.slots n = λ k n p. past-changed k me t rows c.connect_end.new.rows.items slots c.connect_end.new.slots.slots n c.args.id up other p f c.connect_end.ensures.ends in
-    record {
-      agree = agreed _ _ _ _ (c.connect_end.ensures.peers ∙ rise-table t me c.args.id c.args.kept.now (slice_get es c.args.id.0) h) c.connect_end.ensures.ends f.agree;
-      kept = c.connect_end.ensures.kept;
-      pending = past sought.Pending c.self.inside.passed c.self.invariant.pending;
-      nameless = past sought.Nameless c.self.inside.named c.self.invariant.nameless;
-    }
+    let f = rise-fits me es t c.args.id c.args.kept.now (rw (← c.self.view_is) at c.requires.fits.1) c.self.invariant.agree in
+    rw (
+      c.rise.ensures,
+      c.came_up-replaced.ensures.replaced,
+      c.came_up-replaced.ensures.entry,
+      rise-table t me c.args.id c.args.kept.now (slice_get es c.args.id.0) (rw (← c.self.view_is) at c.requires.attempt),
+    )
+    (keeps-changed me t es c.self.inside.passed c.self.inside.named c.args.id (ends.Up c.args.kept.now) (replaced_end (replaced_by (entry_of t c.args.kept.now.peer))) c.self.invariant f)
 
 pub returns-clause-replaced : goal.returns-clause-replaced
 returns-clause-replaced c =
-    let es = ends_of_rows c.self.inside.rows.items c.self.inside.slots.slots in
-    c.connect_end.ensures.replaced ∙ ap replaced_by (entry-kept c.args.self.now es c.self.inside.peers c.args.kept.now.peer c.self.view_is c.self.invariant.agree)
+    rw (← c.self.view_is, entry-agreed (map.get c.self.inside.peers) c.self.inside.list.items c.self.invariant.agree c.args.kept.now.peer) c.came_up-replaced.ensures.replaced
 
 pub returns-clause-ends : goal.returns-clause-ends
 returns-clause-ends c =
-    let es = ends_of_rows c.self.inside.rows.items c.self.inside.slots.slots in
-    let same = entry-kept c.args.self.now es c.self.inside.peers c.args.kept.now.peer c.self.view_is c.self.invariant.agree in
-    c.connect_end.ensures.ends ∙ (λ j. with_change (c.self.view_is j) c.args.id (ends.Up c.args.kept.now) (replaced_end (replaced_by (same j))))
+    let is = rw c.came_up-replaced.ensures.replaced at c.rise.ensures in
+    rw (← c.self.view_is, entry-agreed (map.get c.self.inside.peers) c.self.inside.list.items c.self.invariant.agree c.args.kept.now.peer) is

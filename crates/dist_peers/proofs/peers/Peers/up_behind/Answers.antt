@@ -1,22 +1,16 @@
-use Rattle.std.proofs.Common.{sym, ap, ◌∙◌, List, Option, Bor}
+use Rattle.std.proofs.Common.{◌≡◌, sym, ◌∙◌, List, Option, Bor}
 use Rattle.std.specs.Prelude.{option_copied}
-use Rattle.std.specs.FinMap as map
 use Rattle.dist_names.specs.Order.{Name}
-use Rattle.dist_peers.specs.Rows.{PeerRow}
+use Rattle.dist_peers.specs.declared.entry.Entry.{Entry}
 use Rattle.dist_peers.specs.Table.{up_behind}
-use Rattle.dist_peers.proofs.Maps.{entries-table}
+use Rattle.dist_peers.proofs.Maps.{rows-of}
 use Rattle.dist_peers.proofs.peers.Peers.up_behind.Goals as goal
 
+both : (a b : Option (Bor Name)) (rows more : List (Name × Entry)) → b ≡ a → rows ≡ more → up_behind (option_copied a) rows ≡ up_behind (option_copied b) more
+both a b rows more e f = λ j. up_behind (option_copied (sym e j)) (f j)
+
 pub returns-in-None : goal.returns-in-None
-returns-in-None c =
-    c.up_in.ensures
-    ∙ ap (λ (name : Option (Bor Name)). up_behind (option_copied name) c.self.inside.by_name.entries) (sym c.in-None.is)
-    ∙ ap (λ (rows : List PeerRow). up_behind (option_copied c.args.name) rows) (sym (entries-table c.self.inside.by_name.entries c.self.invariant.sorted))
-    ∙ ap (λ m. up_behind (option_copied c.args.name) (map.entries m)) c.self.view_is
+returns-in-None c = c.up_in.ensures ∙ both _ c.args.name _ _ c.in-None.is (rows-of c.self.inside.by_name c.args.self.now c.self.invariant c.self.view_is)
 
 pub returns-in-Some : goal.returns-in-Some
-returns-in-Some c =
-    c.up_behind.ensures
-    ∙ ap (λ (name : Option (Bor Name)). up_behind (option_copied name) c.self.inside.by_name.entries) (sym c.in-Some.is)
-    ∙ ap (λ (rows : List PeerRow). up_behind (option_copied c.args.name) rows) (sym (entries-table c.self.inside.by_name.entries c.self.invariant.sorted))
-    ∙ ap (λ m. up_behind (option_copied c.args.name) (map.entries m)) c.self.view_is
+returns-in-Some c = c.up_behind.ensures ∙ both _ c.args.name _ _ c.in-Some.is (rows-of c.self.inside.by_name c.args.self.now c.self.invariant c.self.view_is)

@@ -1,5 +1,4 @@
-use Rattle.std.proofs.Common.{ap, ◌∙◌, arith}
-use Rattle.dist_script_play.specs.Played.{readers_to}
+use Rattle.std.proofs.Common.{◌∙◌, arith}
 use Rattle.dist_script_play.proofs.Reading.{one_more_reader}
 use Rattle.dist_script_play.proofs.readers.Readers.make_room.Goals as goal
 

@@ -1,5 +1,0 @@
-use Rattle.std.proofs.Common.{rules}
-use Rattle.dist_names.proofs.numbers.number_32.Goals as goal
-
-pub returns : goal.returns
-returns c = search rules

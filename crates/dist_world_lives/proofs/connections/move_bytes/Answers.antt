@@ -1,7 +1,0 @@
-use Rattle.std.proofs.Common.{arith}
-use Rattle.dist_world_model.specs.Delivery.{change_to, after_delivery}
-use Rattle.dist_world_lives.proofs.Edits.{at_set}
-use Rattle.dist_world_lives.proofs.connections.move_bytes.Goals as goal
-
-pub returns-clause-ok : goal.returns-clause-ok
-returns-clause-ok c = rw c.in_ok-deliver.ensures.ok (at_set (change_to c.args.side (after_delivery c.args.count)) c.args.conns.now.items c.args.place c.index_mut-conn.result.now (omega arith) c.index_mut-conn.ensures.value)
