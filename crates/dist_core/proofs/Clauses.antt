@@ -1,24 +1,14 @@
 -- What follows from the definition of the step for a call that returns what the definition gives.
 use Rattle.std.specs.Prelude.{IsTrue}
 use Rattle.std.proofs.Common.{◌≡◌, ◌≢◌, ℕ, true, Option, Some, None, Result, Ok, Err, IfOk, IsOk, refl, sym, ap, ◌∙◌, subst, slice_get}
-use Rattle.dist_peers.specs.declared.entry.EndId.{EndId}
-use Rattle.dist_core_ends.specs.declared.why.Why.{Why}
-use Rattle.dist_core_ends.specs.declared.known.End.{End}
+use Rattle.dist_core.proofs.Words.{EndId, Why, End, Event, Reply, Effect, StepError, AreLegal, is_open, NodeState, closes, IsStep, GivesReply, Refuses}
+use Rattle.dist_core.proofs.Words.{reply_of, is_loss, end_of, loss_reply, ClosesOnReply}
 use Rattle.dist_core_ends.specs.declared.known.End.TheVariants as ends
-use Rattle.dist_core.specs.declared.event.Event.{Event}
 use Rattle.dist_core.specs.declared.event.Event.TheVariants as event
-use Rattle.dist_core.specs.declared.reply.Reply.{Reply}
-use Rattle.dist_core.specs.declared.effect.Effect.{Effect}
-use Rattle.dist_core.specs.declared.step_error.StepError.{StepError}
 use Rattle.dist_core.specs.declared.step_error.StepError.TheVariants as error
-use Rattle.dist_core_ends.specs.Ends.{AreLegal, is_open}
-use Rattle.dist_core.specs.Node.{NodeState}
-use Rattle.dist_core.specs.Effects.{closes}
 use Rattle.dist_core.specs.Step.{effect_of, at_end, opening_effect, framed_from, sender_to, tick_effect, step, step_result}
-use Rattle.dist_core.specs.Answers.{IsStep, GivesReply, Refuses, reply_of}
-use Rattle.dist_core.specs.Losses.{is_loss}
-use Rattle.dist_core.specs.Clauses.{end_of, loss_reply, ClosesOnReply}
 use Rattle.dist_core.proofs.Closings.{closes_on_reply}
+use Rattle.dist_core.proofs.Rows.{loses}
 
 -- what a call of step returns
 pub reported : (r : Result Reply StepError) (s : Result (Reply × NodeState) StepError) (old new : NodeState) → IsStep r s old new → GivesReply r s
@@ -26,13 +16,8 @@ reported (Ok r) s old new h = ap reply_of h
 reported (Err e) s old new h = h.0
 
 refused : (x e : StepError) (s : Result (Reply × NodeState) StepError) → Refuses x s → s ≡ Err e → ◌≡◌ {A = Result Reply StepError} (Err x) (Err e)
-refused (error.Busy y) e s h is = let same : ◌≡◌ {A = Result (Reply × NodeState) StepError} (Err (error.Busy y)) (Err e) = sym h ∙ is in cc
-refused error.Full e s h is = let same : ◌≡◌ {A = Result (Reply × NodeState) StepError} (Err error.Full) (Err e) = sym h ∙ is in cc
-refused error.NoSuchEnd e s h is = let same : ◌≡◌ {A = Result (Reply × NodeState) StepError} (Err error.NoSuchEnd) (Err e) = sym h ∙ is in cc
-refused (error.Gone w) e s h is = let same : ◌≡◌ {A = Result (Reply × NodeState) StepError} (Err (error.Gone w)) (Err e) = sym h ∙ is in cc
-refused error.WrongPhase e s h is = let same : ◌≡◌ {A = Result (Reply × NodeState) StepError} (Err error.WrongPhase) (Err e) = sym h ∙ is in cc
-refused error.Spent e s h is = let same : ◌≡◌ {A = Result (Reply × NodeState) StepError} (Err error.Spent) (Err e) = sym h ∙ is in cc
 refused error.NoMemory e s h is = let P : Result (Reply × NodeState) StepError → Type 0 = λ q. IsOk q in let bad : P (Err e) = subst P is h in absurd cc
+refused x e s h is = let same : ◌≡◌ {A = Result (Reply × NodeState) StepError} (Err x) (Err e) = sym h ∙ is in cc
 
 refusal : (r : Result Reply StepError) (s : Result (Reply × NodeState) StepError) (e : StepError) → GivesReply r s → s ≡ Err e → r ≡ Err e
 refusal (Ok r) s e h is = let same : Err e ≡ Ok r = sym (ap reply_of is) ∙ h in absurd cc
@@ -43,13 +28,8 @@ accepted (Ok r) s h ok apart = refl
 accepted (Err x) s h ok apart = by x h apart
   where
     by : (x : StepError) → Refuses x s → ◌≢◌ {A = Result Reply StepError} (Err x) (Err error.NoMemory) → IsOk {T = Reply} {E = StepError} (Err x)
-    by (error.Busy y) h apart = let Q : Result (Reply × NodeState) StepError → Type 0 = λ q. IsOk q in subst Q h ok
-    by error.Full h apart = let Q : Result (Reply × NodeState) StepError → Type 0 = λ q. IsOk q in subst Q h ok
-    by error.NoSuchEnd h apart = let Q : Result (Reply × NodeState) StepError → Type 0 = λ q. IsOk q in subst Q h ok
-    by (error.Gone w) h apart = let Q : Result (Reply × NodeState) StepError → Type 0 = λ q. IsOk q in subst Q h ok
-    by error.WrongPhase h apart = let Q : Result (Reply × NodeState) StepError → Type 0 = λ q. IsOk q in subst Q h ok
-    by error.Spent h apart = let Q : Result (Reply × NodeState) StepError → Type 0 = λ q. IsOk q in subst Q h ok
     by error.NoMemory h apart = absurd (apart refl)
+    by x h apart = let Q : Result (Reply × NodeState) StepError → Type 0 = λ q. IsOk q in subst Q h ok
 
 pub is-loss : (v : Event) (x : EndId) (w : Why) → v ≡ event.Lost x w → IsTrue (is_loss v)
 is-loss v x w is = ap is_loss is
@@ -58,32 +38,22 @@ is-loss v x w is = ap is_loss is
 pub loss-ready : (v : Event) (r : Result Reply StepError) → IsTrue (is_loss v)
     → ((x : EndId) (w : Why) → v ≡ event.Lost x w → r ≢ Err error.NoMemory) → r ≢ Err error.NoMemory
 loss-ready (event.Lost x w) r h f = f x w refl
-loss-ready (event.Dial p k) r h f = absurd cc
-loss-ready (event.Opened x l) r h f = absurd cc
-loss-ready (event.Incoming l) r h f = absurd cc
-loss-ready (event.Frame x b) r h f = absurd cc
-loss-ready (event.Tick x) r h f = absurd cc
+loss-ready v r h f = absurd cc
 
 module _ (n : NodeState) where
+  at-name : (id x : EndId) (o : Option End) (e : StepError) (f : End → Result Effect StepError) → Some id ≡ Some x → slice_get n.ends x.0 ≡ o → ((f : End → Result Effect StepError) → at_end o f ≡ Err e)
+      → at_end (slice_get n.ends id.0) f ≡ Err e
+  at-name id x o e f is at h = let same : id ≡ x = cc in ap (λ (y : EndId). at_end (slice_get n.ends y.0) f) same ∙ ap (λ q. at_end q f) at ∙ h f
+
   -- what an event that names an end that is not open leads to
   stopped : (v : Event) (fresh : ℕ) (x : EndId) (o : Option End) (e : StepError) → end_of v ≡ Some x → slice_get n.ends x.0 ≡ o → ((f : End → Result Effect StepError) → at_end o f ≡ Err e) → effect_of n v fresh ≡ Err e
   unfolding effect_of
   stopped (event.Dial p k) fresh x o e is at h = absurd cc
   stopped (event.Incoming link) fresh x o e is at h = absurd cc
-  stopped (event.Opened id link) fresh x o e is at h =
-      let same : id ≡ x = cc in
-      ap (λ (y : EndId). at_end (slice_get n.ends y.0) (opening_effect n id)) same ∙ ap (λ q. at_end q (opening_effect n id)) at ∙ h (opening_effect n id)
-  stopped (event.Frame id body) fresh x o e is at h =
-      let same : id ≡ x = cc in
-      let f : End → Result Effect StepError = λ e. framed_from n id fresh body e (sender_to e) in
-      ap (λ (y : EndId). at_end (slice_get n.ends y.0) f) same ∙ ap (λ q. at_end q f) at ∙ h f
-  stopped (event.Lost id w) fresh x o e is at h =
-      let same : id ≡ x = cc in
-      let f : End → Result Effect StepError = λ e. Ok (closes id w) in
-      ap (λ (y : EndId). at_end (slice_get n.ends y.0) f) same ∙ ap (λ q. at_end q f) at ∙ h f
-  stopped (event.Tick id) fresh x o e is at h =
-      let same : id ≡ x = cc in
-      ap (λ (y : EndId). at_end (slice_get n.ends y.0) (tick_effect n id)) same ∙ ap (λ q. at_end q (tick_effect n id)) at ∙ h (tick_effect n id)
+  stopped (event.Opened id link) fresh x o e is at h = at-name id x o e (opening_effect n id) is at h
+  stopped (event.Frame id body) fresh x o e is at h = at-name id x o e (λ e. framed_from n id fresh body e (sender_to e)) is at h
+  stopped (event.Lost id w) fresh x o e is at h = at-name id x o e (λ e. Ok (closes id w)) is at h
+  stopped (event.Tick id) fresh x o e is at h = at-name id x o e (tick_effect n id) is at h
 
   pub unknown : (v : Event) (fresh : ℕ) (r : Result Reply StepError) → GivesReply r (step n v fresh) → (x : EndId) → end_of v ≡ Some x → slice_get n.ends x.0 ≡ None → r ≡ Err error.NoSuchEnd
   unknown v fresh r h x is at = refusal r (step n v fresh) error.NoSuchEnd h (ap (step_result n v) (stopped v fresh x None error.NoSuchEnd is at (λ f. refl)))
@@ -105,30 +75,23 @@ module _ (n : NodeState) where
       let Q : Result Effect StepError → Type 0 = λ q. IsOk (step_result n (event.Lost x w) q) in
       accepted r (step n v fresh) h (subst P (sym is) (subst Q (sym (loss-effect x w fresh e at o)) refl)) apart
 
-  loss-is : (x : EndId) (w : Why) (fresh : ℕ) → IfOk (effect_of n (event.Lost x w) fresh) (λ (f : Effect). f ≡ closes x w)
-  unfolding effect_of
-  loss-is x w fresh = by (slice_get n.ends x.0)
+  from-effect : (v : Event) (fresh : ℕ) (r : Reply) → reply_of (step n v fresh) ≡ Ok r → (f : Effect) × (effect_of n v fresh ≡ Ok f) × (f.reply ≡ r)
+  from-effect v fresh r h = by (effect_of n v fresh) refl h
     where
-      by : (o : Option End) → IfOk (at_end o (λ e. Ok (closes x w))) (λ (f : Effect). f ≡ closes x w)
-      by None = tt
-      by (Some (ends.Closed y)) = tt
-      by (Some e) = refl
-
-  from-effect : (v : Event) (q : Result Effect StepError) (P : Effect → Type 0) (r : Reply) → IfOk q P → reply_of (step_result n v q) ≡ Ok r → (f : Effect) × P f × (f.reply ≡ r)
-  from-effect v (Ok f) P r h is = (f, h, let same : Ok f.reply ≡ Ok r = is in cc)
-  from-effect v (Err e) P r h is = let same : Err e ≡ Ok r = is in absurd cc
+      by : (q : Result Effect StepError) → effect_of n v fresh ≡ q → reply_of (step_result n v q) ≡ Ok r → (f : Effect) × (effect_of n v fresh ≡ Ok f) × (f.reply ≡ r)
+      by (Ok f) e is = (f, e, let same : Ok f.reply ≡ Ok r = is in cc)
+      by (Err x) e is = let same : Err x ≡ Ok r = is in absurd cc
 
   pub silent : (v : Event) (fresh : ℕ) (r : Result Reply StepError) → GivesReply r (step n v fresh) → (x : EndId) (w : Why) → v ≡ event.Lost x w → IfOk r (λ (r : Reply). r ≡ loss_reply x w)
   silent v fresh (Err e) h x w is = tt
   silent v fresh (Ok r) h x w is =
       let P : Event → Type 0 = λ v. reply_of (step n v fresh) ≡ Ok r in
-      let g = from-effect (event.Lost x w) (effect_of n (event.Lost x w) fresh) (λ (f : Effect). f ≡ closes x w) r (loss-is x w fresh) (subst P is h) in
-      sym g.2 ∙ ap (λ (f : Effect). f.reply) g.1
+      let g = from-effect (event.Lost x w) fresh r (subst P is h) in
+      sym g.2 ∙ ap (λ (f : Effect). f.reply) (loses n x w fresh g.0 g.1).0
 
   pub replaced : AreLegal n.ends → (v : Event) (fresh : ℕ) (r : Result Reply StepError) → GivesReply r (step n v fresh) → IfOk r (λ (r : Reply). ClosesOnReply n v r)
   replaced legal v fresh (Err e) h = tt
-  replaced legal v fresh (Ok r) h = by (effect_of n v fresh) refl h
-    where
-      by : (q : Result Effect StepError) → effect_of n v fresh ≡ q → reply_of (step_result n v q) ≡ Ok r → ClosesOnReply n v r
-      by (Ok f) e is = let P : Reply → Type 0 = λ r. ClosesOnReply n v r in let same : f.reply ≡ r = (let it : Ok f.reply ≡ Ok r = is in cc) in subst P same (closes_on_reply n legal v fresh f e)
-      by (Err x) e is = let same : Err x ≡ Ok r = is in absurd cc
+  replaced legal v fresh (Ok r) h =
+      let P : Reply → Type 0 = λ r. ClosesOnReply n v r in
+      let g = from-effect v fresh r h in
+      subst P g.2 (closes_on_reply n legal v fresh g.0 g.1)

@@ -1,8 +1,6 @@
 -- Forgetting takes away no end.
 use Rattle.std.proofs.Common.{◌≡◌, ℕ, List, map, take, drop, length, ap, arith}
-use Rattle.std.proofs.lemmas.List.{length-map, length-append, take-append-drop}
-use Rattle.dist_core_ends.specs.declared.known.End.{End}
-use Rattle.dist_core_ends.specs.Forgetting.{without_causes_below, without_cause}
+use Rattle.dist_core.proofs.Words.{length-map, length-append, take-append-drop, End, without_causes_below, without_cause}
 
 -- there are as many ends as before
 pub length_forgotten : (below : ℕ) (es : List End) → length (without_causes_below below es) ≡ length es

@@ -1,42 +1,14 @@
 -- A step that is kept, or answered, by what its event does.
 use Rattle.std.specs.Prelude.{IsOk}
 use Rattle.std.proofs.Common.{◌≡◌, ℕ, ◌+◌, Result, Ok, Err, refl, sym, ap, ◌∙◌, subst}
-use Rattle.dist_peers.specs.declared.entry.EndId.{EndId}
-use Rattle.dist_core_ends.specs.declared.why.Why.{Why}
-use Rattle.dist_core.specs.Answers.{IsStep, Refuses, reply_of}
-use Rattle.dist_core.specs.Clauses.{loss_reply}
-use Rattle.dist_core.specs.Effects.{closes}
-use Rattle.dist_core.specs.Keeping.{KeepsDone, KeepsStep}
-use Rattle.dist_core.specs.Node.{NodeState, ends_after}
-use Rattle.dist_core.specs.Step.{effect_of, at_end, came_in, cost_of, step, step_result, tick_effect}
-use Rattle.std.proofs.Common.{slice_get}
-use Rattle.dist_core.specs.declared.effect.Effect.{Effect}
-use Rattle.dist_core.specs.declared.event.Event.{Event}
+use Rattle.dist_core.proofs.Words.{EndId, Why, IsStep, Refuses, reply_of, loss_reply, KeepsDone, KeepsStep, NodeState, ends_after, Effect, Event, Reply}
+use Rattle.dist_core.proofs.Words.{StepError, cost_of, step_result}
 use Rattle.dist_core.specs.declared.event.Event.TheVariants as event
-use Rattle.dist_core.specs.declared.reply.Reply.{Reply}
-use Rattle.dist_core.specs.declared.step_error.StepError.{StepError}
 
 -- where the reply is kept, it is returned
 pub returned : (q : Result Reply StepError) (s : Result (Reply × NodeState) StepError) (old new : NodeState) → KeepsStep (λ r k. k ≡ r) q s old new → IsStep q s old new
 returned (Ok k) s old new h = subst (λ (r : Reply). s ≡ Ok (r, new)) (sym h.1) h.2
 returned (Err e) s old new h = h
-
--- what an event does
-pub incoming-effect : (n : NodeState) (link fresh : ℕ) → effect_of n (event.Incoming link) fresh ≡ came_in n
-unfolding effect_of
-incoming-effect n link fresh = refl
-
-pub loss-effect : (n : NodeState) (id : EndId) (w : Why) (fresh : ℕ) → effect_of n (event.Lost id w) fresh ≡ at_end (slice_get n.ends id.0) (λ e. Ok (closes id w))
-unfolding effect_of
-loss-effect n id w fresh = refl
-
-pub tick-effect : (n : NodeState) (id : EndId) (fresh : ℕ) → effect_of n (event.Tick id) fresh ≡ at_end (slice_get n.ends id.0) (tick_effect n id)
-unfolding effect_of
-tick-effect n id fresh = refl
-
--- from it the step is known
-pub whole : (n : NodeState) (w v : Event) (fresh : ℕ) (s : Result Effect StepError) → w ≡ v → effect_of n v fresh ≡ s → step_result n v s ≡ step n w fresh
-whole n w v fresh s same is = ap (step_result n v) (sym is) ∙ ap (λ (e : Event). step n e fresh) (sym same)
 
 -- the reply of a step is the reply of its effect
 pub reported-so : (n : NodeState) (v : Event) (s : Result Effect StepError) (f : Effect) (r : Reply) → s ≡ Ok f → r ≡ f.reply → reply_of (step_result n v s) ≡ Ok r

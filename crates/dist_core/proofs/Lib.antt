@@ -1,3 +1,4 @@
+pub mod Words
 pub mod Verdicts
 pub mod Steps
 pub mod Ticks

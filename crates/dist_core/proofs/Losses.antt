@@ -1,20 +1,10 @@
 -- What a call returns for a loss.
 use Rattle.std.proofs.Common.{◌≡◌, true, Option, Some, None, Result, Ok, Err, slice_get, List, refl, sym, ap, ◌∙◌, subst}
 use Rattle.std.specs.Prelude.{IsOk, IfOk, IfErr, IsTrue}
-use Rattle.dist_peers.specs.declared.entry.EndId.{EndId}
-use Rattle.dist_core_ends.specs.declared.why.Why.{Why}
-use Rattle.dist_core_ends.specs.declared.known.End.{End}
+use Rattle.dist_core.proofs.Words.{EndId, Why, End, Effect, Event, Reply, StepError, is_open, end_of, loss_reply, IsGone, IsSilent, is_loss, at_end}
 use Rattle.dist_core_ends.specs.declared.known.End.TheVariants as ends
-use Rattle.dist_core.specs.declared.effect.Effect.{Effect}
-use Rattle.dist_core.specs.declared.event.Event.{Event}
 use Rattle.dist_core.specs.declared.event.Event.TheVariants as event
-use Rattle.dist_core.specs.declared.reply.Reply.{Reply}
-use Rattle.dist_core.specs.declared.step_error.StepError.{StepError}
 use Rattle.dist_core.specs.declared.step_error.StepError.TheVariants as error
-use Rattle.dist_core_ends.specs.Ends.{is_open}
-use Rattle.dist_core.specs.Clauses.{end_of, loss_reply}
-use Rattle.dist_core.specs.Losses.{IsGone, IsSilent, is_loss}
-use Rattle.dist_core.specs.Step.{at_end}
 
 abbrev bad : StepError → Result Reply StepError
 bad e = Err e

@@ -1,45 +1,57 @@
--- A step gives out no end above the limit.
-use Rattle.std.proofs.Common.{◌≡◌, ℕ, ◌<◌, ◌≤◌, Bool, true, false, ◌||◌, length, Some, arith, ap, sym, subst, slice_get}
-use Rattle.std.proofs.lemmas.Option.{slice_get_within}
-use Rattle.std.proofs.lemmas.Bool.Decides.{nat_tests}
-use Rattle.dist_peers.specs.declared.entry.EndId.{EndId}
-use Rattle.dist_core_ends.specs.declared.known.End.{End}
-use Rattle.dist_core_ends.specs.declared.known.End.TheVariants as ends
-use Rattle.dist_core.specs.declared.effect.Effect.{Effect}
-use Rattle.dist_core.specs.declared.event.Event.{Event}
-use Rattle.dist_core_ends.specs.Change.{put_end}
-use Rattle.dist_core.specs.Node.{NodeState, limits_of, is_spent, is_given_out, ends_after}
-use Rattle.dist_core.specs.Rows.{StepRow, Dials, Comes_in, Begins, Ceases, Loses, Ticks, Fails, Hears}
+-- How many steps are counted, and how many ends there are: a step gives out no end above the limit.
+use Rattle.std.proofs.Common.{◌≡◌, Ok, List, ℕ, ◌+◌, ◌<◌, ◌≤◌, false, ◌||◌, length, Some, arith, ap, sym, subst, slice_get}
+use Rattle.dist_core.proofs.Words.{slice_get_within, nat_tests, EndId, End, Effect, Event, put_end, NodeState, limits_of, is_spent, is_given_out, ends_after}
+use Rattle.dist_core.proofs.Words.{StepRow, Dials, Comes_in, Begins, Ceases, Loses, Ticks, Fails, Hears, effect_of, cost_of, or_parts}
 use Rattle.dist_core.proofs.Counts.{length-other, length-within, length-after}
+use Rattle.dist_core.proofs.Rows.{row-in}
 use Rattle.dist_core.proofs.Closings.{heard-end}
 
-last-no : (a b : Bool) → (a || b) ≡ false → b ≡ false
-last-no true b h = cc
-last-no false b h = h
-
 module _ (n : NodeState) where
-  abbrev Numbered : Effect → Type 0
-  Numbered f = length (ends_after n.ends f) ≤ (let l = limits_of n in l.ends)
+  abbrev Most : Type 0
+  Most = n.steps ≤ (let l = limits_of n in l.steps)
+
+  abbrev Numbered : List End → Type 0
+  Numbered es = length es ≤ (let l = limits_of n in l.ends)
+
+  -- what an effect that counts as so many steps makes of the counts
+  abbrev CountsAs : ℕ → Effect → Type 0
+  CountsAs cost f = (n.steps + cost ≤ (let l = limits_of n in l.steps)) × (length (ends_after n.ends f) ≤ length n.ends + cost) × Numbered (ends_after n.ends f)
 
   -- an end that exists is changed
-  pub stays : (f : Effect) (id : EndId) (e : End) → f.reply.end_ ≡ id → slice_get n.ends id.0 ≡ Some e → length n.ends ≤ (let l = limits_of n in l.ends) → Numbered f
-  stays f id e is at h =
+  same-length : (f : Effect) (id : EndId) (e : End) → f.reply.end_ ≡ id → slice_get n.ends id.0 ≡ Some e → length (ends_after n.ends f) ≡ length n.ends
+  same-length f id e is at =
       let within : f.reply.end_.0 < length n.ends = let P : EndId → Type 0 = λ x. x.0 < length n.ends in subst P (sym is) (slice_get_within n.ends id.0 e at) in
-      omega (arith, h, length-other (put_end n.ends f.reply.end_.0 f.this) f.other, length-within n.ends f.reply.end_.0 f.this within)
+      omega (arith, length-other (put_end n.ends f.reply.end_.0 f.this) f.other, length-within n.ends f.reply.end_.0 f.this within)
+
+  pub stays : (f : Effect) (id : EndId) (e : End) → f.reply.end_ ≡ id → slice_get n.ends id.0 ≡ Some e → Numbered n.ends → Numbered (ends_after n.ends f)
+  stays f id e is at h = omega (arith, h, same-length f id e is at)
+
+  room : is_spent n ≡ false → n.steps + 1 ≤ (let l = limits_of n in l.steps)
+  room h = grind (arith, nat_tests)
+
+  keeps : (f : Effect) (id : EndId) (e : End) → f.reply.end_ ≡ id → slice_get n.ends id.0 ≡ Some e → is_spent n ≡ false → Numbered n.ends → CountsAs 1 f
+  keeps f id e is at sp h = (room sp, length-after n.ends f, stays f id e is at h)
 
   -- one more end is given out
-  more : (f : Effect) → (is_spent n || is_given_out n) ≡ false → Numbered f
-  more f h =
-      let g : is_given_out n ≡ false = last-no (is_spent n) (is_given_out n) h in
-      let room : length n.ends < (let l = limits_of n in l.ends) = grind (arith, nat_tests, g) in
-      omega (arith, room, length-after n.ends f)
+  gives : (f : Effect) → (is_spent n || is_given_out n) ≡ false → CountsAs 1 f
+  gives f h =
+      let left = or_parts (is_spent n) (is_given_out n) h in
+      let given : is_given_out n ≡ false = left.1 in
+      let less : length n.ends < (let l = limits_of n in l.ends) = grind (arith, nat_tests, given) in
+      (room left.0, length-after n.ends f, omega (arith, less, length-after n.ends f))
 
-  pub numbered : (v : Event) (fresh : ℕ) (f : Effect) → StepRow n v fresh f → length n.ends ≤ (let l = limits_of n in l.ends) → Numbered f
-  numbered v fresh f (Dials p o is idle sp full cr k) h = more f sp
-  numbered v fresh f (Comes_in link is sp cr k) h = more f sp
-  numbered v fresh f (Begins id link b is at ph sp k) h = stays f id (ends.Attempt b) (ap (λ (f : Effect). f.reply.end_) k) at h
-  numbered v fresh f (Ceases id link b is at ph sp k) h = stays f id (ends.Attempt b) (ap (λ (f : Effect). f.reply.end_) k) at h
-  numbered v fresh f (Loses id w e is at opened k) h = stays f id e (ap (λ (f : Effect). f.reply.end_) k) at h
-  numbered v fresh f (Ticks id r is at sp k) h = stays f id (ends.Up r) (ap (λ (f : Effect). f.reply.end_) k) at h
-  numbered v fresh f (Fails id body e side x is at to sp says k) h = stays f id e (ap (λ (f : Effect). f.reply.end_) k) at h
-  numbered v fresh f (Hears id body e side m is at to sp says d) h = stays f id e (heard-end n id fresh e m f d) at h
+  by-row : (v : Event) (fresh : ℕ) (f : Effect) → Most → Numbered n.ends → StepRow n v fresh f → CountsAs (cost_of v) f
+  by-row v fresh f b h (Dials p o is idle sp full cr k) = subst (λ (v : Event). CountsAs (cost_of v) f) (sym is) (gives f sp)
+  by-row v fresh f b h (Comes_in link is sp cr k) = subst (λ (v : Event). CountsAs (cost_of v) f) (sym is) (gives f sp)
+  by-row v fresh f b h (Begins id link d is at ph sp k) = subst (λ (v : Event). CountsAs (cost_of v) f) (sym is) (keeps f id _ (ap (λ (f : Effect). f.reply.end_) k) at sp h)
+  by-row v fresh f b h (Ceases id link d is at ph sp k) = subst (λ (v : Event). CountsAs (cost_of v) f) (sym is) (keeps f id _ (ap (λ (f : Effect). f.reply.end_) k) at sp h)
+  by-row v fresh f b h (Loses id w e is at opened k) =
+      let same = same-length f id e (ap (λ (f : Effect). f.reply.end_) k) at in
+      subst (λ (v : Event). CountsAs (cost_of v) f) (sym is) (omega (arith, b), omega (arith, same), omega (arith, same, h))
+  by-row v fresh f b h (Ticks id r is at sp k) = subst (λ (v : Event). CountsAs (cost_of v) f) (sym is) (keeps f id _ (ap (λ (f : Effect). f.reply.end_) k) at sp h)
+  by-row v fresh f b h (Fails id body e side x is at to sp says k) = subst (λ (v : Event). CountsAs (cost_of v) f) (sym is) (keeps f id e (ap (λ (f : Effect). f.reply.end_) k) at sp h)
+  by-row v fresh f b h (Hears id body e side m is at to sp says d) = subst (λ (v : Event). CountsAs (cost_of v) f) (sym is) (keeps f id e (heard-end n id fresh e m f d) at sp h)
+
+  -- a step that the definition gives is one of those that are counted, and no end above the limit is given out
+  pub counted : (v : Event) (fresh : ℕ) (f : Effect) → effect_of n v fresh ≡ Ok f → Most → Numbered n.ends → CountsAs (cost_of v) f
+  counted v fresh f is b h = by-row v fresh f b h (row-in n v fresh f is)

@@ -1,19 +1,11 @@
 -- A tick leaves the ends as they are.
 use Rattle.std.proofs.Common.{◌≡◌, ℕ, ◌+◌, ◌<◌, ◌++◌, ◌∷◌, [], true, false, cond, nat_lt, length, List, Some, None, Ok, Err, sym, ap, ◌∙◌, arith, slice_get, set}
-use Rattle.std.proofs.lemmas.List.{set-get_or}
-use Rattle.std.proofs.lemmas.Option.{get_or_from_slice_get, slice_get_within}
-use Rattle.dist_peers.specs.declared.entry.EndId.{EndId}
-use Rattle.dist_core_ends.specs.declared.known.UpRecord.{UpRecord}
-use Rattle.dist_core_ends.specs.declared.known.End.{End}
+use Rattle.dist_core.proofs.Words.{set-get_or, get_or_from_slice_get, slice_get_within, EndId, UpRecord, End, put_end, tick_text, NodeState, is_spent, goes_on}
+use Rattle.dist_core.proofs.Words.{at_end, tick_effect, step_result}
 use Rattle.dist_core_ends.specs.declared.known.End.TheVariants as ends
-use Rattle.dist_core_ends.specs.Change.{put_end}
-use Rattle.dist_core_setup.specs.Saying.{tick_text}
 use Rattle.dist_core.specs.declared.event.Event.TheVariants as event
 use Rattle.dist_core.specs.declared.reply.Note.TheVariants as note
 use Rattle.dist_core.specs.declared.step_error.StepError.TheVariants as error
-use Rattle.dist_core.specs.Node.{NodeState, is_spent}
-use Rattle.dist_core.specs.Effects.{goes_on}
-use Rattle.dist_core.specs.Step.{at_end, tick_effect, step_result}
 
 -- an end that is put where it stands changes nothing
 pub put-same : (es : List End) (i : ℕ) (e : End) → slice_get es i ≡ Some e → put_end es i e ≡ es

@@ -1,10 +1,6 @@
 -- Whether a peer among the entries from a place on has no cookie of its own.
 use Rattle.std.proofs.Common.{◌≡◌, ℕ, zero, suc, ◌+◌, true, false, ◌||◌, List, [], ◌∷◌, drop, refl, sym, ap, ◌∙◌, arith, slice_get}
-use Rattle.std.specs.List.{list_any}
-use Rattle.dist_names.specs.Order.{Name}
-use Rattle.dist_peers.specs.declared.entry.Entry.{Entry}
-use Rattle.dist_core_setup.specs.declared.setup.Setup.{Setup}
-use Rattle.dist_core.specs.Changing.{has_usual, is_usual_row}
+use Rattle.dist_core.proofs.Words.{list_any, Name, Entry, Setup, has_usual, is_usual_row}
 
 abbrev Row : Type 0
 Row = Name × Entry

@@ -1,42 +1,20 @@
 -- A reply is sent only to a challenge of the name that was dialled.
 use Rattle.std.proofs.Common.{◌≡◌, ℕ, true, List, Option, Some, None, Ok, sym, ap, ◌∙◌, subst, slice_get}
-use Rattle.std.proofs.lemmas.Bool.{false≢true, eqb-true}
-use Rattle.std.specs.Option.{option_map}
-use Rattle.dist_names.specs.Order.{Name}
-use Rattle.dist_messages.specs.Reading.{read}
-use Rattle.dist_messages.specs.declared.message.Side.{Side}
-use Rattle.dist_messages.specs.declared.message.Side.TheVariants.{Acceptor}
-use Rattle.dist_messages.specs.declared.message.Message.{Message}
-use Rattle.dist_peers.specs.declared.entry.EndId.{EndId}
-use Rattle.dist_peers.specs.declared.entry.Entry.{Entry}
+use Rattle.dist_core.proofs.Words.{false≢true, eqb-true, option_map, Name, read, Side, Acceptor, Message, EndId, Entry, Attempt, End, Out, AreLegal, entry_in}
+use Rattle.dist_core.proofs.Words.{is_claim, is_held, kind_in, names, superseded_end, NodeState, IsChallenge, StepRow, Heard, Taken, Dials, Comes_in, Begins}
+use Rattle.dist_core.proofs.Words.{Ceases, Loses, Ticks, Fails, Hears, Closes, Names, Goes_on, Insists, Replies, Challenges, Complements, Acknowledged, Replied}
+use Rattle.dist_core.proofs.Words.{Accepts, Crosses, Declines, Comes_again, Asks_alive, Asks_again, sender_to, sender_in, self-same, same-name}
+use Rattle.dist_core_laws.proofs.Words.{Event, Note, Effect}
 use Rattle.dist_peers.specs.declared.entry.Entry.TheVariants as entry
-use Rattle.dist_core_ends.specs.declared.known.Attempt.{Attempt}
-use Rattle.dist_core_ends.specs.declared.known.End.{End}
 use Rattle.dist_core_ends.specs.declared.known.End.TheVariants as ends
-use Rattle.dist_core_ends.specs.declared.phase.Kind.TheVariants.{Out}
 use Rattle.dist_core_ends.specs.declared.phase.Phase.TheVariants as phase
-use Rattle.dist_core_ends.specs.Ends.{AreLegal, entry_in, is_claim, is_held, kind_in, names}
-use Rattle.dist_core.specs.declared.event.Event.{Event}
 use Rattle.dist_core.specs.declared.event.Event.TheVariants as event
-use Rattle.dist_core.specs.declared.reply.Note.{Note}
 use Rattle.dist_core.specs.declared.reply.Note.TheVariants as note
-use Rattle.dist_core.specs.declared.effect.Effect.{Effect}
-use Rattle.dist_core.specs.Effects.{supersedes, superseded_end}
 use Rattle.dist_core_laws.specs.Laws.{IsDialledChallenge}
-use Rattle.dist_core.specs.Node.{NodeState}
-use Rattle.dist_core.specs.Rows.{IsChallenge, StepRow, Heard, Taken, Dials, Comes_in, Begins, Ceases, Loses, Ticks, Fails, Hears, Closes, Names, Goes_on, Insists, Replies, Challenges, Complements, Acknowledged, Replied, Accepts, Crosses, Declines, Comes_again, Asks_alive, Asks_again}
-use Rattle.dist_core.specs.Step.{effect_of, sender_to, sender_in}
-use Rattle.dist_core_ends.proofs.Fitting.{self-same}
-use Rattle.dist_core_ends.proofs.Tables.{same-name}
-use Rattle.dist_core.proofs.Counts.{of_ok}
-use Rattle.dist_core.proofs.Rows.{row_of}
+use Rattle.dist_core.proofs.Closings.{at-own}
 
 abbrev noted : Effect → Note
 noted f = f.reply.note
-
-superseding : (id : EndId) (say : List ℕ) (b : Attempt) (y : EndId) (s : End) → noted (supersedes id say b y s) ≡ note.ReplySaid → ⊥
-superseding id say b y (ends.Closed w) e = absurd cc
-superseding id say b y s e = absurd cc
 
 nothing : (f : Effect) → noted f ≡ note.Nothing → noted f ≡ note.ReplySaid → ⊥
 nothing f is e = let bad : note.Nothing ≡ note.ReplySaid = sym is ∙ e in absurd cc
@@ -46,7 +24,7 @@ taken f p x is e = let bad : note.NameTaken p x ≡ note.ReplySaid = sym is ∙ 
 
 by-taken : (n : NodeState) (id : EndId) (b : Attempt) (f : Effect) → Taken n id b f → noted f ≡ note.ReplySaid → ⊥
 by-taken n id b f (Accepts is k) e = taken f b.peer None (ap noted k) e
-by-taken n id b f (Crosses y is g k) e = superseding id _ b y (superseded_end (slice_get n.ends y.0)) (sym (ap noted k) ∙ e)
+by-taken n id b f (Crosses y is g k) e = (let h = (at-own id _ b y (superseded_end (slice_get n.ends y.0))).3 in taken f b.peer h.0 (ap noted k ∙ h.1) e)
 by-taken n id b f (Declines y is g k) e = taken f b.peer None (ap noted k) e
 by-taken n id b f (Comes_again y is k) e = taken f b.peer None (ap noted k) e
 by-taken n id b f (Asks_alive y is k) e = taken f b.peer None (ap noted k) e
@@ -95,7 +73,7 @@ module _ (n : NodeState) (legal : AreLegal n.ends) where
         held = held id b (at ∙ ap Some un) ph;
       }
 
-  by-row : (v : Event) (fresh : ℕ) (f : Effect) → StepRow n v fresh f → noted f ≡ note.ReplySaid → IsDialledChallenge n v
+  pub by-row : (v : Event) (fresh : ℕ) (f : Effect) → StepRow n v fresh f → noted f ≡ note.ReplySaid → IsDialledChallenge n v
   by-row v fresh f (Dials p nm is idle sp full cr k) o = absurd (nothing f (ap noted k) o)
   by-row v fresh f (Comes_in link is sp cr k) o = absurd (nothing f (ap noted k) o)
   by-row v fresh f (Begins id link b is at ph sp k) o = absurd (nothing f (ap noted k) o)
@@ -104,6 +82,3 @@ module _ (n : NodeState) (legal : AreLegal n.ends) where
   by-row v fresh f (Ticks id r is at sp k) o = absurd (nothing f (ap noted k) o)
   by-row v fresh f (Fails id body e side y is at to sp says k) o = absurd (nothing f (ap noted k) o)
   by-row v fresh f (Hears id body e side m is at to sp says h) o = by-heard v id body e side m fresh f is at to says h o
-
-pub dialled-challenge : (n : NodeState) (v : Event) (fresh : ℕ) (f : Effect) → AreLegal n.ends → effect_of n v fresh ≡ Ok f → noted f ≡ note.ReplySaid → IsDialledChallenge n v
-dialled-challenge n v fresh f legal is o = by-row n legal v fresh f (of_ok (StepRow n v fresh) (effect_of n v fresh) f is (row_of n v fresh)) o

@@ -1,20 +1,10 @@
 -- What a step reads of ends doesn't depend on why the closed ones were closed.
 use Rattle.std.proofs.Common.{◌≡◌, ℕ, suc, ◌+◌, true, false, cond, ltb, List, [], ◌∷◌, ◌++◌, map, take, drop, length, set, Option, Some, None, refl, sym, ap, ◌∙◌, fold, slice_get}
-use Rattle.std.proofs.lemmas.List.{map-append, map-set, length-map, take-append-drop}
-use Rattle.std.proofs.lemmas.Option.{slice_get-map}
+use Rattle.dist_core.proofs.Words.{map-append, map-set, length-map, take-append-drop, slice_get-map, count_by, filter_map, cons_option, option_map, Name, EndId}
+use Rattle.dist_core.proofs.Words.{Kind, Out, In, Up, End, put_end, with_change, Claim, claim_of, is_claim, is_open, first_of, holds, entry_from, entry_in}
+use Rattle.dist_core.proofs.Words.{row_in, table_of, without_cause, without_causes_below, superseded_end}
 use Rattle.std.specs.FinMap as fin_map
-use Rattle.std.specs.List.{count_by, filter_map, cons_option}
-use Rattle.std.specs.Option.{option_map}
-use Rattle.dist_names.specs.Order.{Name}
-use Rattle.dist_peers.specs.declared.entry.EndId.{EndId}
-use Rattle.dist_core_ends.specs.declared.phase.Kind.{Kind}
-use Rattle.dist_core_ends.specs.declared.phase.Kind.TheVariants.{Out, In, Up}
-use Rattle.dist_core_ends.specs.declared.known.End.{End}
 use Rattle.dist_core_ends.specs.declared.known.End.TheVariants as ends
-use Rattle.dist_core_ends.specs.Change.{put_end, with_change}
-use Rattle.dist_core_ends.specs.Ends.{Claim, claim_of, is_claim, is_open, first_of, holds, entry_from, entry_in, row_in, table_of}
-use Rattle.dist_core_ends.specs.Forgetting.{without_cause, without_causes_below}
-use Rattle.dist_core.specs.Effects.{superseded_end}
 
 -- ---- one end
 

@@ -1,20 +1,11 @@
 -- What becomes of a dialled end that a crossing name supersedes, by how far its handshake has come.
-use Rattle.std.proofs.Common.{◌≡◌, ℕ, true, List, Option, Some, refl, ap, ◌∙◌, slice_get}
-use Rattle.std.proofs.lemmas.Bool.{false≢true, eq-eqb}
-use Rattle.std.specs.Option.{option_map}
-use Rattle.dist_peers.specs.declared.entry.EndId.{EndId}
-use Rattle.dist_peers.specs.declared.entry.Entry.TheVariants as entry
-use Rattle.dist_core_ends.specs.declared.known.Attempt.{Attempt}
-use Rattle.dist_core_ends.specs.declared.known.End.{End}
+use Rattle.std.proofs.Common.{◌≡◌, ℕ, true, List, Option, Some, refl, ap, slice_get}
+use Rattle.dist_core.proofs.Words.{false≢true, option_map, EndId, Attempt, End, Out, Phase, is_claim, is_held, kind_in, superseded_end, superseded_in}
+use Rattle.dist_core.proofs.Words.{supersedes, NodeState}
+use Rattle.dist_core_laws.proofs.Words.{Effect}
 use Rattle.dist_core_ends.specs.declared.known.End.TheVariants as ends
-use Rattle.dist_core_ends.specs.declared.phase.Kind.TheVariants.{Out}
-use Rattle.dist_core_ends.specs.declared.phase.Phase.{Phase}
 use Rattle.dist_core_ends.specs.declared.phase.Phase.TheVariants as phase
-use Rattle.dist_core_ends.specs.Ends.{AreLegal, entry_in, is_claim, is_held, kind_in, names}
-use Rattle.dist_core.specs.declared.effect.Effect.{Effect}
-use Rattle.dist_core.specs.Effects.{superseded_end, superseded_in, supersedes}
 use Rattle.dist_core_laws.specs.Laws.{Supersedes, Dooms, Drops, doomed_as, was_let_on}
-use Rattle.dist_core.specs.Node.{NodeState}
 
 module _ (n : NodeState) (id : EndId) (say : List ℕ) (b : Attempt) (x : EndId) (f : Effect) where
   by-phase : (d : Attempt) (ph : Phase) → slice_get n.ends x.0 ≡ Some (ends.Attempt d) → d.phase ≡ ph
@@ -26,11 +17,6 @@ module _ (n : NodeState) (id : EndId) (say : List ℕ) (b : Attempt) (x : EndId)
   by-phase d phase.AwaitAck at ph held k = Drops d at (ap (λ (q : Phase). was_let_on q) ph) k
   by-phase d q at ph held k = absurd (false≢true held)
 
-  by-end : (o : Option End) → slice_get n.ends x.0 ≡ o → is_held b.peer Out o ≡ true → f ≡ supersedes id say b x (superseded_end o) → Supersedes n id say b x f
+  pub by-end : (o : Option End) → slice_get n.ends x.0 ≡ o → is_held b.peer Out o ≡ true → f ≡ supersedes id say b x (superseded_end o) → Supersedes n id say b x f
   by-end (Some (ends.Attempt d)) at held k = by-phase d d.phase at refl held k
   by-end o at held k = absurd (false≢true held)
-
-pub dooms-or-closes : (n : NodeState) (id : EndId) (say : List ℕ) (b : Attempt) (x : EndId) (f : Effect) → AreLegal n.ends → entry_in n.ends b.peer ≡ Some (entry.Out x)
-    → f ≡ supersedes id say b x (superseded_end (slice_get n.ends x.0)) → Supersedes n id say b x f
-dooms-or-closes n id say b x f legal is k =
-    by-end n id say b x f (slice_get n.ends x.0) refl (legal b.peer Out x.0 ∙ ap (names Out x.0) is ∙ eq-eqb x.0 x.0 refl) k

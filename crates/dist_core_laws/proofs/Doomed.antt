@@ -1,33 +1,17 @@
 -- A doomed end is closed by its next event, and until then it stays.
-use Rattle.std.proofs.Common.{◌≡◌, ℕ, true, false, cond, eqb, length, Option, Some, None, Ok, refl, sym, ap, ◌∙◌, subst, slice_get, arith, ◌⊎◌, inl, inr}
-use Rattle.std.proofs.lemmas.Bool.{false≢true, eqb-true}
-use Rattle.std.proofs.lemmas.Option.{slice_get_past}
-use Rattle.std.specs.Option.{option_map}
-use Rattle.dist_names.specs.Order.{Name}
-use Rattle.dist_messages.specs.declared.message.Message.{Message}
-use Rattle.dist_peers.specs.declared.entry.EndId.{EndId}
-use Rattle.dist_core_ends.specs.declared.why.Why.{Why}
+use Rattle.std.proofs.Common.{◌≡◌, ℕ, true, length, Option, Some, None, Ok, sym, ap, ◌∙◌, subst, slice_get, arith, ◌⊎◌, inl, inr}
+use Rattle.dist_core.proofs.Words.{false≢true, slice_get_past, option_map, Name, Message, EndId, Why, Attempt, End, Kind, Phase, AreLegal, holds, is_claim}
+use Rattle.dist_core.proofs.Words.{kind_in, NodeState, new_id, ends_after, StepRow, Heard, Dials, Comes_in, Begins, Ceases, Loses, Ticks, Fails, Hears, Closes}
+use Rattle.dist_core.proofs.Words.{Names, Goes_on, Insists, Replies, Challenges, Complements, Acknowledged, Replied, effect_of, step}
+use Rattle.dist_core_laws.proofs.Words.{Event, Reply, Effect}
 use Rattle.dist_core_ends.specs.declared.why.Why.TheVariants as why
-use Rattle.dist_core_ends.specs.declared.known.Attempt.{Attempt}
-use Rattle.dist_core_ends.specs.declared.known.End.{End}
 use Rattle.dist_core_ends.specs.declared.known.End.TheVariants as ends
-use Rattle.dist_core_ends.specs.declared.phase.Kind.{Kind}
-use Rattle.dist_core_ends.specs.declared.phase.Phase.{Phase}
 use Rattle.dist_core_ends.specs.declared.phase.Phase.TheVariants as phase
-use Rattle.dist_core_ends.specs.Change.{other_view}
-use Rattle.dist_core_ends.specs.Ends.{AreLegal, holds, is_claim, kind_in}
-use Rattle.dist_core.specs.declared.event.Event.{Event}
-use Rattle.dist_core.specs.declared.reply.Reply.{Reply}
-use Rattle.dist_core.specs.declared.effect.Effect.{Effect}
 use Rattle.dist_core_laws.specs.Laws.{IsOther, is_doomed, doomed_in}
-use Rattle.dist_core.specs.Node.{NodeState, new_id, ends_after}
-use Rattle.dist_core.specs.Rows.{StepRow, Heard, Dials, Comes_in, Begins, Ceases, Loses, Ticks, Fails, Hears, Closes, Names, Goes_on, Insists, Replies, Challenges, Complements, Acknowledged, Replied}
-use Rattle.dist_core.specs.Step.{effect_of, step}
 use Rattle.dist_core.proofs.Closings.{heard-end}
-use Rattle.dist_core.proofs.Counts.{of_ok}
 use Rattle.dist_core_laws.proofs.Others.{another}
-use Rattle.dist_core.proofs.Rows.{row_of}
-use Rattle.dist_core_laws.proofs.Succeeding.{has-effect, stands-after}
+use Rattle.dist_core.proofs.Rows.{row-in}
+use Rattle.dist_core_laws.proofs.Succeeding.{has-effect, stands-as}
 
 -- the effect closes its own end, and brings nothing up
 pub record Shuts (f : Effect) : Type 0 where
@@ -75,7 +59,7 @@ module _ (n : NodeState) where
       by-heard id fresh c m f (sym (ap is_doomed (at-own f id e c (heard-end n id fresh c m f h) at there)) ∙ d) h
 
   pub shuts-own : (v : Event) (fresh : ℕ) (f : Effect) (e : End) → effect_of n v fresh ≡ Ok f → slice_get n.ends f.reply.end_.0 ≡ Some e → is_doomed e ≡ true → Shuts f
-  shuts-own v fresh f e is at d = by-row v fresh f e at d (of_ok (StepRow n v fresh) (effect_of n v fresh) f is (row_of n v fresh))
+  shuts-own v fresh f e is at d = by-row v fresh f e at d (row-in n v fresh f is)
 
 -- a doomed end holds no peer
 holds-none : (p : Name) (k : Kind) (e : End) → is_doomed e ≡ true → holds p k e ≡ true → ⊥
@@ -92,41 +76,19 @@ abbrev Becomes : End → Option End → Type 0
 Becomes e o = (o ≡ Some e) ⊎ ((w : Why) × (o ≡ Some (ends.Closed w)))
 
 module _ (n : NodeState) (legal : AreLegal n.ends) (v : Event) (fresh : ℕ) (f : Effect) (is : effect_of n v fresh ≡ Ok f) (x : EndId) (e : End) (at : slice_get n.ends x.0 ≡ Some e) (d : is_doomed e ≡ true) where
-  own-end : eqb f.reply.end_.0 x.0 ≡ true → (w : Why) × (f.this ≡ ends.Closed w)
-  own-end t =
-      let place : f.reply.end_.0 ≡ x.0 = eqb-true f.reply.end_.0 x.0 t in
-      let h = shuts-own n v fresh f e is (ap (slice_get n.ends) place ∙ at) d in
-      (h.cause, h.closed)
-
-  at-event : Becomes e (cond (eqb f.reply.end_.0 x.0) (Some f.this) (slice_get n.ends x.0))
-  at-event = elim (eqb f.reply.end_.0 x.0) as (λ t. eqb f.reply.end_.0 x.0 ≡ t → Becomes e (cond t (Some f.this) (slice_get n.ends x.0))) [
-    | true ↦ λ t. let c = own-end t in inr (c.0, ap Some c.1)
-    | false ↦ λ t. inl at
-  ] refl
-
-  not-other : (y : EndId) (s : End) → f.other ≡ Some (y, s) → eqb y.0 x.0 ≡ true → ⊥
-  not-other y s o t =
-      let i : IsOther n f.reply.end_ y = another n legal v fresh f y s is o in
-      let place : y.0 ≡ x.0 = eqb-true y.0 x.0 t in
-      let same : Some i.kept ≡ Some e = sym i.there ∙ ap (slice_get n.ends) place ∙ at in
-      let kept : i.kept ≡ e = cc in
-      holds-none i.peer i.kind e d (ap (holds i.peer i.kind) (sym kept) ∙ i.held)
-
-  by-other : (o : Option (EndId × End)) → f.other ≡ o → Becomes e (other_view o (λ i. cond (eqb f.reply.end_.0 i) (Some f.this) (slice_get n.ends i)) x.0)
-  by-other None o = at-event
-  by-other (Some y) o =
-      elim (eqb (let z = y.0 in z.0) x.0) as (λ t. eqb (let z = y.0 in z.0) x.0 ≡ t → Becomes e (cond t (Some y.1) (cond (eqb f.reply.end_.0 x.0) (Some f.this) (slice_get n.ends x.0)))) [
-        | true ↦ λ t. absurd (not-other y.0 y.1 o t)
-        | false ↦ λ t. at-event
-      ] refl
-
-  pub becomes : Becomes e (slice_get (ends_after n.ends f) x.0)
-  becomes = subst (Becomes e) (sym (stands-after n v fresh f x.0 legal is)) (by-other f.other refl)
+  becomes : Becomes e (slice_get (ends_after n.ends f) x.0)
+  becomes = stands-as n v fresh f x.0 legal is (Becomes e)
+      (λ place. let h = shuts-own n v fresh f e is (ap (slice_get n.ends) place ∙ at) d in inr (h.cause, ap Some h.closed))
+      (λ y s o place. absurd (not-other y s o place)) (inl at)
+    where
+      not-other : (y : EndId) (s : End) → f.other ≡ Some (y, s) → y.0 ≡ x.0 → ⊥
+      not-other y s o place =
+          let i : IsOther n f.reply.end_ y = another n legal v fresh f y s is o in
+          let same : Some i.kept ≡ Some e = sym i.there ∙ ap (slice_get n.ends) place ∙ at in
+          let kept : i.kept ≡ e = cc in
+          holds-none i.peer i.kind e d (ap (holds i.peer i.kind) (sym kept) ∙ i.held)
 
 pub stays-or-closes : (n : NodeState) (v : Event) (fresh : ℕ) (r : Reply) (m : NodeState) (x : EndId) (e : End) → AreLegal n.ends → step n v fresh ≡ Ok (r, m) → slice_get n.ends x.0 ≡ Some e → is_doomed e ≡ true → Becomes e (slice_get m.ends x.0)
 stays-or-closes n v fresh r m x e legal is at d =
     let h = has-effect n v fresh r m is in
     subst (λ (k : NodeState). Becomes e (slice_get k.ends x.0)) (sym h.node) (becomes n legal v fresh h.effect h.is x e at d)
-
-pub brings-nothing-up : (n : NodeState) (v : Event) (fresh : ℕ) (f : Effect) (e : End) → effect_of n v fresh ≡ Ok f → slice_get n.ends f.reply.end_.0 ≡ Some e → is_doomed e ≡ true → f.reply.up ≡ None
-brings-nothing-up n v fresh f e is at d = let h = shuts-own n v fresh f e is at d in h.up

@@ -1,45 +1,20 @@
 -- How many entries there are after a step: no more than the limit, where there were no more before.
-use Rattle.std.proofs.Common.{◌≡◌, ◌∙◌, ℕ, ◌+◌, ◌-◌, ◌<◌, ◌≤◌, Bool, true, false, not, ◌||◌, cond, nat_lt, List, Option, Some, None, Ok, is_some, refl, sym, ap, subst, arith, slice_get}
-use Rattle.std.proofs.lemmas.Bool.{false≢true}
-use Rattle.std.proofs.lemmas.Bool.Decides.{nat_tests}
-use Rattle.std.specs.Option.{option_map}
+use Rattle.std.proofs.Common.{◌≡◌, ◌∙◌, ℕ, ◌+◌, ◌-◌, ◌<◌, ◌≤◌, Bool, true, false, not, ◌||◌, cond, nat_lt, Option, Some, None, Ok, is_some, refl, sym, ap, subst, arith, slice_get}
+use Rattle.dist_core.proofs.Words.{false≢true, nat_tests, option_map, len-insert, len-remove, Name, same_name, has_all, Flags, Message, EndId, Entry, Table}
+use Rattle.dist_core.proofs.Words.{with_entry, left_by, is_waiting, is_full, Kind, Out, In, Up, Phase, Attempt, End, Why, AreLegal, Claim, claim_of, entry_in}
+use Rattle.dist_core.proofs.Words.{kind_in, table_of, AsksRaise, AsksShift, claim_at, table_after_entry, table_after_rise, table_after_shift, Setup, asks_name}
+use Rattle.dist_core.proofs.Words.{is_allowed, is_good, is_refused, NodeState, ends_after, is_full_for, limits_of, named_attempt, fresh_attempt, held_back}
+use Rattle.dist_core.proofs.Words.{superseded_end, table_after_effect, StepRow, Heard, Taken, Dials, Comes_in, Begins, Ceases, Loses, Ticks, Fails, Hears}
+use Rattle.dist_core.proofs.Words.{Closes, Names, Goes_on, Insists, Replies, Challenges, Complements, Acknowledged, Replied, Accepts, Crosses, Declines}
+use Rattle.dist_core.proofs.Words.{Comes_again, Asks_alive, Asks_again, effect_of, table-legal, get-table, order, table-agreed, or_parts}
+use Rattle.dist_core_laws.proofs.Words.{Event, Effect}
 use Rattle.std.specs.FinMap as map
-use Rattle.std.specs.FinMap.{len-insert, len-remove}
-use Rattle.dist_names.specs.Order.{Name, same_name}
-use Rattle.dist_names.specs.Flags.{has_all}
-use Rattle.dist_names.specs.declared.flags.Flags.{Flags}
-use Rattle.dist_messages.specs.declared.message.Message.{Message}
-use Rattle.dist_peers.specs.declared.entry.EndId.{EndId}
-use Rattle.dist_peers.specs.declared.entry.Entry.{Entry}
 use Rattle.dist_peers.specs.declared.entry.Entry.TheVariants as entry
-use Rattle.dist_peers.specs.Table.{Table, with_entry, left_by, is_waiting}
-use Rattle.dist_peers.specs.Verdicts.{is_full}
-use Rattle.dist_core_ends.specs.declared.phase.Kind.{Kind}
-use Rattle.dist_core_ends.specs.declared.phase.Kind.TheVariants.{Out, In, Up}
-use Rattle.dist_core_ends.specs.declared.phase.Phase.{Phase}
 use Rattle.dist_core_ends.specs.declared.phase.Phase.TheVariants as phase
-use Rattle.dist_core_ends.specs.declared.known.Attempt.{Attempt}
-use Rattle.dist_core_ends.specs.declared.known.End.{End}
 use Rattle.dist_core_ends.specs.declared.known.End.TheVariants as ends
-use Rattle.dist_core_ends.specs.declared.why.Why.{Why}
 use Rattle.dist_core_ends.specs.declared.why.Why.TheVariants as why
-use Rattle.dist_core_ends.specs.Ends.{AreLegal, Claim, claim_of, entry_in, kind_in, table_of}
-use Rattle.dist_core_ends.specs.Change.{AsksRaise, AsksShift, claim_at, table_after_entry, table_after_rise, table_after_shift}
-use Rattle.dist_core_setup.specs.declared.setup.Setup.{Setup}
-use Rattle.dist_core_setup.specs.Rules.{asks_name, is_allowed, is_good, is_refused}
-use Rattle.dist_core.specs.declared.event.Event.{Event}
-use Rattle.dist_core.specs.declared.effect.Effect.{Effect}
-use Rattle.dist_core.specs.Node.{NodeState, ends_after, is_full_for, limits_of}
-use Rattle.dist_core.specs.Accepted.{named_attempt}
-use Rattle.dist_core.specs.Effects.{fresh_attempt, held_back, superseded_end, supersedes}
-use Rattle.dist_core.specs.Fitting.{table_after_effect}
-use Rattle.dist_core.specs.Rows.{StepRow, Heard, Taken, Dials, Comes_in, Begins, Ceases, Loses, Ticks, Fails, Hears, Closes, Names, Goes_on, Insists, Replies, Challenges, Complements, Acknowledged, Replied, Accepts, Crosses, Declines, Comes_again, Asks_alive, Asks_again}
-use Rattle.dist_core.specs.Step.{effect_of}
-use Rattle.dist_core_ends.proofs.Legal.{table-legal}
-use Rattle.dist_core_ends.proofs.Tables.{get-table, order, table-agreed}
-use Rattle.dist_core.proofs.Closings.{heard-end}
-use Rattle.dist_core.proofs.Counts.{of_ok}
-use Rattle.dist_core.proofs.Rows.{row_of}
+use Rattle.dist_core.proofs.Closings.{at-own, heard-end}
+use Rattle.dist_core.proofs.Rows.{row-in}
 use Rattle.dist_core.proofs.Steps.{fits}
 
 -- ---- the entries of a table
@@ -115,12 +90,8 @@ len-shifted most t me id (Some d) (Some q) asks room h = rises d.kind q.kind ask
 
 -- ---- the rows
 
-last-no : (a b : Bool) → (a || b) ≡ false → b ≡ false
-last-no true b h = cc
-last-no false b h = h
-
 not-refused : (s : Setup) (r : ℕ) (full : Bool) (f : Flags) (p : Name) → is_refused s r full f p ≡ false → full ≡ false
-not-refused s r full f p h = last-no (asks_name f || not (has_all f.0 r) || not (is_good p) || same_name s.name p || not (is_allowed s.allow p)) full h
+not-refused s r full f p h = (or_parts (asks_name f || not (has_all f.0 r) || not (is_good p) || same_name s.name p || not (is_allowed s.allow p)) full h).1
 
 claimed : (b : Attempt) (ph : Phase) (k : Kind) → b.phase ≡ ph → kind_in ph ≡ Some k → claim_of (ends.Attempt b) ≡ Some (record { peer = b.peer; kind = k })
 claimed b ph k e g = ap (λ (x : Option Kind). option_map {U = Claim} (λ l. record { peer = b.peer; kind = l }) x) (ap kind_in e ∙ g)
@@ -131,10 +102,6 @@ claims-peer b q h = by (kind_in b.phase) h
     by : (k : Option Kind) → option_map {U = Claim} (λ l. record { peer = b.peer; kind = l }) k ≡ Some q → q.peer ≡ b.peer
     by None h = let bad : ◌≡◌ {A = Option Claim} None (Some q) = h in absurd cc
     by (Some k) h = let reported : ◌≡◌ {A = Claim} (record { peer = b.peer; kind = k }) q = cc in ap (λ (c : Claim). c.peer) (sym reported)
-
-superseding : (id : EndId) (say : List ℕ) (b : Attempt) (x : EndId) (s : End) → (let f = supersedes id say b x s in f.this) ≡ ends.Attempt b
-superseding id say b x (ends.Closed w) = refl
-superseding id say b x s = refl
 
 module _ (n : NodeState) where
   -- where an end begins to hold a peer, there is room for its entry
@@ -155,7 +122,7 @@ module _ (n : NodeState) where
 
   by-taken : (id : EndId) (b : Attempt) (f : Effect) → is_full_for n (entry_in n.ends b.peer) ≡ false → Taken n id b f → Finds f
   by-taken id b f full (Accepts is k) = takes f b (ap (λ (f : Effect). f.this) k) full
-  by-taken id b f full (Crosses x is g k) = takes f b (ap (λ (f : Effect). f.this) k ∙ superseding id _ b x (superseded_end (slice_get n.ends x.0))) full
+  by-taken id b f full (Crosses x is g k) = takes f b (ap (λ (f : Effect). f.this) k ∙ (at-own id _ b x (superseded_end (slice_get n.ends x.0))).1) full
   by-taken id b f full (Declines x is g k) = closed f why.Crossed (ap (λ (f : Effect). f.this) k)
   by-taken id b f full (Comes_again x is k) = takes f b (ap (λ (f : Effect). f.this) k) full
   by-taken id b f full (Asks_alive x is k) = takes f (held_back b) (ap (λ (f : Effect). f.this) k) full
@@ -187,7 +154,7 @@ module _ (n : NodeState) where
       let t : Table = table_of n.ends in
       let most : ℕ = (let l = limits_of n in l.entries) in
       let g = fits n t (table-legal n.ends legal) v fresh f is in
-      let finds : Finds f = by-row v fresh f (of_ok (StepRow n v fresh) (effect_of n v fresh) f is (row_of n v fresh)) in
+      let finds : Finds f = by-row v fresh f (row-in n v fresh f is) in
       let same : table_after_effect n t f ≡ table_of (ends_after n.ends f) = table-agreed (table_after_effect n t f) (ends_after n.ends f) g.agree in
       subst (λ (u : Table). map.len u ≤ most) same
       (len-shifted most t n.setup.name f.reply.end_ (claim_at (slice_get n.ends f.reply.end_.0)) (claim_of f.this) g.asks

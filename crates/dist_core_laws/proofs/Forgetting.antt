@@ -1,55 +1,26 @@
 -- Why ends were closed changes no step.
 use Rattle.std.proofs.Common.{◌≡◌, ℕ, ◌||◌, not, nat_lt, cond, ◌&&◌, ◌==◌, Bool, true, false, List, [], ◌∷◌, map, Option, Some, None, Result, Ok, Err, refl, sym, ap, ◌∙◌, subst, slice_get}
-use Rattle.std.specs.Option.{option_map}
-use Rattle.std.specs.List.{count_by, list_any}
+use Rattle.dist_core.proofs.Words.{option_map, count_by, list_any, Name, Flags, Creation, read, Form, Message, Side, MessageError, Opening, is_full, is_greater}
+use Rattle.dist_core.proofs.Words.{ruling, EndId, Entry, rekeys, form_of_old, is_refused, knows_six, required_of, greeting_text, status_text, Setup, end_id}
+use Rattle.dist_core.proofs.Words.{entry_in, is_open, without_causes_below, without_cause, Attempt, End, Phase, Act, act, changed_or, run_acts, after_change}
+use Rattle.dist_core.proofs.Words.{change, finds_no_room, has_usual, is_in_use, is_up, in_await_name, in_await_reply, name_came, name_taken, named_attempt}
+use Rattle.dist_core.proofs.Words.{verdict_in, in_await_ack, closes, fresh_attempt, goes_on, shuts, supersedes, NodeState, is_crowded, is_full_for}
+use Rattle.dist_core.proofs.Words.{is_given_out, is_spent, new_id, run, node_after, opening}
+use Rattle.dist_core_laws.proofs.Words.{Change, Allow, Cookie, UsualCookie, Effect, Event, Reply, StepError}
 use Rattle.std.specs.FinMap as finite
-use Rattle.dist_names.specs.Order.{Name}
-use Rattle.dist_names.specs.declared.flags.Flags.{Flags}
-use Rattle.dist_names.specs.declared.creation.Creation.{Creation}
-use Rattle.dist_messages.specs.Reading.{read}
-use Rattle.dist_messages.specs.declared.form.Form.{Form}
 use Rattle.dist_messages.specs.declared.form.Form.TheVariants as form
-use Rattle.dist_messages.specs.declared.message.Message.{Message}
 use Rattle.dist_messages.specs.declared.message.Message.TheVariants as message
-use Rattle.dist_messages.specs.declared.message.Side.{Side}
 use Rattle.dist_messages.specs.declared.message.Status.TheVariants as status
-use Rattle.dist_messages.specs.declared.message_error.MessageError.{MessageError}
-use Rattle.dist_messages.specs.declared.opening.Opening.{Opening}
-use Rattle.dist_peers.specs.Verdicts.{is_full, is_greater, ruling}
-use Rattle.dist_peers.specs.declared.entry.EndId.{EndId}
-use Rattle.dist_peers.specs.declared.entry.Entry.{Entry}
 use Rattle.dist_peers.specs.declared.entry.Verdict.{Verdict}
 use Rattle.dist_peers.specs.declared.entry.Verdict.TheVariants as verdict
-use Rattle.dist_secret.specs.Cookies.{rekeys}
-use Rattle.dist_core_setup.specs.Rules.{form_of_old, is_refused, knows_six, required_of}
-use Rattle.dist_core_setup.specs.Saying.{greeting_text, status_text}
-use Rattle.dist_core_setup.specs.declared.setup.Setup.{Setup}
-use Rattle.dist_core_ends.specs.Ends.{end_id, entry_in, is_open}
-use Rattle.dist_core_ends.specs.Forgetting.{without_causes_below, without_cause}
-use Rattle.dist_core_ends.specs.declared.known.Attempt.{Attempt}
-use Rattle.dist_core_ends.specs.declared.known.End.{End}
 use Rattle.dist_core_ends.specs.declared.known.End.TheVariants as ends
-use Rattle.dist_core_ends.specs.declared.phase.Phase.{Phase}
 use Rattle.dist_core_ends.specs.declared.phase.Phase.TheVariants as phase
 use Rattle.dist_core_ends.specs.declared.why.Why.TheVariants as why
-use Rattle.dist_core.specs.declared.changing.Change.{Change}
-use Rattle.dist_core.specs.declared.changing.Change.TheVariants.{Allow, Cookie, UsualCookie}
 use Rattle.dist_core.specs.declared.changing.ChangeError.TheVariants as change_error
-use Rattle.dist_core.specs.Acts.{Act, act, changed_or, run_acts}
 use Rattle.dist_core.specs.Acts as acts
-use Rattle.dist_core.specs.Changing.{after_change, change, finds_no_room, has_usual, is_in_use, is_up}
-use Rattle.dist_core.specs.Accepted.{in_await_name, in_await_reply, name_came, name_taken, named_attempt, verdict_in}
-use Rattle.dist_core.specs.Dialled.{in_await_ack}
-use Rattle.dist_core.specs.Effects.{closes, fresh_attempt, goes_on, shuts, supersedes}
-use Rattle.dist_core.specs.Node.{NodeState, is_crowded, is_full_for, is_given_out, is_spent, new_id}
-use Rattle.dist_core.specs.Runs.{run, node_after, opening}
 use Rattle.dist_core.specs.Step.{after, at_end, came_in, unless_spent, dial_effect, effect_of, framed_from, message_effect, in_attempt, opening_effect, sender_to, step, step_result, tick_effect}
-use Rattle.dist_core.specs.declared.effect.Effect.{Effect}
-use Rattle.dist_core.specs.declared.event.Event.{Event}
 use Rattle.dist_core.specs.declared.event.Event.TheVariants as event
 use Rattle.dist_core.specs.declared.reply.Note.TheVariants as note
-use Rattle.dist_core.specs.declared.reply.Reply.{Reply}
-use Rattle.dist_core.specs.declared.step_error.StepError.{StepError}
 use Rattle.dist_core.specs.declared.step_error.StepError.TheVariants as error
 use Rattle.dist_core_laws.specs.Forgetting.{AreAlike, AreAlikeAnswers, Both_gone, Same_refusal, Same_reply, without_forgetting}
 use Rattle.dist_core_laws.proofs.Causes.{changed-alike, end-alike, entry-alike, forgotten-alike, length-alike, opens-alike, superseded-alike, table-alike}

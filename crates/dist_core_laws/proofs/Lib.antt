@@ -1,3 +1,4 @@
+pub mod Words
 pub mod Legal
 pub mod Others
 pub mod OpenCounts

@@ -1,28 +1,17 @@
 -- A node stays within its limits.
-use Rattle.std.proofs.Common.{◌≡◌, ◌∙◌, ℕ, ◌+◌, ◌≤◌, true, false, ◌||◌, List, [], ◌∷◌, length, Ok, refl, sym, ap, subst, arith}
-use Rattle.std.proofs.lemmas.Bool.Decides.{nat_tests}
-use Rattle.std.specs.List.{count_by}
-use Rattle.dist_core_setup.specs.declared.setup.Setup.{Setup}
+use Rattle.std.proofs.Common.{◌≡◌, ◌∙◌, ℕ, ◌+◌, ◌≤◌, true, false, ◌||◌, List, [], length, Ok, refl, sym, ap, subst, arith}
+use Rattle.dist_core.proofs.Words.{nat_tests, count_by, Setup, len-empty, name_cmp, Entry, AreLegal, is_open, table_of, NodeState, is_crowded, is_given_out}
+use Rattle.dist_core.proofs.Words.{is_spent, limits_of, StepRow, Dials, Comes_in, Begins, Ceases, Loses, Ticks, Fails, Hears, run, node_after, opening}
+use Rattle.dist_core.proofs.Words.{effect_of, step, after, agree-empty, table-agreed}
+use Rattle.dist_core_laws.proofs.Words.{Event, Effect}
 use Rattle.dist_core_setup.specs.declared.limits.Limits.{Limits}
 use Rattle.dist_core_setup.specs.Limits.{usual_limits}
-use Rattle.dist_core.specs.declared.event.Event.{Event}
-use Rattle.dist_core.specs.declared.effect.Effect.{Effect}
 use Rattle.std.specs.FinMap as map
-use Rattle.std.specs.FinMap.{len-empty}
-use Rattle.dist_names.specs.Order.{name_cmp}
-use Rattle.dist_peers.specs.declared.entry.Entry.{Entry}
-use Rattle.dist_core_ends.specs.Ends.{AreLegal, is_open, table_of}
 use Rattle.dist_core_laws.specs.Laws.{IsWithinLimits, given_by}
-use Rattle.dist_core.specs.Node.{NodeState, ends_after, is_crowded, is_given_out, is_spent, limits_of}
-use Rattle.dist_core.specs.Rows.{StepRow, Dials, Comes_in, Begins, Ceases, Loses, Ticks, Fails, Hears}
-use Rattle.dist_core.specs.Runs.{run, node_after, opening}
-use Rattle.dist_core.specs.Step.{effect_of, step, after, cost_of}
-use Rattle.dist_core_ends.proofs.Tables.{agree-empty, table-agreed}
-use Rattle.dist_core.proofs.Counts.{counts, of_ok}
-use Rattle.dist_core.proofs.Numbers.{numbered}
-use Rattle.dist_core.proofs.Rows.{row_of}
+use Rattle.dist_core.proofs.Numbers.{counted}
+use Rattle.dist_core.proofs.Rows.{row-in}
 use Rattle.dist_core_laws.proofs.Legal.{legal_opening, legal_step}
-use Rattle.dist_core_laws.proofs.Constant.{after-step}
+use Rattle.dist_core_laws.proofs.Constant.{after-run, after-step}
 use Rattle.dist_core_laws.proofs.OpenCounts.{open_change}
 use Rattle.dist_core_laws.proofs.EntryCounts.{entries_after}
 
@@ -60,10 +49,9 @@ module _ (n : NodeState) where
 
   within-after : (v : Event) (fresh : ℕ) (f : Effect) → AreLegal n.ends → IsWithinLimits n → effect_of n v fresh ≡ Ok f → IsWithinLimits (after n v f)
   within-after v fresh f legal h is =
-      let row : StepRow n v fresh f = of_ok (StepRow n v fresh) (effect_of n v fresh) f is (row_of n v fresh) in
-      let counted = of_ok (λ (f : Effect). (n.steps + cost_of v ≤ (let l = limits_of n in l.steps)) × (length (ends_after n.ends f) ≤ length n.ends + cost_of v)) (effect_of n v fresh) f is (counts n h.steps v fresh) in
-      let room : Fits v = finds-room v fresh f h.open_ends row in
-      record { steps = counted.0; given_out = numbered n v fresh f row h.given_out; open_ends = omega (arith, room, open_change n legal v fresh f is); entries = entries_after n v fresh f legal h.entries is }
+      let kept = counted n v fresh f is h.steps h.given_out in
+      let room : Fits v = finds-room v fresh f h.open_ends (row-in n v fresh f is) in
+      record { steps = kept.0; given_out = kept.2; open_ends = omega (arith, room, open_change n legal v fresh f is); entries = entries_after n v fresh f legal h.entries is }
 
 pub within_step : (n : NodeState) (v : Event) (fresh : ℕ) → AreLegal n.ends → IsWithinLimits n → IsWithinLimits (node_after n (step n v fresh))
 within_step n v fresh legal h = after-step IsWithinLimits n v fresh h (λ f e. within-after n v fresh f legal h e)
@@ -74,9 +62,7 @@ no-entries = ap map.len (sym (table-agreed map.empty [] (agree-empty map.empty [
 pub within_first : (s : Setup) → IsWithinLimits (opening s)
 within_first s = record { steps = omega arith; given_out = omega arith; open_ends = omega arith; entries = omega (arith, no-entries) }
 
-within-run : (xs : List (Event × ℕ)) (n : NodeState) → AreLegal n.ends → IsWithinLimits n → IsWithinLimits (run xs n)
-within-run [] n legal h = h
-within-run (x ∷ xs) n legal h = within-run xs (node_after n (step n x.0 x.1)) (legal_step n x.0 x.1 legal) (within_step n x.0 x.1 legal h)
-
 pub within_runs : (s : Setup) (xs : List (Event × ℕ)) → IsWithinLimits (run xs (opening s))
-within_runs s xs = within-run xs (opening s) (legal_opening s) (within_first s)
+within_runs s xs =
+    let h = after-run (λ m. AreLegal m.ends × IsWithinLimits m) (λ m v fresh h. (legal_step m v fresh h.0, within_step m v fresh h.0 h.1)) xs (opening s) (legal_opening s, within_first s) in
+    h.1

@@ -1,62 +1,33 @@
 -- How the number of open ends changes with a step.
-use Rattle.std.proofs.Common.{◌≡◌, ◌≢◌, ℕ, ◌+◌, ◌<◌, true, false, cond, eqb, ltb, List, [], ◌∷◌, ◌++◌, length, set, Option, Some, None, Ok, refl, sym, ap, ◌∙◌, subst, slice_get, arith}
-use Rattle.std.specs.List.{count_by}
-use Rattle.std.proofs.lemmas.Bool.{eqb-true}
-use Rattle.std.proofs.lemmas.Bool.Decides.{nat_tests}
-use Rattle.std.proofs.lemmas.Option.{slice_get_within}
-use Rattle.dist_messages.specs.declared.message.Side.{Side}
-use Rattle.dist_messages.specs.declared.message.Message.{Message}
-use Rattle.dist_peers.specs.Table.{replaced_by}
-use Rattle.dist_peers.specs.declared.entry.EndId.{EndId}
-use Rattle.dist_core_ends.specs.declared.why.Why.{Why}
+use Rattle.std.proofs.Common.{◌≡◌, ◌≢◌, ℕ, ◌+◌, ◌<◌, true, false, cond, eqb, ltb, List, [], length, set, Option, Some, None, Ok, refl, sym, ap, ◌∙◌, subst, slice_get, arith}
+use Rattle.dist_core.proofs.Words.{count_by, nat_tests, slice_get_within, Side, Message, replaced_by, EndId, Why, Attempt, UpRecord, End, AreLegal, is_open}
+use Rattle.dist_core.proofs.Words.{entry_in, NodeState, ends_after, new_id, put_end, one_if, named_attempt, greeting_text, goes_on, shuts, shuts_other}
+use Rattle.dist_core.proofs.Words.{supersedes, superseded_end, comes_up, StepRow, Heard, Taken, Dials, Comes_in, Begins, Ceases, Loses, Ticks, Fails, Hears}
+use Rattle.dist_core.proofs.Words.{Closes, Names, Goes_on, Insists, Replies, Challenges, Complements, Acknowledged, Replied, Accepts, Crosses, Declines}
+use Rattle.dist_core.proofs.Words.{Comes_again, Asks_alive, Asks_again, effect_of, sender_to, get-put, cond_both, ne_eqb}
+use Rattle.dist_core_laws.proofs.Words.{Event, Note, Effect}
 use Rattle.dist_core_ends.specs.declared.why.Why.TheVariants as why
-use Rattle.dist_core_ends.specs.declared.known.Attempt.{Attempt}
-use Rattle.dist_core_ends.specs.declared.known.UpRecord.{UpRecord}
-use Rattle.dist_core_ends.specs.declared.known.End.{End}
 use Rattle.dist_core_ends.specs.declared.known.End.TheVariants as ends
-use Rattle.dist_core.specs.declared.event.Event.{Event}
 use Rattle.dist_core.specs.declared.event.Event.TheVariants as event
-use Rattle.dist_core.specs.declared.reply.Note.{Note}
 use Rattle.dist_core.specs.declared.reply.Note.TheVariants as note
-use Rattle.dist_core.specs.declared.effect.Effect.{Effect}
-use Rattle.dist_core_ends.specs.Ends.{AreLegal, is_open, entry_in}
-use Rattle.dist_core.specs.Node.{NodeState, ends_after, new_id}
-use Rattle.dist_core_ends.specs.Change.{put_end, one_if}
-use Rattle.dist_core.specs.Accepted.{named_attempt}
-use Rattle.dist_core_setup.specs.Saying.{greeting_text}
 use Rattle.dist_messages.specs.declared.message.Status.TheVariants as status
-use Rattle.dist_core.specs.Effects.{goes_on, shuts, shuts_other, supersedes, superseded_end, comes_up}
 use Rattle.dist_core_laws.specs.Laws.{IsOther, closed_by, given_by}
-use Rattle.dist_core.specs.Rows.{StepRow, Heard, Taken, Dials, Comes_in, Begins, Ceases, Loses, Ticks, Fails, Hears, Closes, Names, Goes_on, Insists, Replies, Challenges, Complements, Acknowledged, Replied, Accepts, Crosses, Declines, Comes_again, Asks_alive, Asks_again}
-use Rattle.dist_core.specs.Step.{effect_of, sender_to}
-use Rattle.dist_core_ends.proofs.Changes.{get-put}
 use Rattle.dist_core.proofs.Closings.{heard-end}
-use Rattle.dist_core.proofs.Counts.{of_ok}
 use Rattle.dist_core_ends.proofs.Opens.{count-set, count-push}
 use Rattle.dist_core_laws.proofs.Others.{other-row}
-use Rattle.dist_core.proofs.Rows.{row_of}
+use Rattle.dist_core.proofs.Rows.{loses, row-in}
 
 -- an end is put in the place of another
 put-at : (es : List End) (i : ℕ) (e d : End) → slice_get es i ≡ Some d → count_by is_open (put_end es i e) + one_if (is_open d) ≡ count_by is_open es + one_if (is_open e)
 put-at es i e d h =
     let within : i < length es = slice_get_within es i d h in
-    elim (ltb i (length es)) as (λ b. ltb i (length es) ≡ b → count_by is_open (cond b (set es i e) (es ++ e ∷ [])) + one_if (is_open d) ≡ count_by is_open es + one_if (is_open e)) [
-      | true ↦ λ b. count-set es i e d h
-      | false ↦ λ b. absurd (grind (arith, nat_tests))
-    ] refl
+    cond_both (ltb i (length es)) _ _ (λ (ds : List End). count_by is_open ds + one_if (is_open d) ≡ count_by is_open es + one_if (is_open e)) (λ b. count-set es i e d h) (λ b. absurd (grind (arith, nat_tests)))
 
 put-last : (es : List End) (e : End) → count_by is_open (put_end es (length es) e) ≡ count_by is_open es + one_if (is_open e)
-put-last es e =
-    elim (ltb (length es) (length es)) as (λ b. ltb (length es) (length es) ≡ b → count_by is_open (cond b (set es (length es) e) (es ++ e ∷ [])) ≡ count_by is_open es + one_if (is_open e)) [
-      | true ↦ λ b. absurd (grind (arith, nat_tests))
-      | false ↦ λ b. count-push es e
-    ] refl
+put-last es e = cond_both (ltb (length es) (length es)) _ _ (λ (ds : List End). count_by is_open ds ≡ count_by is_open es + one_if (is_open e)) (λ b. absurd (grind (arith, nat_tests))) (λ b. count-push es e)
 
 not-equal : (id x : EndId) → x ≢ id → eqb id.0 x.0 ≡ false
-not-equal id x h = elim (eqb id.0 x.0) as (λ b. eqb id.0 x.0 ≡ b → b ≡ false) [
-  | true ↦ λ b. let at : id.0 ≡ x.0 = eqb-true id.0 x.0 b in absurd (h (λ i. record { 0 = sym at i }))
-  | false ↦ λ b. refl
-] refl
+not-equal id x h = ne_eqb id.0 x.0 (λ at. h (λ i. record { 0 = sym at i }))
 
 -- that end and another are put in their places
 put-two : (n : NodeState) (id x : EndId) (e d s : End) → slice_get n.ends id.0 ≡ Some d → (o : IsOther n id x) → count_by is_open (set (put_end n.ends id.0 e) x.0 s) + 1 + one_if (is_open d) ≡ count_by is_open n.ends + one_if (is_open e) + one_if (is_open s)
@@ -148,25 +119,13 @@ module _ (n : NodeState) where
 
   pub open_change : AreLegal n.ends → (v : Event) (fresh : ℕ) (f : Effect) → effect_of n v fresh ≡ Ok f → Change (given_by v) f
   open_change legal v fresh f is =
-      let r = of_ok (StepRow n v fresh) (effect_of n v fresh) f is (row_of n v fresh) in
+      let r = row-in n v fresh f is in
       by-row v fresh f (λ x s o. other-row n legal x s v fresh f r o) r
 
   -- a loss closes its end, and no other
   pub loss_change : (x : EndId) (w : Why) (fresh : ℕ) (f : Effect) → effect_of n (event.Lost x w) fresh ≡ Ok f → (ends_after n.ends f ≡ put_end n.ends x.0 (ends.Closed w)) × (count_by is_open (ends_after n.ends f) + 1 ≡ count_by is_open n.ends)
-  loss_change x w fresh f is = by (event.Lost x w) refl (of_ok (StepRow n (event.Lost x w) fresh) (effect_of n (event.Lost x w) fresh) f is (row_of n (event.Lost x w) fresh))
-    where
-      by : (v : Event) → v ≡ event.Lost x w → StepRow n v fresh f → (ends_after n.ends f ≡ put_end n.ends x.0 (ends.Closed w)) × (count_by is_open (ends_after n.ends f) + 1 ≡ count_by is_open n.ends)
-      by v e (Dials p o is idle sp full cr k) = let bad : event.Dial p o ≡ event.Lost x w = sym is ∙ e in absurd cc
-      by v e (Comes_in link is sp cr k) = let bad : event.Incoming link ≡ event.Lost x w = sym is ∙ e in absurd cc
-      by v e (Begins id link b is at ph sp k) = let bad : event.Opened id link ≡ event.Lost x w = sym is ∙ e in absurd cc
-      by v e (Ceases id link b is at ph sp k) = let bad : event.Opened id link ≡ event.Lost x w = sym is ∙ e in absurd cc
-      by v e (Loses id c d is at opened k) =
-          let reported : event.Lost id c ≡ event.Lost x w = sym is ∙ e in
-          let one : id ≡ x = cc in
-          let why : c ≡ w = cc in
-          let P : Effect → Type 0 = λ f. (ends_after n.ends f ≡ put_end n.ends x.0 (ends.Closed w)) × (count_by is_open (ends_after n.ends f) + 1 ≡ count_by is_open n.ends) in
-          let count = shut id [] c d note.Nothing at opened in
-          subst P (sym k) ((λ i. put_end n.ends (let y = one i in y.0) (ends.Closed (why i))), omega (arith, count))
-      by v e (Ticks id r is at sp k) = let bad : event.Tick id ≡ event.Lost x w = sym is ∙ e in absurd cc
-      by v e (Fails id body d side y is at to sp says k) = let bad : event.Frame id body ≡ event.Lost x w = sym is ∙ e in absurd cc
-      by v e (Hears id body d side m is at to sp says h) = let bad : event.Frame id body ≡ event.Lost x w = sym is ∙ e in absurd cc
+  loss_change x w fresh f is =
+      let P : Effect → Type 0 = λ f. (ends_after n.ends f ≡ put_end n.ends x.0 (ends.Closed w)) × (count_by is_open (ends_after n.ends f) + 1 ≡ count_by is_open n.ends) in
+      let h = loses n x w fresh f is in
+      let count = shut x [] w h.1.0 note.Nothing h.1.1 h.1.2 in
+      subst P (sym h.0) (refl, omega (arith, count))

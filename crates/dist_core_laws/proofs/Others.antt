@@ -1,45 +1,24 @@
 -- The other end that a step changes: it is open, and not the event's own.
 use Rattle.std.proofs.Common.{◌≡◌, ℕ, true, false, eqb, Option, Some, None, Ok, refl, sym, ap, ◌∙◌, subst, slice_get}
-use Rattle.std.proofs.lemmas.Bool.{false≢true}
-use Rattle.std.proofs.lemmas.Option.{some_pair_parts}
-use Rattle.std.specs.Option.{option_map}
-use Rattle.dist_names.specs.Order.{Name}
-use Rattle.dist_messages.specs.declared.message.Message.{Message}
-use Rattle.dist_peers.specs.Table.{replaced_by}
-use Rattle.dist_peers.specs.declared.entry.EndId.{EndId}
-use Rattle.dist_peers.specs.declared.entry.Entry.{Entry}
+use Rattle.dist_core.proofs.Words.{false≢true, some_pair_parts, option_map, Name, Message, replaced_by, EndId, Entry, Kind, Out, In, Up, Phase, Attempt, End}
+use Rattle.dist_core.proofs.Words.{AreLegal, is_claim, is_held, is_open, kind_in, names, entry_in, NodeState, named_attempt, superseded_end, StepRow, Heard}
+use Rattle.dist_core.proofs.Words.{Taken, Dials, Comes_in, Begins, Ceases, Loses, Ticks, Fails, Hears, Closes, Names, Goes_on, Insists, Replies, Challenges}
+use Rattle.dist_core.proofs.Words.{Complements, Acknowledged, Replied, Accepts, Crosses, Declines, Comes_again, Asks_alive, Asks_again, effect_of, same}
+use Rattle.dist_core_laws.proofs.Words.{Event, Effect}
 use Rattle.dist_peers.specs.declared.entry.Entry.TheVariants as entry
-use Rattle.dist_core_ends.specs.declared.phase.Kind.{Kind}
-use Rattle.dist_core_ends.specs.declared.phase.Kind.TheVariants.{Out, In, Up}
-use Rattle.dist_core_ends.specs.declared.phase.Phase.{Phase}
 use Rattle.dist_core_ends.specs.declared.phase.Phase.TheVariants as phase
 use Rattle.dist_core_ends.specs.declared.why.Why.TheVariants as why
-use Rattle.dist_core_ends.specs.declared.known.Attempt.{Attempt}
-use Rattle.dist_core_ends.specs.declared.known.End.{End}
 use Rattle.dist_core_ends.specs.declared.known.End.TheVariants as ends
-use Rattle.dist_core.specs.declared.event.Event.{Event}
-use Rattle.dist_core.specs.declared.effect.Effect.{Effect}
-use Rattle.dist_core_ends.specs.Ends.{AreLegal, is_claim, is_held, is_open, kind_in, names, entry_in}
-use Rattle.dist_core.specs.Node.{NodeState}
-use Rattle.dist_core.specs.Accepted.{named_attempt}
-use Rattle.dist_core.specs.Effects.{superseded_end}
 use Rattle.dist_core_laws.specs.Laws.{IsOther}
-use Rattle.dist_core.specs.Rows.{StepRow, Heard, Taken, Dials, Comes_in, Begins, Ceases, Loses, Ticks, Fails, Hears, Closes, Names, Goes_on, Insists, Replies, Challenges, Complements, Acknowledged, Replied, Accepts, Crosses, Declines, Comes_again, Asks_alive, Asks_again}
-use Rattle.dist_core.specs.Step.{effect_of}
 use Rattle.dist_core.proofs.Closings.{heard-end}
-use Rattle.dist_core.proofs.Counts.{of_ok}
-use Rattle.dist_core_ends.proofs.Fitting.{same}
 use Rattle.dist_core.proofs.Replies.{other-of}
-use Rattle.dist_core.proofs.Rows.{row_of}
+use Rattle.dist_core.proofs.Rows.{row-in}
 
 -- an end that holds a peer exists, and is open
 holder : (p : Name) (k : Kind) (o : Option End) → is_held p k o ≡ true → (e : End) × (o ≡ Some e) × (is_open e ≡ true)
 holder p k (Some (ends.Attempt b)) h = (ends.Attempt b, refl, refl)
 holder p k (Some (ends.Up r)) h = (ends.Up r, refl, refl)
 holder p k o h = absurd (false≢true h)
-
-first : (y x : EndId) (d s : End) → ◌≡◌ {A = Option (EndId × End)} (Some (y, d)) (Some (x, s)) → y ≡ x
-first y x d s e = (some_pair_parts y x d s e).0
 
 nothing : (f : Effect) (x : EndId) (s : End) → f.other ≡ None → f.other ≡ Some (x, s) → ⊥
 nothing f x s is e = let bad : ◌≡◌ {A = Option (EndId × End)} None (Some (x, s)) = sym is ∙ e in absurd cc
@@ -70,18 +49,18 @@ module _ (n : NodeState) (legal : AreLegal n.ends) (x : EndId) (s : End) where
       apart-from id b.peer Out _ is (names-it y at) (ap (is_held b.peer Out) un)
   by-taken id b f un (Declines y is g k) o = absurd (nothing f x s (ap (λ (f : Effect). f.other) k) o)
   by-taken id b f un (Comes_again y is k) o =
-      let at : y ≡ x = first y x _ s (ap (λ (f : Effect). f.other) (sym k) ∙ o) in
+      let at : y ≡ x = (some_pair_parts y x _ s (ap (λ (f : Effect). f.other) (sym k) ∙ o)).0 in
       apart-from id b.peer In _ is (names-it y at) (ap (is_held b.peer In) un)
   by-taken id b f un (Asks_alive y is k) o = absurd (nothing f x s (ap (λ (f : Effect). f.other) k) o)
   by-taken id b f un (Asks_again y z is k) o =
-      let at : z ≡ x = first z x _ s (ap (λ (f : Effect). f.other) (sym k) ∙ o) in
+      let at : z ≡ x = (some_pair_parts z x _ s (ap (λ (f : Effect). f.other) (sym k) ∙ o)).0 in
       apart-from id b.peer In _ is (names-it z at) (ap (is_held b.peer In) un)
 
   -- an end that comes up replaces another one
   by-rising : (id : EndId) (b : Attempt) (ph : Phase) → slice_get n.ends id.0 ≡ Some (ends.Attempt b) → b.phase ≡ ph → ((q : Name) → is_claim q Up (option_map (λ l. record { peer = b.peer; kind = l }) (kind_in ph)) ≡ false)
       → (u : Option Entry) → entry_in n.ends b.peer ≡ u → option_map {U = EndId × End} (λ (y : EndId). (y, ends.Closed why.Replaced)) (replaced_by u) ≡ Some (x, s) → IsOther n id x
   by-rising id b ph at is low (Some (entry.Challenged u y)) before o =
-      apart-from id b.peer Up _ before (names-it u (first u x _ s o))
+      apart-from id b.peer Up _ before (names-it u ((some_pair_parts u x _ s o).0))
       (ap (is_held b.peer Up) at ∙ ap (λ q. is_claim b.peer Up (option_map (λ l. record { peer = b.peer; kind = l }) (kind_in q))) is ∙ low b.peer)
   by-rising id b ph at is low u before o = absurd cc
 
@@ -110,4 +89,4 @@ module _ (n : NodeState) (legal : AreLegal n.ends) (x : EndId) (s : End) where
       subst-end e h = let P : EndId → Type 0 = λ (y : EndId). IsOther n y x in subst P e h
 
 pub another : (n : NodeState) → AreLegal n.ends → (v : Event) (fresh : ℕ) (f : Effect) (x : EndId) (s : End) → effect_of n v fresh ≡ Ok f → f.other ≡ Some (x, s) → IsOther n f.reply.end_ x
-another n legal v fresh f x s is o = other-row n legal x s v fresh f (of_ok (StepRow n v fresh) (effect_of n v fresh) f is (row_of n v fresh)) o
+another n legal v fresh f x s is o = other-row n legal x s v fresh f (row-in n v fresh f is) o

@@ -1,62 +1,34 @@
 -- The records of ends that are up stay right, over steps and changes.
-use Rattle.std.proofs.Common.{◌≡◌, ◌==◌, ℕ, Bool, true, false, cond, not, ◌&&◌, ◌||◌, eqb, List, [], ◌∷◌, Option, Some, None, Ok, Err, refl, sym, ap, ◌∙◌, subst, slice_get, arith}
-use Rattle.std.proofs.lemmas.Bool.{false≢true}
+use Rattle.std.proofs.Common.{◌≡◌, ◌==◌, ℕ, Bool, true, false, cond, not, ◌&&◌, ◌||◌, List, [], ◌∷◌, Option, Some, None, Ok, Err, refl, sym, ap, ◌∙◌, subst, slice_get, arith}
 use Rattle.std.specs.Prelude.{is_some}
-use Rattle.std.specs.List.{count_by, list_any}
-use Rattle.std.specs.Option.{option_map}
+use Rattle.dist_core.proofs.Words.{false≢true, count_by, list_any, option_map, get-entries, Name, name_cmp, same_name, Message, EndId, Entry, replaced_by}
+use Rattle.dist_core.proofs.Words.{up_id, Up, Phase, Attempt, End, UpRecord, AreLegal, entry_in, is_held, is_open, names, table_of, self-same}
+use Rattle.dist_core.proofs.Words.{without_causes_below, without_cause, legal, table-legal, get-table, own_digest, same_bytes, ack_text, Setup, rekeys}
+use Rattle.dist_core.proofs.Words.{named_attempt, Act, Steps, Changes, Forgets, Renews, act, changed_or, run_acts, after_change, change, finds_no_room}
+use Rattle.dist_core.proofs.Words.{has_usual, is_in_use, is_up, comes_up, supersedes, superseded_end, superseded_in, record_of, NodeState, limits_of, StepRow}
+use Rattle.dist_core.proofs.Words.{Heard, Taken, Dials, Comes_in, Begins, Ceases, Loses, Ticks, Fails, Hears, Closes, Names, Goes_on, Insists, Replies}
+use Rattle.dist_core.proofs.Words.{Challenges, Complements, Acknowledged, Replied, Accepts, Crosses, Declines, Comes_again, Asks_alive, Asks_again, node_after}
+use Rattle.dist_core.proofs.Words.{opening, effect_of, step, after, cond_both}
+use Rattle.dist_core_laws.proofs.Words.{Change, Cookie, UsualCookie, Allow, Event, Effect}
 use Rattle.std.specs.Cmp.Lexicographic.{same_text}
 use Rattle.std.specs.FinMap as map
-use Rattle.std.specs.FinMap.{get-entries}
 use Rattle.std.specs.FinMap.Entries.{find}
-use Rattle.dist_names.specs.Order.{Name, name_cmp, same_name}
 use Rattle.dist_names.proofs.Orders.{one_lem}
-use Rattle.dist_messages.specs.declared.message.Message.{Message}
-use Rattle.dist_peers.specs.declared.entry.EndId.{EndId}
-use Rattle.dist_peers.specs.declared.entry.Entry.{Entry}
 use Rattle.dist_peers.specs.declared.entry.Entry.TheVariants as entry
-use Rattle.dist_peers.specs.Table.{replaced_by, up_id}
-use Rattle.dist_core_ends.specs.declared.phase.Kind.TheVariants.{Up}
-use Rattle.dist_core_ends.specs.declared.phase.Phase.{Phase}
 use Rattle.dist_core_ends.specs.declared.phase.Phase.TheVariants as phase
-use Rattle.dist_core_ends.specs.declared.known.Attempt.{Attempt}
-use Rattle.dist_core_ends.specs.declared.known.End.{End}
 use Rattle.dist_core_ends.specs.declared.known.End.TheVariants as ends
-use Rattle.dist_core_ends.specs.declared.known.UpRecord.{UpRecord}
-use Rattle.dist_core_ends.specs.Change.{other_view}
-use Rattle.dist_core_ends.specs.Ends.{AreLegal, entry_in, is_held, is_open, names, table_of}
-use Rattle.dist_core_ends.proofs.Fitting.{self-same}
-use Rattle.dist_core_ends.specs.Forgetting.{without_causes_below, without_cause}
 use Rattle.dist_core_ends.proofs.Forgotten.{agree-forgotten}
-use Rattle.dist_core_ends.proofs.Legal.{legal, table-legal}
-use Rattle.dist_core_ends.proofs.Tables.{get-table}
-use Rattle.dist_core_setup.specs.Rules.{own_digest, same_bytes}
-use Rattle.dist_core_setup.specs.Saying.{ack_text}
-use Rattle.dist_core_setup.specs.declared.setup.Setup.{Setup}
 use Rattle.dist_core_setup.specs.Changing.{DigestsStay, has_own_cookie, with_own_cookie}
-use Rattle.dist_secret.specs.Cookies.{rekeys}
 use Rattle.dist_core_setup.proofs.Keys.{others-stay, same-stays, owners-stay, all-stay}
-use Rattle.dist_core.specs.declared.changing.Change.{Change}
-use Rattle.dist_core.specs.declared.changing.Change.TheVariants.{Cookie, UsualCookie, Allow}
 use Rattle.dist_core.specs.declared.changing.ChangeError.TheVariants as error
-use Rattle.dist_core.specs.declared.event.Event.{Event}
-use Rattle.dist_core.specs.declared.effect.Effect.{Effect}
-use Rattle.dist_core.specs.Accepted.{named_attempt}
-use Rattle.dist_core.specs.Acts.{Act, Steps, Changes, Forgets, Renews, act, changed_or, run_acts}
-use Rattle.dist_core.specs.Changing.{after_change, change, finds_no_room, has_usual, is_in_use, is_up}
-use Rattle.dist_core.specs.Effects.{comes_up, supersedes, superseded_end, superseded_in, record_of}
-use Rattle.dist_core.specs.Node.{NodeState, limits_of}
-use Rattle.dist_core.specs.Rows.{StepRow, Heard, Taken, Dials, Comes_in, Begins, Ceases, Loses, Ticks, Fails, Hears, Closes, Names, Goes_on, Insists, Replies, Challenges, Complements, Acknowledged, Replied, Accepts, Crosses, Declines, Comes_again, Asks_alive, Asks_again}
-use Rattle.dist_core.specs.Runs.{node_after, opening}
-use Rattle.dist_core.specs.Step.{effect_of, step, after}
-use Rattle.dist_core.proofs.Counts.{of_ok}
-use Rattle.dist_core.proofs.Rows.{row_of}
+use Rattle.dist_core.proofs.Rows.{row-in}
 use Rattle.dist_core_laws.specs.Laws.{IsWithinLimits}
 use Rattle.dist_core_laws.specs.Records.{AreRight}
 use Rattle.dist_core_laws.proofs.Causes.{forgotten-alike, table-alike, opens-alike, length-alike, end-alike}
 use Rattle.dist_core_laws.proofs.Constant.{after-step, setup_step}
 use Rattle.dist_core_laws.proofs.Legal.{legal_opening, legal_step}
 use Rattle.dist_core_laws.proofs.Limits.{within_first, within_step}
-use Rattle.dist_core_laws.proofs.Succeeding.{stands-after}
+use Rattle.dist_core_laws.proofs.Succeeding.{stands-as}
 
 -- an end is up only with a right record
 abbrev RightEnd : Setup → End → Type 0
@@ -126,24 +98,12 @@ module _ (n : NodeState) (rights : AreRight n) where
 
   module _ (legal : AreLegal n.ends) (v : Event) (fresh : ℕ) (f : Effect) (is : effect_of n v fresh ≡ Ok f) where
     effect-right : RightEffect n.setup f
-    effect-right = row v fresh f (of_ok (StepRow n v fresh) (effect_of n v fresh) f is (row_of n v fresh))
-
-    module _ (i : ℕ) (e : End) where
-      own : cond (eqb f.reply.end_.0 i) (Some f.this) (slice_get n.ends i) ≡ Some e → RightEnd n.setup e
-      own = elim (eqb f.reply.end_.0 i) as (λ b. cond b (Some f.this) (slice_get n.ends i) ≡ Some e → RightEnd n.setup e) [
-        | true ↦ λ q. let z : f.this ≡ e = cc in subst (RightEnd n.setup) z effect-right.0
-        | false ↦ λ q. each-end i e q
-      ]
-
-      by-other : (o : Option (EndId × End)) → RightOther n.setup o → other_view o (λ i. cond (eqb f.reply.end_.0 i) (Some f.this) (slice_get n.ends i)) i ≡ Some e → RightEnd n.setup e
-      by-other None h q = own q
-      by-other (Some x) h q = (elim (eqb (let y = x.0 in y.0) i) as (λ b. cond b (Some x.1) (cond (eqb f.reply.end_.0 i) (Some f.this) (slice_get n.ends i)) ≡ Some e → RightEnd n.setup e) [
-        | true ↦ λ q. let z : x.1 ≡ e = cc in subst (RightEnd n.setup) z h
-        | false ↦ λ q. own q
-      ]) q
+    effect-right = row v fresh f (row-in n v fresh f is)
 
     right-after : AreRight (after n v f)
-    right-after i r at = by-other i (ends.Up r) f.other effect-right.1 (sym (stands-after n v fresh f i legal is) ∙ at)
+    right-after i r at = stands-as n v fresh f i legal is (λ o. (e : End) → o ≡ Some e → RightEnd n.setup e)
+        (λ _ e q. let z : f.this ≡ e = cc in subst (RightEnd n.setup) z effect-right.0)
+        (λ x s o _ e q. let z : s ≡ e = cc in subst (RightEnd n.setup) z (subst (RightOther n.setup) o effect-right.1)) (each-end i) (ends.Up r) at
 
 pub right_step : (n : NodeState) (v : Event) (fresh : ℕ) → AreLegal n.ends → AreRight n → AreRight (node_after n (step n v fresh))
 right_step n v fresh legal h = after-step AreRight n v fresh h (right-after n h legal v fresh)
@@ -271,7 +231,7 @@ pub right_first : (s : Setup) → AreRight (opening s)
 right_first s i r at = absurd cc
 
 renewed : (P : NodeState → Type 0) (n : NodeState) → P (opening n.setup) → P n → P (act n Renews)
-renewed P n new old = elim (count_by is_open n.ends == 0) as (λ b. P (cond b (opening n.setup) n)) [ true ↦ new | false ↦ old ]
+renewed P n new old = cond_both (count_by is_open n.ends == 0) _ _ P (λ _. new) (λ _. old)
 
 legal_act : (n : NodeState) (x : Act) → AreLegal n.ends → AreLegal (act n x).ends
 legal_act n (Steps v fresh) h = legal_step n v fresh h

@@ -1,29 +1,15 @@
 -- An end comes up only with the digest of the own cookie and its own challenge.
-use Rattle.std.proofs.Common.{◌≡◌, ℕ, List, Option, Some, None, Ok, refl, sym, ap, ◌∙◌, subst, slice_get}
-use Rattle.dist_messages.specs.declared.message.Message.{Message}
-use Rattle.dist_peers.specs.declared.entry.EndId.{EndId}
-use Rattle.dist_core_ends.specs.declared.known.Attempt.{Attempt}
-use Rattle.dist_core_ends.specs.declared.known.UpRecord.{UpRecord}
-use Rattle.dist_core_ends.specs.declared.known.End.{End}
-use Rattle.dist_core_ends.specs.declared.known.End.TheVariants as ends
-use Rattle.dist_core.specs.declared.event.Event.{Event}
-use Rattle.dist_core.specs.declared.effect.Effect.{Effect}
-use Rattle.dist_core.specs.Node.{NodeState}
-use Rattle.dist_core.specs.Accepted.{named_attempt}
-use Rattle.dist_core.specs.Effects.{supersedes, superseded_end, record_of}
-use Rattle.dist_core.specs.Rows.{StepRow, Heard, Taken, Dials, Comes_in, Begins, Ceases, Loses, Ticks, Fails, Hears, Closes, Names, Goes_on, Insists, Replies, Challenges, Complements, Acknowledged, Replied, Accepts, Crosses, Declines, Comes_again, Asks_alive, Asks_again}
-use Rattle.dist_core.specs.Step.{effect_of}
+use Rattle.std.proofs.Common.{◌≡◌, ℕ, Option, Some, None, sym, ap, ◌∙◌, subst, slice_get}
+use Rattle.dist_core.proofs.Words.{Message, EndId, Attempt, UpRecord, End, NodeState, named_attempt, superseded_end, record_of, StepRow, Heard, Taken, Dials}
+use Rattle.dist_core.proofs.Words.{Comes_in, Begins, Ceases, Loses, Ticks, Fails, Hears, Closes, Names, Goes_on, Insists, Replies, Challenges, Complements}
+use Rattle.dist_core.proofs.Words.{Acknowledged, Replied, Accepts, Crosses, Declines, Comes_again, Asks_alive, Asks_again}
+use Rattle.dist_core_laws.proofs.Words.{Event, Effect}
 use Rattle.dist_core_laws.specs.Laws.{IsRightRecord}
-use Rattle.dist_core.proofs.Counts.{of_ok}
-use Rattle.dist_core.proofs.Rows.{row_of}
+use Rattle.dist_core.proofs.Closings.{at-own}
 
 abbrev or_else : UpRecord → Option UpRecord → UpRecord
 or_else d None = d
 or_else d (Some x) = x
-
-superseding : (id : EndId) (say : List ℕ) (b : Attempt) (y : EndId) (d : End) → (let f = supersedes id say b y d in f.reply.up) ≡ None
-superseding id say b y (ends.Closed c) = refl
-superseding id say b y d = refl
 
 module _ (n : NodeState) (r : UpRecord) where
   none : (f : Effect) → f.reply.up ≡ None → f.reply.up ≡ Some r → IsRightRecord n.setup r
@@ -34,7 +20,7 @@ module _ (n : NodeState) (r : UpRecord) where
 
   by-taken : (id : EndId) (b : Attempt) (f : Effect) → Taken n id b f → f.reply.up ≡ Some r → IsRightRecord n.setup r
   by-taken id b f (Accepts is k) e = none f (ap (λ (f : Effect). f.reply.up) k) e
-  by-taken id b f (Crosses y is g k) e = none f (ap (λ (f : Effect). f.reply.up) k ∙ superseding id _ b y (superseded_end (slice_get n.ends y.0))) e
+  by-taken id b f (Crosses y is g k) e = none f (ap (λ (f : Effect). f.reply.up) k ∙ (at-own id _ b y (superseded_end (slice_get n.ends y.0))).2) e
   by-taken id b f (Declines y is g k) e = none f (ap (λ (f : Effect). f.reply.up) k) e
   by-taken id b f (Comes_again y is k) e = none f (ap (λ (f : Effect). f.reply.up) k) e
   by-taken id b f (Asks_alive y is k) e = none f (ap (λ (f : Effect). f.reply.up) k) e
@@ -51,7 +37,7 @@ module _ (n : NodeState) (r : UpRecord) where
   by-heard id fresh d m f (Acknowledged digest b un ph mm right k) e = rises f (record_of n.setup b digest) (ap (λ (f : Effect). f.reply.up) k) right e
   by-heard id fresh d m f (Replied challenge digest b un ph mm right k) e = rises f (record_of n.setup b digest) (ap (λ (f : Effect). f.reply.up) k) right e
 
-  by-row : (v : Event) (fresh : ℕ) (f : Effect) → StepRow n v fresh f → f.reply.up ≡ Some r → IsRightRecord n.setup r
+  pub by-row : (v : Event) (fresh : ℕ) (f : Effect) → StepRow n v fresh f → f.reply.up ≡ Some r → IsRightRecord n.setup r
   by-row v fresh f (Dials p o is idle sp full cr k) e = none f (ap (λ (f : Effect). f.reply.up) k) e
   by-row v fresh f (Comes_in link is sp cr k) e = none f (ap (λ (f : Effect). f.reply.up) k) e
   by-row v fresh f (Begins id link b is at ph sp k) e = none f (ap (λ (f : Effect). f.reply.up) k) e
@@ -60,6 +46,3 @@ module _ (n : NodeState) (r : UpRecord) where
   by-row v fresh f (Ticks id s is at sp k) e = none f (ap (λ (f : Effect). f.reply.up) k) e
   by-row v fresh f (Fails id body d side x is at to sp says k) e = none f (ap (λ (f : Effect). f.reply.up) k) e
   by-row v fresh f (Hears id body d side m is at to sp says h) e = by-heard id fresh d m f h e
-
-pub right_record : (n : NodeState) (v : Event) (fresh : ℕ) (f : Effect) (r : UpRecord) → effect_of n v fresh ≡ Ok f → f.reply.up ≡ Some r → IsRightRecord n.setup r
-right_record n v fresh f r is e = by-row n r v fresh f (of_ok (StepRow n v fresh) (effect_of n v fresh) f is (row_of n v fresh)) e

@@ -1,31 +1,16 @@
 -- What follows from a step that succeeds.
-use Rattle.std.proofs.Common.{◌≡◌, ℕ, ◌+◌, ◌<◌, ◌≤◌, true, cond, List, length, Some, None, Result, Ok, Err, refl, sym, ap, ◌∙◌, subst, slice_get, arith}
-use Rattle.std.proofs.lemmas.Bool.{eq-eqb}
-use Rattle.std.specs.List.{count_by}
-use Rattle.dist_peers.specs.declared.entry.EndId.{EndId}
-use Rattle.dist_core_ends.specs.declared.why.Why.{Why}
-use Rattle.dist_core_ends.specs.declared.known.End.{End}
+use Rattle.std.proofs.Common.{◌≡◌, ℕ, ◌+◌, ◌<◌, ◌≤◌, true, cond, eqb, List, length, Option, Some, None, Result, Ok, Err, refl, sym, ap, ◌∙◌, subst, slice_get, arith}
+use Rattle.dist_core.proofs.Words.{eq-eqb, count_by, EndId, Why, End, IsThere, put_end, view_after, AreLegal, is_open, table_of, is_loss, NodeState, ends_after}
+use Rattle.dist_core.proofs.Words.{StepRow, Dials, Comes_in, Begins, Ceases, Loses, Ticks, Fails, Hears, node_after, effect_of, step, step_result, after}
+use Rattle.dist_core.proofs.Words.{get-put, get-after, table-legal, eqb-true, other_view, slice_get_within, cond_both}
+use Rattle.dist_core_laws.proofs.Words.{Effect, Event, Reply, StepError}
 use Rattle.dist_core_ends.specs.declared.known.End.TheVariants as ends
-use Rattle.dist_core_ends.specs.Change.{IsThere, put_end, view_after}
-use Rattle.dist_core_ends.specs.Ends.{AreLegal, claim_of, is_open, table_of}
-use Rattle.dist_core.specs.declared.effect.Effect.{Effect}
-use Rattle.dist_core.specs.declared.event.Event.{Event}
 use Rattle.dist_core.specs.declared.event.Event.TheVariants as event
-use Rattle.dist_core.specs.declared.reply.Reply.{Reply}
-use Rattle.dist_core.specs.declared.step_error.StepError.{StepError}
 use Rattle.dist_core_laws.specs.Laws.{HasEffect, IsOfItsEnd, closed_by, given_by}
-use Rattle.dist_core.specs.Losses.{is_loss}
-use Rattle.dist_core.specs.Node.{NodeState, ends_after}
-use Rattle.dist_core.specs.Rows.{StepRow, Dials, Comes_in, Begins, Ceases, Loses, Ticks, Fails, Hears}
-use Rattle.dist_core.specs.Runs.{node_after}
-use Rattle.dist_core.specs.Step.{effect_of, step, step_result, after}
-use Rattle.dist_core_ends.proofs.Changes.{get-put, get-after}
-use Rattle.dist_core_ends.proofs.Legal.{table-legal}
 use Rattle.dist_core.proofs.Closings.{heard-end}
-use Rattle.dist_core.proofs.Counts.{of_ok, loses}
 use Rattle.dist_core_laws.proofs.Legal.{legal_step}
 use Rattle.dist_core_laws.proofs.OpenCounts.{open_change, loss_change}
-use Rattle.dist_core.proofs.Rows.{row_of}
+use Rattle.dist_core.proofs.Rows.{loses, row-in}
 use Rattle.dist_core.proofs.Steps.{fits}
 
 -- ---- the effect
@@ -53,6 +38,18 @@ places n v fresh f legal is = let g = fits n (table_of n.ends) (table-legal n.en
 pub stands-after : (n : NodeState) (v : Event) (fresh : ℕ) (f : Effect) (i : ℕ) → AreLegal n.ends → effect_of n v fresh ≡ Ok f → slice_get (ends_after n.ends f) i ≡ view_after n.ends f.reply.end_ f.this f.other i
 stands-after n v fresh f i legal is = let p = places n v fresh f legal is in get-after n.ends f.reply.end_ f.this f.other i p.0 p.1
 
+-- what holds of each end that can stand at this place holds of the one that stands there afterwards
+pub stands-as : (n : NodeState) (v : Event) (fresh : ℕ) (f : Effect) (i : ℕ) → AreLegal n.ends → effect_of n v fresh ≡ Ok f → (P : Option End → Type 0)
+    → (f.reply.end_.0 ≡ i → P (Some f.this)) → ((x : EndId) (s : End) → f.other ≡ Some (x, s) → x.0 ≡ i → P (Some s)) → P (slice_get n.ends i) → P (slice_get (ends_after n.ends f) i)
+stands-as n v fresh f i legal is P own other old = subst P (sym (stands-after n v fresh f i legal is)) (by f.other refl)
+  where
+    at-event : P (cond (eqb f.reply.end_.0 i) (Some f.this) (slice_get n.ends i))
+    at-event = cond_both (eqb f.reply.end_.0 i) _ _ P (λ b. own (eqb-true f.reply.end_.0 i b)) (λ b. old)
+
+    by : (o : Option (EndId × End)) → f.other ≡ o → P (other_view o (λ j. cond (eqb f.reply.end_.0 j) (Some f.this) (slice_get n.ends j)) i)
+    by None o = at-event
+    by (Some y) o = let x : EndId = y.0 in cond_both (eqb x.0 i) _ _ P (λ b. other x y.1 o (eqb-true x.0 i b)) (λ b. at-event)
+
 -- ---- the end of a reply
 
 abbrev end_in : Effect → EndId
@@ -72,7 +69,7 @@ row-end n v fresh f (Fails id body e side x is at to s rd k) = subst (λ (v : Ev
 row-end n v fresh f (Hears id body e side m is at to s rd h) = subst (λ (v : Event). IsOfItsEnd n v f.reply) (sym is) (heard-end n id fresh e m f h)
 
 pub effect-end : (n : NodeState) (v : Event) (fresh : ℕ) (f : Effect) → effect_of n v fresh ≡ Ok f → IsOfItsEnd n v f.reply
-effect-end n v fresh f is = row-end n v fresh f (of_ok (StepRow n v fresh) (effect_of n v fresh) f is (row_of n v fresh))
+effect-end n v fresh f is = row-end n v fresh f (row-in n v fresh f is)
 
 pub reply-end : (n : NodeState) (v : Event) (fresh : ℕ) (r : Reply) (m : NodeState) → step n v fresh ≡ Ok (r, m) → IsOfItsEnd n v r
 reply-end n v fresh r m is = let h = has-effect n v fresh r m is in subst (λ (q : Reply). IsOfItsEnd n v q) h.reply (effect-end n v fresh h.effect h.is)
@@ -105,9 +102,8 @@ open-lost n v fresh r m loss is = absurd cc
 pub lost-closed : (n : NodeState) (x : EndId) (w : Why) (fresh : ℕ) (r : Reply) (m : NodeState) → step n (event.Lost x w) fresh ≡ Ok (r, m) → slice_get m.ends x.0 ≡ Some (ends.Closed w)
 lost-closed n x w fresh r m is =
     let h = has-effect n (event.Lost x w) fresh r m is in
-    let own : h.effect.reply.end_ ≡ x = effect-end n (event.Lost x w) fresh h.effect h.is in
-    let kept = of_ok (λ (f : Effect). (claim_of f.this ≡ None) × (f.reply.end_.0 < length n.ends)) _ h.effect h.is (loses n (event.Lost x w) fresh refl) in
-    let within : x.0 < length n.ends = subst (λ (y : EndId). y.0 < length n.ends) own kept.1 in
+    let was = (loses n x w fresh h.effect h.is).1 in
+    let within : x.0 < length n.ends = slice_get_within n.ends x.0 was.0 was.1 in
     let put : m.ends ≡ put_end n.ends x.0 (ends.Closed w) = ap (λ (k : NodeState). k.ends) h.node ∙ (loss_change n x w fresh h.effect h.is).0 in
     ap (λ (es : List End). slice_get es x.0) put
     ∙ get-put n.ends x.0 (ends.Closed w) x.0 (omega (arith, within))

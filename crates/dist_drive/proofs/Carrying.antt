@@ -1,25 +1,16 @@
 -- How a call goes on, and how it ends.
 use Rattle.std.proofs.Common.{◌≡◌, ℕ, ◌+◌, ◌≤◌, Bool, List, [], ◌∷◌, ◌++◌, length, take, drop, map, Some, None, Ok, Err, refl, sym, ap, subst, ◌∙◌, append_assoc, inl, inr, arith}
 use Rattle.std.specs.Prelude.{is_some, true, false, ◌||◌}
-use Rattle.std.proofs.lemmas.List.{append-nil, map-append, take-append-drop}
-use Rattle.dist_frames.specs.Reader.{Reader, Short, Linked, with_bytes, next_body, without_next, without_count, to_come}
-use Rattle.dist_frames.specs.History.{IsBytes}
-use Rattle.dist_peers.specs.declared.entry.EndId.{EndId}
-use Rattle.dist_core_ends.specs.declared.why.Why.{Why}
+use Rattle.dist_drive.proofs.Words.{append-nil, map-append, take-append-drop, Reader, Short, Linked, with_bytes, next_body, without_next, without_count}
+use Rattle.dist_drive.proofs.Words.{to_come, IsBytes, EndId, Why, StepError, StreamState, Hears, TurnError, Ending, Step, event_of, last_reply, DeskFacts}
+use Rattle.dist_drive.proofs.Words.{IsOther, Gives, DrawsOneAtMost, Start, Course, Finish, IsFront, frames_of, next_frame, events_of, text_of, HandsOnAll}
+use Rattle.dist_drive.proofs.Words.{WritesAll, HasCause, is_of_end, is_of_failed_read, whole_course, Does, Carries, Place, Goes, after_step, Runs, Keeps}
+use Rattle.dist_drive.proofs.Words.{TakesFrame, own_why, ending_of_refusal, ending_of_stream, HandsOn, HearsPiece}
 use Rattle.dist_core_ends.specs.declared.why.Why.TheVariants as why
 use Rattle.dist_core.specs.declared.event.Event.TheVariants as event
 use Rattle.dist_core_ends.specs.declared.phase.Still.TheVariants as still
-use Rattle.dist_core.specs.declared.step_error.StepError.{StepError}
 use Rattle.dist_core.specs.declared.step_error.StepError.TheVariants as error
-use Rattle.dist_stream.specs.Stream.{StreamState}
-use Rattle.dist_stream.specs.Turns.{Hears}
-use Rattle.dist_stream.specs.declared.turn_error.TurnError.{TurnError}
-use Rattle.dist_drive.specs.declared.outcome.Ending.{Ending}
 use Rattle.dist_drive.specs.declared.outcome.Ending.TheVariants as ending
-use Rattle.dist_drive.specs.Desks.{Step, event_of, last_reply, DeskFacts, IsOther}
-use Rattle.dist_drive.specs.Numbers.{Gives, DrawsOneAtMost}
-use Rattle.dist_drive.specs.Driven.{Start, Course, Finish, IsFront, frames_of, next_frame, events_of, text_of, HandsOnAll, WritesAll, HasCause, is_of_end, is_of_failed_read, whole_course, Does, Carries}
-use Rattle.dist_drive.specs.Running.{Place, Goes, after_step, Runs, Keeps, TakesFrame, own_why, ending_of_refusal, ending_of_stream, HandsOn, HearsPiece}
 use Rattle.dist_drive.proofs.Steps.{last_pushed}
 use Rattle.dist_drive.proofs.Texts.{IsFront-refl, IsFront-more, text_front, text_one, text_before}
 use Rattle.dist_drive.proofs.Keeping.{frames_are, next_is, next_none, keeps_next, keeps_rest, keeps_fed, keeps_noted, FrameLaws}

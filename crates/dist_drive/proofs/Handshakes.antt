@@ -1,16 +1,9 @@
 -- How a handshake ends well.
 use Rattle.std.proofs.Common.{◌≡◌, ℕ, true, List, ◌++◌, refl, sym, ap, subst, ◌∙◌}
-use Rattle.std.specs.List.{flat_map}
-use Rattle.std.specs.Int.{w16}
-use Rattle.std.proofs.lemmas.List.{append-nil}
-use Rattle.dist_frames.specs.Stream.{body_frame}
-use Rattle.dist_frames.specs.Reader.{Reader, Short, Linked, as_linked, rest_of}
+use Rattle.dist_drive.proofs.Words.{flat_map, w16, append-nil, body_frame, Reader, Short, Linked, as_linked, rest_of, DeskFacts, Gives, Start, frames_of}
+use Rattle.dist_drive.proofs.Words.{whole_course, IsOnlyGone, Does, Place, Goes}
 use Rattle.dist_core_ends.specs.declared.known.UpRecord.{UpRecord}
-use Rattle.dist_drive.specs.Desks.{DeskFacts}
-use Rattle.dist_drive.specs.Numbers.{Gives}
-use Rattle.dist_drive.specs.Driven.{Start, frames_of, whole_course, IsOnlyGone, Does}
 use Rattle.dist_drive.specs.Handshaking.{IsUpWith, ComesUp}
-use Rattle.dist_drive.specs.Running.{Place, Goes}
 use Rattle.dist_drive.proofs.Keeping.{FrameLaws, frames_are}
 use Rattle.dist_drive.proofs.Shown.{same_length}
 use Rattle.dist_drive.proofs.Carrying.{finish_at}

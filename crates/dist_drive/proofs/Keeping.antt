@@ -1,18 +1,10 @@
 -- What the reader of a call holds, and which frames of the call were handed on.
 use Rattle.std.proofs.Common.{◌≡◌, ℕ, suc, ◌+◌, Bool, true, false, cond, nat_lt, eqb, List, [], ◌∷◌, ◌++◌, length, take, Some, None, slice_get, refl, sym, ap, ◌∙◌, arith, length-append}
 use Rattle.std.specs.Prelude.{position}
-use Rattle.std.specs.Int.{w16}
-use Rattle.std.specs.List.{position_or_len}
-use Rattle.std.proofs.lemmas.Bool.{eq-eqb}
-use Rattle.std.proofs.lemmas.List.{append-nil}
+use Rattle.dist_drive.proofs.Words.{w16, position_or_len, eq-eqb, append-nil, take-append_seam, first_body, after_first, bodies, Reader, Short, Linked}
+use Rattle.dist_drive.proofs.Words.{with_bytes, next_body, without_next, as_linked, without_count, to_come, Accounts, IsBytes, Step, is_up, through, frames_of}
+use Rattle.dist_drive.proofs.Words.{next_frame, KeepsShort, KeepsLinked, Keeps, after_step}
 use Rattle.std.proofs.lemmas.List.Folds.{position_or_len_push}
-use Rattle.std.proofs.Math.Seq.{take-append_seam}
-use Rattle.dist_frames.specs.Stream.{first_body, after_first, bodies}
-use Rattle.dist_frames.specs.Reader.{Reader, Short, Linked, with_bytes, next_body, without_next, as_linked, without_count, to_come}
-use Rattle.dist_frames.specs.History.{Accounts, IsBytes}
-use Rattle.dist_drive.specs.Desks.{Step}
-use Rattle.dist_drive.specs.Driven.{is_up, through, frames_of, next_frame}
-use Rattle.dist_drive.specs.Running.{KeepsShort, KeepsLinked, Keeps, after_step}
 
 -- what is known of bytes that are fed and bodies that are moved out
 pub record FrameLaws : Type 0 where

@@ -1,17 +1,13 @@
 -- A loss at one end of a node.
 use Rattle.std.proofs.Common.{◌≡◌, ℕ, true, false, List, Option, Some, None, Result, Ok, Err, slice_get, refl, sym, ap, ◌∙◌}
-use Rattle.dist_peers.specs.declared.entry.EndId.{EndId}
-use Rattle.dist_core_ends.specs.declared.why.Why.{Why}
+use Rattle.dist_drive.proofs.Words.{EndId, Why, Reply, StepError, is_loss}
 use Rattle.dist_core_ends.specs.declared.known.End.{End}
 use Rattle.dist_core_ends.specs.declared.known.End.TheVariants as ends
 use Rattle.dist_core.specs.declared.event.Event.{Event}
 use Rattle.dist_core.specs.declared.event.Event.TheVariants as event
-use Rattle.dist_core.specs.declared.reply.Reply.{Reply}
-use Rattle.dist_core.specs.declared.step_error.StepError.{StepError}
 use Rattle.dist_core.specs.declared.step_error.StepError.TheVariants as error
 use Rattle.dist_core_ends.specs.Ends.{is_open}
 use Rattle.dist_core.specs.Clauses.{end_of}
-use Rattle.dist_core.specs.Losses.{is_loss}
 use Rattle.dist_core.specs.Node.{NodeState}
 use Rattle.dist_core.specs.Step.{step}
 use Rattle.dist_drive.specs.Memory.{HasRoom}

@@ -1,32 +1,17 @@
 -- What a call shows on its way and where it ends: what was handed on, sent and counted.
 use Rattle.std.proofs.Common.{◌≡◌, ℕ, ◌+◌, ◌-◌, ◌*◌, ◌<◌, ◌≤◌, ◌⊎◌, Bool, true, false, List, [], ◌∷◌, ◌++◌, length, take, drop, map, Option, Some, None, Result, Ok, Err, refl, sym, ap, subst, ◌∙◌, arith, append_assoc, length-append, inl, inr, ⊎_elim}
-use Rattle.std.specs.Prelude.{eqb, if◌then◌else◌}
-use Rattle.std.proofs.lemmas.Bool.{eqb-true}
-use Rattle.std.proofs.lemmas.List.{append-nil, map-append, length-map, take-append-drop}
-use Rattle.std.proofs.Math.Seq.{take-length}
+use Rattle.std.specs.Prelude.{eqb, if◌then◌else◌, ◌||◌, IsErrAnd, IfErr, OnOk, OnErr}
+use Rattle.dist_drive.proofs.Words.{eqb-true, append-nil, map-append, length-map, take-append-drop, take-length, Short, Accounts, EndId, Why, Reply, StepError}
+use Rattle.dist_drive.proofs.Words.{StreamState, Rises, Spends, Says, Hears, SaysFront, IsWriteFault, TurnError, Ending, Step, event_of, number_of, last_reply}
+use Rattle.dist_drive.proofs.Words.{DeskFacts, IsGone, Gives, DrawsAll, Start, Course, Finish, frames_of, events_of, HandsOnAll, WritesAll, HasCause}
+use Rattle.dist_drive.proofs.Words.{ReportsLoss, Marks, SetsNoMark, is_of_end, is_of_failed_read, LeavesUnread, text_of, whole_course, Does, Carries, Place}
+use Rattle.dist_drive.proofs.Words.{Runs, TakesFrame, SaysReply, after_reply, own_why, ending_of_stream, HandsOn}
 use Rattle.std.specs.Io.KnownBytes.{prepend_known, append_known}
-use Rattle.dist_frames.specs.Reader.{Short}
-use Rattle.dist_frames.specs.History.{Accounts}
-use Rattle.dist_peers.specs.declared.entry.EndId.{EndId}
-use Rattle.dist_core_ends.specs.declared.why.Why.{Why}
 use Rattle.dist_core_ends.specs.declared.why.Why.TheVariants as why
 use Rattle.dist_core.specs.declared.event.Event.TheVariants as event
-use Rattle.dist_core.specs.declared.reply.Reply.{Reply}
-use Rattle.dist_core.specs.declared.step_error.StepError.{StepError}
-use Rattle.dist_stream.specs.Stream.{StreamState}
-use Rattle.dist_stream.specs.Turns.{Rises, Spends, Says, Hears, SaysFront, IsWriteFault}
-use Rattle.dist_stream.specs.declared.turn_error.TurnError.{TurnError}
 use Rattle.dist_stream.specs.declared.turn_error.TurnError.TheVariants as fault
-use Rattle.dist_drive.specs.declared.outcome.Ending.{Ending}
 use Rattle.dist_drive.specs.declared.outcome.Ending.TheVariants as ending
-use Rattle.dist_drive.specs.Desks.{Step, event_of, number_of, last_reply, DeskFacts}
-use Rattle.dist_core.specs.Losses.{IsGone}
-use Rattle.dist_drive.specs.Numbers.{Gives, DrawsAll}
-use Rattle.dist_drive.specs.Driven.{Start, Course, Finish, frames_of, events_of, HandsOnAll, WritesAll, HasCause, ReportsLoss, Marks, SetsNoMark, is_of_end, is_of_failed_read, LeavesUnread, text_of, whole_course, Does, Carries}
-use Rattle.std.specs.Prelude.{◌≢◌, ◌||◌, IsErrAnd, IfOk, IfErr, OnOk, OnErr}
-use Rattle.dist_drive.specs.Running.{Place, Runs, TakesFrame, SaysReply, after_reply, own_why, ending_of_stream, HandsOn}
 use Rattle.dist_stream.proofs.Talks.{append_known-append, prepend_known-append, prepend_known-none, Rises-trans}
-use Rattle.dist_drive.proofs.Texts.{text_none}
 use Rattle.dist_drive.proofs.Keeping.{keeps_none}
 
 pub says_as : {end_ : EndId} {old new : StreamState} {turns left : ℕ} {result : Result Bool Ending} (r q : Reply) → r ≡ q → SaysReply end_ r old new turns left result → SaysReply end_ q old new turns left result
@@ -108,8 +93,7 @@ by_reply P limit cut shut failed (Some w) (Some fault.WriteFailed) e f h = let s
 by_reply P limit cut shut failed (Some w) None e f h = let same : ending.Shut w ≡ e = cc in subst (P (Some w) None) same (shut w)
 by_reply P limit cut shut failed None (Some fault.WriteFailed) e f h = let same : ending.Fault why.WriteFailed ≡ e = cc in subst (P None (Some fault.WriteFailed)) same failed
 by_reply P limit cut shut failed None None e f h = absurd cc
-by_reply P limit cut shut failed own (Some fault.ReadFailed) e f h = absurd f
-by_reply P limit cut shut failed own (Some fault.Ended) e f h = absurd f
+by_reply P limit cut shut failed own _ e f h = absurd f
 
 pub reply_marks : {old new : StreamState} {turns left : ℕ} (own : Option Why) (noted : Option TurnError) (e : Ending) (text : List ℕ) → SaysFront old new turns left noted text → after_reply own noted ≡ Err e → Marks e old new
 reply_marks {old = old} {new = new} {turns = turns} {left = left} own noted e text p h =
@@ -131,18 +115,6 @@ first_marks fault.Limit first p = record { ended = p.says.spends.ended; read_fai
 first_marks fault.WriteFailed first p = record { ended = p.says.spends.ended; read_failed = p.says.spends.read_failed; write_failed = inr tt }
 first_marks _ first p = absurd p.says.fault_is
 
--- the first words are not written whole only where there are some
-said_of_some : {old new : StreamState} {turns left : ℕ} (error : TurnError) (first : List ℕ) → SaysFront old new turns left (Some error) first → first ≢ []
-said_of_some error first p none =
-    let none_long : length first ≡ 0 = ap length none in
-    omega (arith, p.whole, none_long)
-
--- where the first words were not written whole nothing was read
-pub first_unread : {old new : StreamState} {turns left : ℕ} (error : TurnError) (first : List ℕ) → SaysFront old new turns left (Some error) first → LeavesUnread first old new (ending_of_stream error)
-first_unread fault.Limit first p = record { unread = p.says.unread; ended = p.says.spends.ended; read_failed = p.says.spends.read_failed; ending_is = said_of_some fault.Limit first p }
-first_unread fault.WriteFailed first p = record { unread = p.says.unread; ended = p.says.spends.ended; read_failed = p.says.spends.read_failed; ending_is = said_of_some fault.WriteFailed first p }
-first_unread _ first p = absurd p.says.fault_is
-
 -- where the desk reports that the end is gone nothing was read
 pub gone_unread : (first : List ℕ) (start mid new : StreamState) (w : Why) (e : Ending) → ends_as {X = Bool} e ≡ ends_as (ending.Gone w) → new ≡ mid → (mid.unread ≡ start.unread) × (mid.ended ≡ start.ended) × (mid.read_failed ≡ start.read_failed) → LeavesUnread first start new e
 gone_unread first start mid new w e is same kept =
@@ -159,9 +131,6 @@ own_is end_ (Some x) w e =
           λ i. Some (record { 0 = number i }, why i)
       | false ↦ λ same is. absurd cc
     ] refl e
-
-pub failed : {old new : StreamState} {turns left : ℕ} (text : List ℕ) → SaysFront old new turns left (Some fault.WriteFailed) text → new.write_failed ≡ true
-failed text p = p.says.spends.write_failed
 
 module _ {D W : Type 0} (facts : DeskFacts D) (start : Start D W) (course : Course W) (finish : Finish D W) where
   -- what the ending shows
@@ -182,9 +151,9 @@ module _ {D W : Type 0} (facts : DeskFacts D) (start : Start D W) (course : Cour
   shows reply {old = old} {turns = turns} Handed before noted e p h =
       by_reply (λ o n x. own_why start.end_ reply.closed ≡ o → (q : SaysFront old finish.stream turns course.left n reply.say) → ShowsEnd reply (take q.count reply.say) Handed before x)
       (λ o is q. record { all = tt; whole = tt; cause = λ newest. q.says.spends.cause })
-      (λ w is q. record { all = tt; whole = inl (failed reply.say q); cause = λ newest. (reply, newest, own_is start.end_ reply.closed w is) })
+      (λ w is q. record { all = tt; whole = inl q.says.spends.write_failed; cause = λ newest. (reply, newest, own_is start.end_ reply.closed w is) })
       (λ w is q. record { all = tt; whole = inr (ap (λ n. before ++ take n reply.say) q.whole ∙ ap (λ l. before ++ l) (take-length reply.say)); cause = λ newest. (reply, newest, own_is start.end_ reply.closed w is) })
-      (λ is q. record { all = tt; whole = tt; cause = λ newest. failed reply.say q })
+      (λ is q. record { all = tt; whole = tt; cause = λ newest. q.says.spends.write_failed })
       (own_why start.end_ reply.closed) noted e p.says.fault_is h refl p
 
   -- after a read that was refused
@@ -197,7 +166,7 @@ module _ {D W : Type 0} (facts : DeskFacts D) (start : Start D W) (course : Cour
   -- where the first words were not written whole
   pub first_shows : {turns : ℕ} {All Said : Type 0} (error : TurnError) → SaysFront start.stream finish.stream turns course.left (Some error) start.first → Shows All Said (ending_of_stream error)
   first_shows fault.Limit p = record { all = tt; whole = tt; cause = p.says.spends.cause }
-  first_shows fault.WriteFailed p = record { all = tt; whole = tt; cause = failed start.first p }
+  first_shows fault.WriteFailed p = record { all = tt; whole = tt; cause = p.says.spends.write_failed }
   first_shows _ p = absurd p.says.fault_is
 
 pub endings_are : {X : Type 0} (e f : Ending) → ends_as {X = X} e ≡ ends_as f → f ≡ e
@@ -280,7 +249,7 @@ first_cut {D = D} {W = W} facts gives start stream left error p =
       all_events = shown.all;
       draws_are = inl refl;
       cause = shown.cause;
-      text = (drop p.count start.first, text_none start.first ∙ sym (take-append-drop p.count start.first));
+      text = (drop p.count start.first, append-nil start.first ∙ sym (take-append-drop p.count start.first));
       all_text = shown.whole;
       in_turn = λ i h. absurd (let none : i < 0 = h in omega (arith, none));
       marks = first_marks error start.first p;
@@ -296,7 +265,7 @@ begins_so none facts gives start stream left p =
       input = [];
       frames = [];
       steps = [];
-      does = subst (λ (l : List ℕ). Does facts gives start (record { input = []; steps = []; output = l; left = left; draws = start.draws }) stream start.desk) (sym (text_none start.first)) (does_first facts gives start stream left start.first says);
+      does = subst (λ (l : List ℕ). Does facts gives start (record { input = []; steps = []; output = l; left = left; draws = start.draws }) stream start.desk) (sym (append-nil start.first)) (does_first facts gives start stream left start.first says);
       events = refl;
       marks = record { ended = says.spends.ended; read_failed = says.spends.read_failed; write_failed = says.spends.write_failed };
       keeps = keeps_none none;
@@ -312,14 +281,6 @@ pub notes : {D : Type 0} (facts : DeskFacts D) (end_ : EndId) (before after : D)
 notes facts end_ before after w (Ok x) (reply, list) same why gone = ((event.Lost end_ w, 0, reply) ∷ [], list, inl (reply, refl))
 notes facts end_ before after w (Err e) made same why gone = ([], ap facts.list same ∙ sym (append-nil (facts.list before)), inr (refl, (e, why, gone)))
 
-pub if_ok_maps : {X E : Type 0} (P Q : X → Type 0) (r : Result X E) → IfOk r P → ((x : X) → P x → Q x) → IfOk r Q
-if_ok_maps P Q (Ok x) p f = f x p
-if_ok_maps P Q (Err e) p f = tt
-
 pub ok_so : {X E : Type 0} {P : Type 0} (r : Result X E) → P → OnOk r P
 ok_so (Ok x) p = p
 ok_so (Err e) p = tt
-
-pub err_maps : {X E : Type 0} (P Q : E → Type 0) (r : Result X E) → IfErr r P → ((e : E) → P e → Q e) → IfErr r Q
-err_maps P Q (Ok x) p f = tt
-err_maps P Q (Err e) p f = f e p

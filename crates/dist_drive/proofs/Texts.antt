@@ -1,10 +1,7 @@
 -- Texts and lists of steps that grow by one step, and what a stream shows then.
 use Rattle.std.proofs.Common.{◌≡◌, ℕ, ◌+◌, ◌<◌, ◌≤◌, List, [], ◌∷◌, ◌++◌, length, take, drop, refl, sym, ap, subst, ◌∙◌, arith, append_assoc, length-append}
-use Rattle.std.proofs.lemmas.List.{append-nil, take-append-le, take-append-drop}
-use Rattle.std.specs.List.{flat_map}
+use Rattle.dist_drive.proofs.Words.{append-nil, take-append-le, take-append-drop, flat_map, Step, IsFront, text_of}
 use Rattle.std.proofs.lemmas.List.Concat.{flat_map-append}
-use Rattle.dist_drive.specs.Desks.{Step}
-use Rattle.dist_drive.specs.Driven.{IsFront, text_of}
 
 -- ---- texts
 
@@ -19,9 +16,6 @@ IsFront-trans xs ys zs p q = (p.0 ++ q.0, q.1 ∙ ap (λ l. l ++ q.0) p.1 ∙ ap
 
 pub IsFront-more : {X : Type 0} (xs ys : List X) → IsFront xs (xs ++ ys)
 IsFront-more xs ys = (ys, refl)
-
-pub text_none : (first : List ℕ) → text_of first [] ≡ first
-text_none first = append-nil first
 
 pub text_more : (first : List ℕ) (xs ys : List Step) → text_of first (xs ++ ys) ≡ text_of first xs ++ flat_map says ys
 text_more first xs ys = ap (λ l. first ++ l) (flat_map-append says xs ys) ∙ sym (append_assoc first (flat_map says xs) (flat_map says ys))

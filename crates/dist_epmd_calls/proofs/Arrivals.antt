@@ -1,15 +1,8 @@
 -- One frame, put together from its length and its body.
-use Rattle.std.proofs.Common.{◌≡◌, ℕ, ◌^◌, ◌<◌, ◌≤◌, List, ◌++◌, length, get_or, take, Some, None, Ok, Err, sym, ap, ◌∙◌, arith, inl, inr}
-use Rattle.std.proofs.lemmas.List.{length-take-le}
+use Rattle.std.proofs.Common.{◌≡◌, ℕ, ◌^◌, ◌<◌, ◌≤◌, List, ◌++◌, length, get_or, take, Some, None, Ok, Err, sym, ap, ◌∙◌, arith, inr}
+use Rattle.dist_epmd_calls.proofs.Words.{length-take-le, w16, to_be_bytes, from_be_bytes, body_frame, TurnError, StreamState, HearsFront, Hears-trans, HearsLen}
 use Rattle.std.proofs.lemmas.Nat.{be_bytes_2}
-use Rattle.std.specs.Int.{w16, to_be_bytes, from_be_bytes}
-use Rattle.dist_frames.specs.Stream.{body_frame}
-use Rattle.dist_stream.specs.declared.turn_error.TurnError.{TurnError}
-use Rattle.dist_stream.specs.Stream.{StreamState}
-use Rattle.dist_stream.specs.Turns.{HearsFront}
-use Rattle.dist_stream.proofs.Talks.{Hears-trans}
 use Rattle.dist_epmd_calls.specs.declared.bodies.Arrived.TheVariants as arrived
-use Rattle.dist_epmd_calls.specs.Steps.{HearsLen}
 use Rattle.dist_epmd_calls.specs.Bodies.{HearsFrame}
 use Rattle.dist_epmd_calls.proofs.Registering.{all_heard}
 
@@ -21,15 +14,6 @@ len_cut e header two p =
 
 pub len_whole : {old new : StreamState} {turns left : ℕ} (header : List ℕ) (len : ℕ) → length header ≡ 2 → ((i : ℕ) → get_or header i 0 < 256) → len ≡ from_be_bytes w16 header → len < 2 ^ 16 → HearsFront old new turns left None header → HearsLen old new turns left (Ok len)
 len_whole header len two bytes is fits p = record { heard = header; hears = all_heard header p; whole = (sym (be_bytes_2 header len two bytes is), fits); cut = tt }
-
-pub frame_none : {old new : StreamState} {turns left : ℕ} (most : ℕ) (e : TurnError) → HearsLen old new turns left (Err e) → HearsFrame old new turns left most (arrived.Stopped e)
-frame_none most e p = record { heard = p.heard; hears = p.hears; means = inl p.cut }
-
-pub frame_long : {old new : StreamState} {turns left : ℕ} (most len : ℕ) → most < len → HearsLen old new turns left (Ok len) → HearsFrame old new turns left most (arrived.Long len)
-frame_long most len above p = record { heard = p.heard; hears = p.hears; means = (p.whole.0, above) }
-
-pub frame_lacks : {old new : StreamState} {turns left : ℕ} (most len : ℕ) → HearsLen old new turns left (Ok len) → HearsFrame old new turns left most arrived.NoMemory
-frame_lacks most len p = record { heard = p.heard; hears = p.hears; means = (len, p.whole.1, p.whole.0) }
 
 pub frame_cut : {old mid new : StreamState} {turns between left : ℕ} (most len : ℕ) (e : TurnError) (room : List ℕ) → length room ≡ len → HearsLen old mid turns between (Ok len) → HearsFront mid new between left (Some e) room → HearsFrame old new turns left most (arrived.Stopped e)
 frame_cut most len e room all p q =

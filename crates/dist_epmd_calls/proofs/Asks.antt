@@ -1,35 +1,18 @@
 -- One question, put together from what was written and what was read.
 use Rattle.std.proofs.Common.{◌≡◌, ℕ, ◌≤◌, false, ltb, List, [], ◌++◌, length, take, drop, Option, Some, None, Result, Ok, Err, refl, sym, ap, subst, ◌∙◌, inl, inr, take_all, le_refl}
-use Rattle.std.proofs.lemmas.List.{append-nil, take-append-drop}
+use Rattle.dist_epmd_calls.proofs.Words.{append-nil, take-append-drop, w16, body_frame, EpmdError, Request, request_text, written_request, read_answer}
+use Rattle.dist_epmd_calls.proofs.Words.{TurnError, StreamState, Says, Hears, SaysFront, IsWriteFault, prepend_known-none, append_known-none, Spends-none}
+use Rattle.dist_epmd_calls.proofs.Words.{Spends-trans, LookupError, lookup_error, Talks, ReportsBy, Settles, Asks, AsksFor, IfItFits, question_of, IsFrameOf}
+use Rattle.dist_epmd_calls.proofs.Words.{HearsSo, cond-false}
 use Rattle.std.specs.Prelude.{IsOk, IsErrAnd}
-use Rattle.std.specs.Int.{w16}
-use Rattle.dist_frames.specs.Stream.{body_frame}
-use Rattle.dist_epmd.specs.declared.epmd_error.EpmdError.{EpmdError}
 use Rattle.dist_epmd.specs.declared.epmd_error.EpmdError.TheVariants as epmd
-use Rattle.dist_epmd.specs.declared.message.Request.{Request}
-use Rattle.dist_epmd.specs.Layout.{request_text, written_request}
-use Rattle.dist_epmd.specs.Reading.{read_answer}
-use Rattle.dist_stream.specs.declared.turn_error.TurnError.{TurnError}
 use Rattle.dist_stream.specs.declared.turn_error.TurnError.TheVariants as fault
-use Rattle.dist_stream.specs.Stream.{StreamState}
-use Rattle.dist_stream.specs.Turns.{Says, Hears, SaysFront, IsWriteFault}
-use Rattle.dist_stream.proofs.Talks.{prepend_known-none, append_known-none, Spends-none, Spends-trans}
-use Rattle.dist_epmd_calls.specs.declared.lookup_error.LookupError.{LookupError}
 use Rattle.dist_epmd_calls.specs.declared.lookup_error.LookupError.TheVariants as error
-use Rattle.dist_epmd_calls.specs.Refusals.{lookup_error}
-use Rattle.dist_epmd_calls.specs.Asking.{Talks, ReportsBy, Settles, Asks, AsksFor, IfItFits, question_of}
-use Rattle.dist_epmd_calls.specs.Steps.{IsFrameOf, HearsSo}
-use Rattle.std.proofs.lemmas.Bool.{cond-false}
 
 -- what an exit by `?` returns
-pub reported : {X : Type 0} {r : Result X LookupError} {e : LookupError} → IsErrAnd r (λ y. y ≡ e) → r ≡ Err e
+pub reported : {X E : Type 0} {r : Result X E} {e : E} → IsErrAnd r (λ y. y ≡ e) → r ≡ Err e
 reported {r = Ok x} h = absurd h
 reported {r = Err y} h = ap Err h
-
--- the same for the faults of a stream
-pub reported_fault : {X : Type 0} {r : Result X TurnError} {e : TurnError} → IsErrAnd r (λ y. y ≡ e) → r ≡ Err e
-reported_fault {r = Ok x} h = absurd h
-reported_fault {r = Err y} h = ap Err h
 
 -- ---- what was written
 

@@ -1,3 +1,4 @@
+pub mod Words
 pub mod Asks
 pub mod Registering
 pub mod Arrivals

@@ -1,20 +1,11 @@
 -- A registration, put together from what was written and what was read.
 use Rattle.std.proofs.Common.{◌≡◌, ℕ, suc, ◌+◌, ◌-◌, ◌<◌, ◌≤◌, List, [], ◌∷◌, ◌++◌, length, get_or, take, drop, Some, None, Result, Ok, Err, refl, sym, ap, subst, ◌∙◌, arith, length-append, length-drop, inl, inr}
-use Rattle.std.proofs.lemmas.List.{take_at, length-take, length-take-le}
-use Rattle.dist_names.specs.declared.creation.Creation.{Creation}
-use Rattle.dist_epmd.specs.declared.epmd_error.EpmdError.{EpmdError}
+use Rattle.dist_epmd_calls.proofs.Words.{take_at, length-take, length-take-le, Creation, EpmdError, read_answer, TurnError, StreamState, Hears, SaysFront}
+use Rattle.dist_epmd_calls.proofs.Words.{HearsFront, IsWriteFault, IsReadFault, Hears-trans, LookupError, lookup_error, IfItFits, Settles, Registers}
+use Rattle.dist_epmd_calls.proofs.Words.{ReportsWhole, answer_len, rest_len, creation_meant, IsFrameOf, HearsAnswer}
 use Rattle.dist_epmd.specs.declared.message.Asked.TheVariants as asked
-use Rattle.dist_epmd.specs.Reading.{read_answer}
-use Rattle.dist_stream.specs.declared.turn_error.TurnError.{TurnError}
 use Rattle.dist_stream.specs.declared.turn_error.TurnError.TheVariants as fault
-use Rattle.dist_stream.specs.Stream.{StreamState}
-use Rattle.dist_stream.specs.Turns.{Hears, SaysFront, HearsFront, IsWriteFault, IsReadFault}
-use Rattle.dist_stream.proofs.Talks.{Hears-trans}
-use Rattle.dist_epmd_calls.specs.declared.lookup_error.LookupError.{LookupError}
 use Rattle.dist_epmd_calls.specs.declared.lookup_error.LookupError.TheVariants as error
-use Rattle.dist_epmd_calls.specs.Refusals.{lookup_error}
-use Rattle.dist_epmd_calls.specs.Asking.{IfItFits, Settles, Registers, ReportsWhole, answer_len, rest_len, creation_meant}
-use Rattle.dist_epmd_calls.specs.Steps.{IsFrameOf, HearsAnswer}
 use Rattle.dist_epmd_calls.proofs.Asks.{framed, no_frame, all_said, whole_front, nothing_said, said_in_part, said_and_heard}
 use borrow.Rule.Slice.PartMut.{put_mid, post_of}
 

@@ -1,24 +1,12 @@
 -- One request served, put together from what was read and what was written.
 use Rattle.std.proofs.Common.{◌≡◌, ℕ, ◌<◌, List, [], length, take, drop, Option, Some, None, Result, Ok, Err, refl, sym, ap, subst, ◌∙◌, arith, inl, inr, length-drop}
-use Rattle.std.proofs.lemmas.List.{take-append-drop}
+use Rattle.dist_epmd_calls.proofs.Words.{take-append-drop, EpmdError, Request, Answer, written_answer, is_want, TurnError, StreamState, Spends, SaysFront}
+use Rattle.dist_epmd_calls.proofs.Words.{append_known-none, Spends-trans, Says-none, LookupError, Served, lookup_error, whole_refusal, HearsSo, SaysSo}
 use Rattle.std.specs.Prelude.{◌≢◌, IsErr}
 use Rattle.std.specs.Io.KnownBytes.{prepend_known, append_known}
-use Rattle.dist_epmd.specs.declared.epmd_error.EpmdError.{EpmdError}
 use Rattle.dist_epmd.specs.declared.epmd_error.EpmdError.TheVariants as epmd
-use Rattle.dist_epmd.specs.declared.message.Request.{Request}
-use Rattle.dist_epmd.specs.declared.message.Answer.{Answer}
-use Rattle.dist_epmd.specs.Layout.{written_answer}
 use Rattle.dist_names.specs.Answer.{RefusedBut}
-use Rattle.dist_epmd.specs.Answering.{is_want}
-use Rattle.dist_stream.specs.declared.turn_error.TurnError.{TurnError}
-use Rattle.dist_stream.specs.Stream.{StreamState}
-use Rattle.dist_stream.specs.Turns.{Spends, SaysFront}
-use Rattle.dist_stream.proofs.Talks.{append_known-none, Spends-trans, Says-none}
-use Rattle.dist_epmd_calls.specs.declared.lookup_error.LookupError.{LookupError}
-use Rattle.dist_epmd_calls.specs.declared.serve.Served.{Served}
-use Rattle.dist_epmd_calls.specs.Refusals.{lookup_error, whole_refusal}
 use Rattle.dist_epmd_calls.specs.Serving.{BringsRequest, Came, IsSaid, Replies, Serves}
-use Rattle.dist_epmd_calls.specs.Steps.{HearsSo, SaysSo}
 use Rattle.dist_epmd_calls.proofs.Asks.{no_refusal}
 
 is_refused : {X : Type 0} (r : Result X EpmdError) (why : EpmdError) → r ≡ Err why → IsErr r

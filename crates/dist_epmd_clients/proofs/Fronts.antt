@@ -1,12 +1,8 @@
 -- The front of a body: what a spelling of a request has behind it changes nothing.
-use Rattle.std.proofs.Common.{◌≡◌, ℕ, ◌-◌, Bool, true, false, cond, eqb, List, [], ◌∷◌, ◌++◌, length, take, None, Ok, refl, sym, ap, ◌∙◌, arith, length-append}
+use Rattle.std.proofs.Common.{◌≡◌, ℕ, ◌-◌, eqb, List, [], ◌∷◌, ◌++◌, length, take, None, Ok, refl, sym, ap, ◌∙◌, arith, length-append}
 use Rattle.std.specs.Prelude.{◌≢◌}
-use Rattle.std.proofs.lemmas.Bool.{eqb-true}
-use Rattle.std.proofs.lemmas.List.{take_at, append-nil}
+use Rattle.dist_epmd_clients.proofs.Words.{cond-false, ne_eqb, take_at, append-nil, info_at, read_request, NodeInfo, Request}
 use Rattle.dist_epmd.specs.Layout.{InfoFits, RequestFits, TextsFit, SpellsRequest, request_text}
-use Rattle.dist_epmd.specs.Reading.{info_at, read_request}
-use Rattle.dist_epmd.specs.declared.message.NodeInfo.{NodeInfo}
-use Rattle.dist_epmd.specs.declared.message.Request.{Request}
 use Rattle.dist_epmd.specs.declared.message.Request.TheVariants as request
 use Rattle.dist_epmd.proofs.FieldLaws.{info_field}
 use Rattle.dist_epmd.proofs.Messages.{request_again}
@@ -46,12 +42,8 @@ pub names : (more : List ℕ) → read_request (front (request_text request.Name
 unfolding front
 names more = request_again request.Names (request_text request.Names) tt refl
 
-passed : {A : Type 0} (b : Bool) (x y : A) → (b ≡ true → ⊥) → cond b x y ≡ y
-passed true x y h = absurd (h refl)
-passed false x y h = refl
-
 pub others : (tag : ℕ) (rest : List ℕ) → tag ≢ 0x78 → tag ≢ 0x6e → front (tag ∷ rest) ≡ tag ∷ rest
 unfolding front
 others tag rest x n =
-    passed (eqb tag 0x78) (up_to (tag ∷ rest) (info_at rest)) _ (λ e. x (eqb-true tag 0x78 e))
-    ∙ passed (eqb tag 0x6e) (take 1 (tag ∷ rest)) (tag ∷ rest) (λ e. n (eqb-true tag 0x6e e))
+    cond-false (eqb tag 0x78) (up_to (tag ∷ rest) (info_at rest)) _ (ne_eqb tag 0x78 x)
+    ∙ cond-false (eqb tag 0x6e) (take 1 (tag ∷ rest)) (tag ∷ rest) (ne_eqb tag 0x6e n)

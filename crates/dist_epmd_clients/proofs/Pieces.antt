@@ -1,20 +1,12 @@
 -- In whatever pieces a frame comes, the last one makes the turn of the whole.
 use Rattle.std.proofs.Common.{◌≡◌, ℕ, ◌<◌, ◌≤◌, Bool, List, [], ◌∷◌, ◌++◌, length, Some, refl, sym, ap, ◌∙◌, append_assoc, arith}
 use Rattle.std.specs.Prelude.{◌≢◌}
-use Rattle.std.specs.Int.{w16}
-use Rattle.std.specs.List.{AllByRecursion, concat}
-use Rattle.std.proofs.lemmas.List.{append-nil}
-use Rattle.dist_frames.specs.Stream.{body_frame}
+use Rattle.dist_epmd_clients.proofs.Words.{w16, AllByRecursion, concat, append-nil, body_frame, served_as, Client, Asking, Inside, Asks, Nothing, new_client}
 use Rattle.dist_epmd.specs.Registrations.{Registrations}
-use Rattle.dist_epmd_calls.specs.Serving.{served_as}
 use Rattle.dist_epmd_calls.specs.declared.serve.Served.{Served}
 use Rattle.dist_epmd_calls.specs.declared.serve.Served.TheVariants as served
-use Rattle.dist_epmd_clients.specs.declared.client.Client.{Client}
-use Rattle.dist_epmd_clients.specs.declared.client.Talk.TheVariants.{Asking}
 use Rattle.dist_epmd_clients.specs.declared.question.Question.{Question}
-use Rattle.dist_epmd_clients.specs.declared.question.Question.TheVariants.{Inside, Asks, Nothing}
 use Rattle.dist_epmd_clients.specs.Asking.{question}
-use Rattle.dist_epmd_clients.specs.Clients.{new_client}
 use Rattle.dist_epmd_clients.specs.Replying.{after_piece, after_pieces, answer_for, name_in, registrations_after, outcome, replies, text_of, with_talk}
 use Rattle.dist_epmd_clients.proofs.Frames.{front_waits}
 

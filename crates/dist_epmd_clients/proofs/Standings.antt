@@ -1,46 +1,18 @@
 -- Registrations stand exactly while their clients are here.
 use Rattle.std.proofs.Common.{◌≡◌, ℕ, zero, suc, Bool, true, false, not, ◌||◌, cond, List, [], ◌∷◌, Option, Some, None, is_some, refl, sym, ap, subst, ◌∙◌, ◌<◌, arith}
 use Rattle.std.specs.Prelude.{◌≤◌, filter, find, insert, ◌==◌, nat_lt, IsSome, option_map}
-use Rattle.std.specs.List.{list_any, position_or_len}
-use Rattle.std.specs.Ordering.{nat_cmp}
+use Rattle.dist_epmd_clients.proofs.Words.{list_any, position_or_len, nat_cmp, BTreeMap, get, Updates, and_parts, eq-eqb, eqb-true, not-false, not-true}
+use Rattle.dist_epmd_clients.proofs.Words.{or_parts, NodeInfo, Request, served_as, Talk, Asking, Registered, Keeps, Client}
 use Rattle.std.specs.Cmp.{unsigned_tied}
-use Rattle.std.specs.BTreeMap.{BTreeMap, get, is_at, Updates}
-use Rattle.std.proofs.lemmas.Bool.{and_parts, eqb-true}
-use Rattle.std.proofs.lemmas.Cmp.{nat_cmp_total, eq_by_cmp_equiv}
-use Rattle.dist_epmd.specs.declared.message.NodeInfo.{NodeInfo}
 use Rattle.dist_epmd.specs.declared.row.Row.{Row}
 use Rattle.dist_epmd.specs.Registrations.{Registrations, is_of, is_behind, after_closed, is_accepted, with_registration, registered_name, creation_answer, refusal_answer, short_creation}
-use Rattle.dist_epmd.specs.declared.message.Request.{Request}
 use Rattle.dist_epmd.specs.declared.message.Request.TheVariants as request
-use Rattle.dist_epmd.specs.declared.message.Answer.{Answer}
 use Rattle.dist_epmd.specs.declared.message.Answer.TheVariants as answer
-use Rattle.dist_epmd_calls.specs.Mapping.{Allows}
-use Rattle.dist_epmd_calls.specs.Serving.{served_as}
 use Rattle.dist_epmd_calls.specs.declared.serve.Served.TheVariants as served
-use Rattle.dist_epmd_clients.specs.declared.client.Talk.{Talk}
-use Rattle.dist_epmd_clients.specs.declared.client.Talk.TheVariants.{Asking, Registered}
 use Rattle.dist_epmd_clients.specs.Replying.{answer_for, registrations_after, name_in, with_talk}
-use Rattle.dist_epmd_clients.specs.Clients.{Keeps}
-use Rattle.dist_epmd_clients.specs.declared.client.Client.{Client}
 use Rattle.dist_epmd_clients.specs.Standing.{Stand, NumbersBelow, is_registered, is_registered_talk, talk_name, client_name}
 
--- ---- numbers of connections
-
-at_is : (conn q : ℕ) → is_at (nat_cmp conn) q ≡ (conn == q)
-at_is conn q = unsigned_tied conn q
-
-turned : (a b : ℕ) → (a == b) ≡ (b == a)
-turned a b = sym (unsigned_tied a b) ∙ (eq_by_cmp_equiv nat_cmp_total).symm a b ∙ unsigned_tied b a
-
 -- ---- registrations of a connection
-
-either_false : (a b : Bool) → (a || b) ≡ false → (a ≡ false) × (b ≡ false)
-either_false true b e = absurd cc
-either_false false b e = (refl, e)
-
-not_true : (b : Bool) → not b ≡ true → b ≡ false
-not_true true e = absurd cc
-not_true false e = refl
 
 find_other : (p : Row → Bool) (rows : List Row) (i : ℕ) (y : Row) → p y ≡ false → find p (insert rows i y) ≡ find p rows
 find_other p rows zero y other = ap (λ (b : Bool). cond b (Some y) (find p rows)) other
@@ -51,7 +23,7 @@ find_new : (p : Row → Bool) (rows : List Row) (i : ℕ) (y : Row) → list_any
 find_new p rows zero y none here = ap (λ (b : Bool). cond b (Some y) (find p rows)) here
 find_new p [] (suc i) y none here = ap (λ (b : Bool). cond b (Some y) None) here
 find_new p (x ∷ xs) (suc i) y none here =
-    let n = either_false (p x) (list_any p xs) none in
+    let n = or_parts (p x) (list_any p xs) none in
     ap (λ (b : Bool). cond b (Some x) (find p (insert xs i y))) n.0 ∙ find_new p xs i y n.1 here
 
 -- another registration, of a connection that had none
@@ -83,17 +55,13 @@ find_kept p t (x ∷ xs) other =
       | false ↦ λ e. find_kept p t xs other ∙ sym (ap (λ (b : Bool). cond b (Some x) (find p xs)) (other x e))
     ] refl
 
-not_false : (b : Bool) → not b ≡ false → b ≡ true
-not_false true e = refl
-not_false false e = absurd cc
-
 -- those of other connections
 name_closed : (conn q : ℕ) (registrations : Registrations) → registered_name q (after_closed conn registrations) ≡ cond (conn == q) None (registered_name q registrations)
 name_closed conn q registrations = elim (conn == q) as (λ v. (conn == q) ≡ v → registered_name q (after_closed conn registrations) ≡ cond v None (registered_name q registrations)) [
   | true ↦ λ e. subst (λ n. registered_name n (after_closed conn registrations) ≡ None) (eqb-true conn q e)
       (ap (λ (o : Option Row). option_map (λ (r : Row). r.info.name) o) (find_dropped (is_of conn) registrations.rows))
   | false ↦ λ e. ap (λ (o : Option Row). option_map (λ (r : Row). r.info.name) o)
-      (find_kept (is_of q) (λ row. not (is_of conn row)) registrations.rows (λ row d. ap (λ n. n == q) (eqb-true row.conn conn (not_false (is_of conn row) d)) ∙ e))
+      (find_kept (is_of q) (λ row. not (is_of conn row)) registrations.rows (λ row d. ap (λ n. n == q) (eqb-true row.conn conn (not-false (is_of conn row) d)) ∙ e))
 ] refl
 
 -- a connection whose registration, or lack of one, is this
@@ -157,7 +125,7 @@ module _ {S : Type 0} where
       rows q
       ∙ ap (λ (b : Option (List ℕ)). cond (conn == q) (client_name w) b) (stand q)
       ∙ sym (chosen (conn == q) w (get nat_cmp m q))
-      ∙ ap (λ b. client_name (cond b w (get nat_cmp m q))) (sym (at_is conn q))
+      ∙ ap (λ b. client_name (cond b w (get nat_cmp m q))) (sym (unsigned_tied conn q))
       ∙ ap (λ (o : Option (Client S)). client_name o) (sym (u.0 q))
 
   -- a connection is over
@@ -176,62 +144,35 @@ filter_insert p rows zero y denied = ap (λ b. cond b (y ∷ filter p rows) (fil
 filter_insert p [] (suc i) y denied = ap (λ b. cond b (y ∷ []) []) denied
 filter_insert p (x ∷ xs) (suc i) y denied = ap (λ (l : List Row). cond (p x) (x ∷ l) l) (filter_insert p xs i y denied)
 
-same_number : (n : ℕ) → (n == n) ≡ true
-same_number n = sym (unsigned_tied n n) ∙ (eq_by_cmp_equiv nat_cmp_total).refl n
-
 -- what was registered on a connection goes with it again
 pub rows_back : (conn : ℕ) (r : Request) (registrations : Registrations) → list_any (is_of conn) registrations.rows ≡ false → (after_closed conn (registrations_after conn r registrations)).rows ≡ registrations.rows
-rows_back conn (request.PortPlease name) registrations none = kept conn registrations.rows none
-rows_back conn request.Names registrations none = kept conn registrations.rows none
 rows_back conn (request.Alive info) registrations none = elim (is_accepted conn info registrations) as (λ v. (after_closed conn (cond v (with_registration conn info registrations) registrations)).rows ≡ registrations.rows) [
-  | true ↦ filter_insert (λ row. not (is_of conn row)) registrations.rows (position_or_len (is_behind info.name) registrations.rows) (record { conn = conn; info = info; creation = registrations.next }) (ap not (same_number conn)) ∙ kept conn registrations.rows none
+  | true ↦ filter_insert (λ row. not (is_of conn row)) registrations.rows (position_or_len (is_behind info.name) registrations.rows) (record { conn = conn; info = info; creation = registrations.next }) (ap not (eq-eqb conn conn refl)) ∙ kept conn registrations.rows none
   | false ↦ kept conn registrations.rows none
 ]
-
-pub allowed_after : (conn : ℕ) (r : Request) (a : Answer) (registrations next : Registrations) → Allows registrations conn r a next → next ≡ registrations_after conn r registrations
-allowed_after conn (request.Alive info) a registrations next h = h.1
-allowed_after conn (request.PortPlease name) a registrations next h = h.1
-allowed_after conn request.Names a registrations next h = h.1
-
-pub allowed_answer : (conn : ℕ) (r : Request) (a : Answer) (registrations next : Registrations) → Allows registrations conn r a next → a ≡ answer_for conn r registrations
-allowed_answer conn (request.Alive info) a registrations next h = h.0
-allowed_answer conn (request.PortPlease name) a registrations next h = h.0
-allowed_answer conn request.Names a registrations next h = h.0
+rows_back conn _ registrations none = kept conn registrations.rows none
 
 port_same : (conn : ℕ) (r : Request) (registrations : Registrations) → (registrations_after conn r registrations).port ≡ registrations.port
-port_same conn (request.PortPlease name) registrations = refl
-port_same conn request.Names registrations = refl
-port_same conn (request.Alive info) registrations = elim (is_accepted conn info registrations) as (λ v. (cond v (with_registration conn info registrations) registrations).port ≡ registrations.port) [
-  | true ↦ refl
-  | false ↦ refl
-]
+port_same conn (request.Alive info) registrations = elim (is_accepted conn info registrations) as (λ v. (cond v (with_registration conn info registrations) registrations).port ≡ registrations.port) [ true ↦ refl | false ↦ refl ]
+port_same conn _ registrations = refl
 
 next_rises : (conn : ℕ) (r : Request) (registrations : Registrations) → registrations.next ≤ (registrations_after conn r registrations).next
-next_rises conn (request.PortPlease name) registrations = omega arith
-next_rises conn request.Names registrations = omega arith
-next_rises conn (request.Alive info) registrations = elim (is_accepted conn info registrations) as (λ v. registrations.next ≤ (cond v (with_registration conn info registrations) registrations).next) [
-  | true ↦ omega arith
-  | false ↦ omega arith
-]
+next_rises conn (request.Alive info) registrations = elim (is_accepted conn info registrations) as (λ v. registrations.next ≤ (cond v (with_registration conn info registrations) registrations).next) [ true ↦ omega arith | false ↦ omega arith ]
+next_rises conn _ registrations = omega arith
 
 -- what was registered on a connection and is dropped again leaves the registrations as they were
 pub keeps_back : (conn : ℕ) (r : Request) (registrations : Registrations) → list_any (is_of conn) registrations.rows ≡ false → Keeps registrations (after_closed conn (registrations_after conn r registrations))
 keeps_back conn r registrations none = record { port = port_same conn r registrations; rows = rows_back conn r registrations none; creations = next_rises conn r registrations }
-
-pub keeps_closed : (conn : ℕ) (before after : Registrations) → Keeps before after → Keeps (after_closed conn before) (after_closed conn after)
-keeps_closed conn before after k = record { port = k.port; rows = ap (filter (λ row. not (is_of conn row))) k.rows; creations = k.creations }
 
 unregistered : (conn : ℕ) (info : NodeInfo) (registrations : Registrations) → is_accepted conn info registrations ≡ true → list_any (is_of conn) registrations.rows ≡ false
 unregistered conn info registrations ok =
     let a = and_parts _ _ ok in
     let b = and_parts _ _ a.1 in
     let c = and_parts _ _ b.1 in
-    not_true (list_any (is_of conn) registrations.rows) c.0
+    not-true (list_any (is_of conn) registrations.rows) c.0
 
 -- an answer that registers a node does so
 pub registers_row : (conn q : ℕ) (r : Request) (registrations : Registrations) → served_as r (answer_for conn r registrations) ≡ served.Registered → registered_name q (registrations_after conn r registrations) ≡ cond (conn == q) (Some (name_in r)) (registered_name q registrations)
-registers_row conn q (request.PortPlease name) registrations granted = cc
-registers_row conn q request.Names registrations granted = cc
 registers_row conn q (request.Alive info) registrations granted = elim (is_accepted conn info registrations) as (λ v. is_accepted conn info registrations ≡ v → served_as (request.Alive info) (cond v (creation_answer info registrations.next) (refusal_answer info)) ≡ served.Registered → registered_name q (cond v (with_registration conn info registrations) registrations) ≡ cond (conn == q) (Some info.name) (registered_name q registrations)) [
   | true ↦ λ ok g. name_registered conn q info registrations (unregistered conn info registrations ok)
   | false ↦ λ ok g. elim (nat_lt info.highest 6) as (λ v. served_as (request.Alive info) (cond v (answer.Alive 1 0) (answer.AliveX 1 0)) ≡ served.Registered → registered_name q registrations ≡ cond (conn == q) (Some info.name) (registered_name q registrations)) [
@@ -239,11 +180,10 @@ registers_row conn q (request.Alive info) registrations granted = elim (is_accep
     | false ↦ λ y. cc
   ] g
 ] refl granted
+registers_row conn q _ registrations granted = cc
 
 -- and no other changes the registry
 pub refused_same : (conn : ℕ) (r : Request) (registrations : Registrations) → served_as r (answer_for conn r registrations) ≡ served.Answered → registrations_after conn r registrations ≡ registrations
-refused_same conn (request.PortPlease name) registrations denied = refl
-refused_same conn request.Names registrations denied = refl
 refused_same conn (request.Alive info) registrations denied = elim (is_accepted conn info registrations) as (λ v. served_as (request.Alive info) (cond v (creation_answer info registrations.next) (refusal_answer info)) ≡ served.Answered → cond v (with_registration conn info registrations) registrations ≡ registrations) [
   | false ↦ λ g. refl
   | true ↦ λ g. elim (nat_lt info.highest 6) as (λ v. served_as (request.Alive info) (cond v (answer.Alive 0 (short_creation registrations.next)) (answer.AliveX 0 registrations.next)) ≡ served.Answered → with_registration conn info registrations ≡ registrations) [
@@ -251,6 +191,7 @@ refused_same conn (request.Alive info) registrations denied = elim (is_accepted 
     | false ↦ λ y. cc
   ] g
 ] denied
+refused_same conn _ registrations denied = refl
 
 module _ {S : Type 0} where
   talked : (name : List ℕ) (o : Option (Client S)) → IsSome o → client_name (option_map (with_talk (Registered name)) o) ≡ Some name
@@ -275,7 +216,7 @@ module _ {S : Type 0} where
   pub numbered_with : (next : ℕ) (m n : BTreeMap ℕ (Client S)) (conn : ℕ) (w : Option (Client S)) → Updates nat_cmp m n conn w
       → (is_some w ≡ true → is_some (get nat_cmp m conn) ≡ true) → NumbersBelow next m → NumbersBelow next n
   numbered_with next m n conn w u keeps numbered q s =
-      let g : get nat_cmp n q ≡ cond (conn == q) w (get nat_cmp m q) = u.0 q ∙ ap (λ b. cond b w (get nat_cmp m q)) (at_is conn q) in
+      let g : get nat_cmp n q ≡ cond (conn == q) w (get nat_cmp m q) = u.0 q ∙ ap (λ b. cond b w (get nat_cmp m q)) (unsigned_tied conn q) in
       elim (conn == q) as (λ v. (conn == q) ≡ v → is_some (cond v w (get nat_cmp m q)) ≡ true → q < next) [
         | true ↦ λ e h. subst (λ k. k < next) (eqb-true conn q e) (numbered conn (keeps h))
         | false ↦ λ e h. numbered q h

@@ -1,12 +1,12 @@
 ghost use Rattle.std.specs.Prelude.{◌≡◌, ◌↔◌, Some, None, IsTrue, IfOk, OnOk, option_copied, if◌then◌else◌};
 ghost use Rattle.std.specs.List.{list_all};
 ghost use Rattle.dist_names.specs.Bytes.{is_visible};
-ghost use Rattle.dist_names.specs.Front.{front_number, next_number};
+ghost use Rattle.dist_names.specs.Front.{front_numbers};
 ghost use Rattle.dist_names.specs.NodeName.{short_of, host_of, has_two_parts, name_of_bytes, IsNodeName};
 ghost use Rattle.dist_names.specs.Order.{same_name};
 ghost use Rattle.dist_names.specs.Answer.{AnswersName};
 
-use crate::front::{front_number, next_number};
+use crate::front::front_numbers;
 use crate::name_error::NameError;
 use crate::plain::{are_visible, host_part, is_same_text, short_part};
 use smallvec::SmallVec;
@@ -19,17 +19,15 @@ use std::sync::Arc;
 /// copy takes no further memory.
 #[derive(Debug, Drop)]
 pub struct NodeName {
-    // The first sixteen bytes as a number, which decides most comparisons without a look at the text.
-    front: u128,
-    // The next sixteen: of nodes of one short name, as a cluster has them, these decide most.
-    next: u128,
+    // The first 32 bytes as numbers, which decide most comparisons without a look at the text.
+    fronts: (u64, u64, u64, u64),
     text: Arc<SmallVec<u8, 32>>,
 }
 
 impl Model for NodeName {
     ghost use Rattle.std.specs.Prelude.{◌≡◌, ℕ, List};
     ghost use Rattle.std.specs.Arc.{arc_value};
-    ghost use Rattle.dist_names.specs.Front.{front_number, next_number};
+    ghost use Rattle.dist_names.specs.Front.{front_numbers};
     ghost use Rattle.dist_names.specs.NodeName.{IsNodeName};
 
     ghost Value = { List ℕ };
@@ -37,7 +35,7 @@ impl Model for NodeName {
     ghost view = { λ n. let t = arc_value n.text in t.items };
 
     ghost invariant = { λ n. let t = arc_value n.text in
-        (n.front ≡ front_number t.items) × (n.next ≡ next_number t.items) × IsNodeName t.items };
+        (n.fronts ≡ front_numbers t.items) × IsNodeName t.items };
 }
 
 const LEAST: usize = 3;
@@ -90,8 +88,7 @@ impl NodeName {
     {
         let text = SmallVec::from_slice(alloc, bytes)?;
         Ok(NodeName {
-            front: front_number(bytes),
-            next: next_number(bytes),
+            fronts: front_numbers(bytes),
             text: Arc::new(alloc, text)?,
         })
     }
@@ -104,20 +101,12 @@ impl NodeName {
         self.text.as_slice()
     }
 
-    // Its first bytes as a number.
-    pub(crate) fn front(&self) -> u128
-        ensures same { result ≡ front_number self.now }
+    // Its first bytes as numbers.
+    pub(crate) fn fronts(&self) -> &(u64, u64, u64, u64)
+        ensures same { result.now ≡ front_numbers self.now }
         ensures good { IsNodeName self.now }
     {
-        self.front
-    }
-
-    // Its next bytes as a number.
-    pub(crate) fn next(&self) -> u128
-        ensures same { result ≡ next_number self.now }
-        ensures good { IsNodeName self.now }
-    {
-        self.next
+        &self.fronts
     }
 
     /// The part before the `@`, by which the port mapper knows the node.
@@ -139,8 +128,7 @@ impl NodeName {
         ensures { IfOk result (λ copy. copy ≡ self.now) }
     {
         Ok(NodeName {
-            front: self.front,
-            next: self.next,
+            fronts: self.fronts,
             text: Arc::try_clone(&self.text)?,
         })
     }
@@ -158,7 +146,6 @@ impl NodeName {
         ensures computed { result ≡ same_name self.now other.now }
         ensures each { IsTrue result ↔ (self.now ≡ other.now) }
     {
-        let (ours, theirs) = (self.front(), other.front());
-        ours == theirs && is_same_text(self.bytes(), other.bytes())
+        self == other
     }
 }

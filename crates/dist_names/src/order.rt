@@ -1,34 +1,35 @@
 //! Names are compared as strings of unsigned bytes, a proper prefix being smaller (our own choice). Their first 32 bytes are
-//! compared as two numbers, and what stands behind these only where both are equal, sixteen bytes at a time.
+//! compared as four numbers, and what stands behind these only where all are equal, eight bytes at a time.
 
-ghost use Rattle.std.specs.Prelude.{◌≡◌, ◌==◌};
+ghost use Rattle.std.specs.Prelude.{◌≡◌, ◌==◌, IsTrue};
+ghost use Rattle.std.specs.List.{list_all};
 ghost use Rattle.std.proofs.Common.{rules};
 ghost use Rattle.std.specs.Cmp.{partial_order_from_own_ties};
 ghost use Rattle.std.specs.Cmp.Rules.{comparing};
 ghost use Rattle.std.specs.Cmp.Lexicographic.{slice_cmp, pointwise};
 ghost use Rattle.std.specs.Ordering.{nat_cmp, as_partial_cmp};
-ghost use Rattle.dist_names.specs.Bytes.{IsBytes};
+ghost use Rattle.dist_names.specs.Bytes.{is_visible};
 ghost use Rattle.dist_names.specs.Order.{name_cmp};
 
-use crate::front::front_number;
+use crate::front::{behind, front_number};
 use crate::name::NodeName;
 use std::cmp::Ordering;
 
-// The order of two texts, sixteen bytes at a time. Sixteen with which both begin don't count. It stays a call of its own, so that two
-// numbers are compared without the room that this takes.
+// The order of two texts, eight bytes at a time. Eight with which both begin don't count. It stays a call of its own, so that numbers
+// are compared without the room that this takes.
 #[inline(never)]
 fn order_of(ours: &[u8], theirs: &[u8]) -> Ordering
-    requires bytes { IsBytes ours.now × IsBytes theirs.now }
+    requires ours { IsTrue (list_all is_visible ours.now) }
+    requires theirs { IsTrue (list_all is_visible theirs.now) }
     ensures { result ≡ name_cmp ours.now theirs.now }
 {
-    if ours.len() < 16 || theirs.len() < 16 {
+    if ours.len() < 8 || theirs.len() < 8 {
         return ours.cmp(theirs);
     }
-    let (our_front, their_front) = (front_number(ours), front_number(theirs));
-    if our_front != their_front {
-        return our_front.cmp(&their_front);
+    match front_number(ours).cmp(&front_number(theirs)) {
+        Ordering::Equal => order_of(behind(ours, 8), behind(theirs, 8)),
+        order => order,
     }
-    order_of(&ours[16..], &theirs[16..])
 }
 
 impl PartialEq for NodeName {
@@ -37,7 +38,7 @@ impl PartialEq for NodeName {
     ghost laws = { Prim.search (comparing, rules) };
 
     fn eq(&self, other: &NodeName) -> bool {
-        self.front() == other.front() && self.bytes() == other.bytes()
+        self.cmp(other).is_eq()
     }
 }
 
@@ -55,19 +56,10 @@ impl Ord for NodeName {
     ghost matches_eq = { Prim.search (comparing, rules) };
 
     fn cmp(&self, other: &NodeName) -> Ordering {
-        let (ours, theirs) = (self.front(), other.front());
-        if ours != theirs {
-            return ours.cmp(&theirs);
+        match self.fronts().cmp(other.fronts()) {
+            Ordering::Equal => order_of(behind(self.bytes(), 32), behind(other.bytes(), 32)),
+            order => order,
         }
-        let (our_next, their_next) = (self.next(), other.next());
-        if our_next != their_next {
-            return our_next.cmp(&their_next);
-        }
-        let (our_text, their_text) = (self.bytes(), other.bytes());
-        if our_text.len() < 32 || their_text.len() < 32 {
-            return our_text.cmp(their_text);
-        }
-        order_of(&our_text[32..], &their_text[32..])
     }
 }
 

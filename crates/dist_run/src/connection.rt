@@ -4,10 +4,9 @@ use dist_drive::SocketStream;
 use dist_locked::{Seat, drive_end, settle};
 use dist_names::ByteString;
 use dist_peers::EndId;
-use dist_run_hosts::{Challenges, Host, PatientStream, say_goodbye};
+use dist_run_hosts::{Challenges, Host, LinkStream, PatientStream, link_of, say_goodbye};
 use std::alloc::Global;
 use std::sync::Wait;
-use std::sync::atomic::{AtomicUsize, Ordering};
 use std::time::Clock;
 
 /// The connection of an end.
@@ -18,11 +17,19 @@ pub struct Carrier {
     pub stream: SocketStream,
 }
 
+impl Carrier {
+    /// That of a connection to this port.
+    pub fn new(connection: LinkStream, port: u16) -> Carrier {
+        Carrier {
+            link: link_of(connection.dialler_port, port),
+            stream: connection.stream,
+        }
+    }
+}
+
 /// An end of a node, with what is needed to drive it.
 #[derive(Drop)]
 pub struct Job<'a> {
-    /// Its number among the jobs of the thread that made it.
-    pub number: usize,
     /// The node.
     pub host: &'a Host,
     /// The end.
@@ -51,11 +58,11 @@ pub struct Left {
 }
 
 impl<'a> Job<'a> {
-    /// Drives the end, and marks that its seat is free. The job whose number is `refused` is the one for which no thread could
-    /// be made: it has no turns, so its end is lost before anything is read or written.
-    pub fn run<R: Wait + Clock>(self, rt: &R, alloc: Global, refused: &AtomicUsize) -> Left {
+    /// Drives the end, and marks that its seat is free. Where the seat is marked before, no thread could be made for the job: it has no
+    /// turns, so its end is lost before anything is read or written.
+    pub fn run<R: Wait + Clock>(self, rt: &R, alloc: Global) -> Left {
         let (host, end_, carrier) = (self.host, self.end_, self.carrier);
-        let turns = if refused.load(Ordering::SeqCst) == self.number {
+        let turns = if host.ended.is_set(self.seat.number()) {
             0
         } else {
             self.turns

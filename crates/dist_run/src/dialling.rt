@@ -3,7 +3,7 @@
 ghost use Rattle.std.specs.Prelude.{◌≡◌};
 
 use crate::connection::Carrier;
-use crate::crew::{Crew, Post, Rest};
+use crate::crew::{Crew, Rest};
 use crate::machine::Machine;
 use crate::site::Site;
 use dist_core::{Event, Opening, StepError, Why};
@@ -11,14 +11,9 @@ use dist_drive::{lookup, opening_for};
 use dist_locked::{Gate, LAST_ORDER, Moment, Orders, TakePass};
 use dist_names::{ByteString, NodeName};
 use dist_peers::EndId;
-use dist_run_hosts::{
-    Challenges, LinkStream, OrderFault, OrderRefusal, Pool, connect_to_port, link_of,
-};
-use std::sync::Wait;
+use dist_run_hosts::{Challenges, OrderFault, OrderRefusal, Pool, connect_to_port};
 use std::sync::atomic::Ordering;
-use std::thread;
-use std::thread::{Scope, Threads};
-use std::time::Clock;
+use std::thread::{self, Scope};
 
 /// What a worker has: its right to take orders, and for each node its seats.
 #[derive(Drop)]
@@ -71,33 +66,34 @@ fn find_peer<R: Machine, G>(
 }
 
 // The step that begins a dial.
-fn begin<'s, E, R: Threads + Wait + Clock + Sync, G>(
-    crew: &mut Crew<'s, E, R, G>,
+fn begin<E, R: Machine, G>(
+    site: &Site<'_, R, G>,
+    crew: &mut Crew<'_, E>,
     to: &NodeName,
     opening: Opening,
 ) -> Result<EndId, OrderRefusal> {
-    let Ok(peer) = to.try_clone(crew.site.alloc) else {
+    let Ok(peer) = to.try_clone(site.alloc) else {
         return Err(OrderRefusal::Step(StepError::NoMemory));
     };
-    match crew.step(&Event::Dial { peer, opening }) {
+    match crew.step(site.rt, &Event::Dial { peer, opening }) {
         Ok((end_, _)) => Ok(end_),
         Err(error) => Err(OrderRefusal::Step(error)),
     }
 }
 
 // Gives the node a connection, between the two moments of the gate: what its end sends, or why it is to be lost.
-fn open_dialled<'s, E, R: Threads + Wait + Clock + Sync, G: Gate>(
-    crew: &mut Crew<'s, E, R, G>,
+fn open_dialled<E, R: Machine, G: Gate>(
+    site: &Site<'_, R, G>,
+    crew: &mut Crew<'_, E>,
     worker: u32,
     end_: EndId,
     link: u64,
 ) -> Result<ByteString, Why> {
-    let gate = crew.site.gate;
-    if !gate.at(worker, Moment::BeforeStep) {
+    if !site.gate.at(worker, Moment::BeforeStep) {
         return Err(Why::GaveUp);
     }
-    let opened = crew.step(&Event::Opened { end_, link });
-    if !gate.at(worker, Moment::AfterStep) {
+    let opened = crew.step(site.rt, &Event::Opened { end_, link });
+    if !site.gate.at(worker, Moment::AfterStep) {
         return Err(Why::GaveUp);
     }
     match opened {
@@ -107,60 +103,58 @@ fn open_dialled<'s, E, R: Threads + Wait + Clock + Sync, G: Gate>(
 }
 
 // Opens the end of a connection, and starts a thread for it.
-fn open_connection<'s, E, R: Threads + Wait + Clock + Sync, G: Gate>(
-    crew: &mut Crew<'s, E, R, G>,
+fn open_connection<'s, E, R: Machine, G: Gate>(
+    site: &'s Site<'s, R, G>,
+    crew: &mut Crew<'s, E>,
     task: TakenOrder,
     end_: EndId,
-    port: u16,
-    connection: LinkStream,
+    carrier: Carrier,
 ) {
-    let link = link_of(connection.dialler_port, port);
-    if let Some(noted) = crew.site.links.get(task.number as usize) {
-        noted.store(link, Ordering::SeqCst);
+    if let Some(noted) = site.links.get(task.number as usize) {
+        noted.store(carrier.link, Ordering::SeqCst);
     }
-    let stream = connection.stream;
-    let carrier = Carrier { link, stream };
-    match open_dialled(crew, task.worker, end_, link) {
-        Ok(first) => crew.start(task.number as usize, end_, first, carrier),
+    match open_dialled(site, crew, task.worker, end_, carrier.link) {
+        Ok(first) => crew.start(site, end_, first, carrier),
         Err(why) => {
-            crew.lose(end_, why);
-            crew.part_with(carrier);
+            crew.lose(site.rt, end_, why);
+            crew.part_with(site, carrier);
         }
     }
 }
 
 // Does what an order says. A plan has no dial by a node that is not one of its own.
 fn obey<'s, E, R: Machine, G: Gate>(
-    site: &Site<'_, R, G>,
-    crews: &mut [Crew<'s, E, R, G>],
+    site: &'s Site<'s, R, G>,
+    crews: &mut [Crew<'s, E>],
     task: TakenOrder,
 ) -> Result<(), OrderRefusal> {
     let Some(dial) = site.dials.get(task.number as usize) else {
         return Ok(());
     };
-    let place = site
-        .hosts
+    let place = crews
         .iter()
-        .position(|host| host.name.is_same(&dial.from));
-    let Some(crew) = crews.get_mut(place.unwrap_or(site.hosts.len())) else {
+        .position(|crew| crew.host.name.is_same(&dial.from));
+    let Some(crew) = crews.get_mut(place.unwrap_or(usize::MAX)) else {
         return Ok(());
     };
     let peer = find_peer(site, &dial.to)?;
-    let end_ = begin(crew, &dial.to, peer.opening)?;
+    let end_ = begin(site, crew, &dial.to, peer.opening)?;
     match connect_to_port(site.rt, peer.port) {
-        Ok(connection) => open_connection(crew, task, end_, peer.port, connection),
-        Err(_) => crew.lose(end_, Why::DialFailed),
+        Ok(connection) => {
+            open_connection(site, crew, task, end_, Carrier::new(connection, peer.port))
+        }
+        Err(_) => crew.lose(site.rt, end_, Why::DialFailed),
     }
     Ok(())
 }
 
 // Takes orders up to the last. Those that made no `Dial` step.
 fn take_all<'s, E, R: Machine, G: Gate>(
-    site: &Site<'_, R, G>,
+    site: &'s Site<'s, R, G>,
     orders: &Orders,
     worker: u32,
     pass: &mut TakePass,
-    crews: &mut [Crew<'s, E, R, G>],
+    crews: &mut [Crew<'s, E>],
 ) -> Vec<OrderFault>
     requires { pass.old.table ≡ orders.now.table }
     ensures { (pass.new.table ≡ pass.old.table) × (pass.new.second ≡ pass.old.second) }
@@ -184,27 +178,16 @@ fn take_all<'s, E, R: Machine, G: Gate>(
 }
 
 // A crew for each node, that has started nothing.
-fn new_crews<'s, E, R: Threads + Wait + Clock + Sync, G>(
+fn new_crews<'s, E, R, G>(
     scope: &'s Scope<'s, E>,
-    site: &'s Site<'s, R, G>,
-    worker: u32,
+    site: &Site<'s, R, G>,
     pools: Vec<Pool>,
     mut challenges: Challenges,
-) -> Vec<Crew<'s, E, R, G>> {
+) -> Vec<Crew<'s, E>> {
     let mut crews = Vec::new(site.alloc);
     for (host, pool) in site.hosts.iter().zip(pools) {
-        let refused = match worker {
-            0 => &host.refused.first,
-            _ => &host.refused.second,
-        };
-        let post = Post {
-            host,
-            refused,
-            pool,
-            challenges: challenges.fork(),
-            spare: 0,
-        };
-        site.keep(&mut crews, Crew::new(scope, site, post));
+        let crew = Crew::new(site.alloc, scope, host, pool, challenges.fork(), 0);
+        site.keep(&mut crews, crew);
     }
     crews
 }
@@ -224,11 +207,11 @@ pub fn work<'s, E, R: Machine, G: Gate>(
         pools,
         challenges,
     } = shift;
-    let mut crews = new_crews(scope, site, worker, pools, challenges);
+    let mut crews = new_crews(scope, site, pools, challenges);
     let faults = take_all(site, orders, worker, &mut pass, crews.as_mut_slice());
     let mut rests = Vec::new(site.alloc);
     for crew in crews {
-        site.keep(&mut rests, crew.join());
+        site.keep(&mut rests, crew.join(site));
     }
     Worked { rests, faults }
 }

@@ -93,9 +93,14 @@ fn gather(all: &mut [Rest], worked: Vec<Rest>) -> Result<(), RunError> {
     Ok(())
 }
 
+// The book of a node, which listens no longer.
+fn book_of(host: Host) -> Book {
+    host.node.into_book()
+}
+
 // Closes a node with its seats.
 fn close_host(host: Host, seats: Vec<Seat>) -> Result<Closed, RunError> {
-    match close(host.node.into_book(), seats) {
+    match close(book_of(host), seats) {
         Ok(closed) => Ok(closed),
         Err((error, _, _)) => Err(RunError::NotClosed(error)),
     }

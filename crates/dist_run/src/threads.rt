@@ -11,11 +11,8 @@ use dist_locked::{CAPACITY, Gate, MOST_ORDERS, Orders, dispatch};
 use dist_run_hosts::{Challenges, Pool, RunError, Shares};
 use dist_run_plan::DialPlan;
 use std::alloc::Global;
-use std::sync::Wait;
 use std::sync::atomic::Ordering;
-use std::thread;
-use std::thread::{JoinHandle, Scope, Threads};
-use std::time::Clock;
+use std::thread::{self, JoinHandle, Scope, Threads};
 
 /// The seats of all nodes, by the threads that have them. Each list is in the order of the nodes.
 #[derive(Drop)]
@@ -112,7 +109,7 @@ fn work_off_orders<'s, E, R: Machine, G: Gate + Sync>(
 }
 
 // Starts the accepting threads. Where a node gets none, the run fails.
-fn start_accepting<'s, E, R: Threads + Wait + Clock + Sync, G: Sync>(
+fn start_accepting<'s, E, R: Machine, G: Sync>(
     scope: &'s Scope<'s, E>,
     site: &'s Site<'s, R, G>,
     pools: Vec<Pool>,
@@ -121,9 +118,10 @@ fn start_accepting<'s, E, R: Threads + Wait + Clock + Sync, G: Sync>(
     let mut handles = Vec::with_capacity(site.alloc, site.hosts.len())?;
     for (host, pool) in site.hosts.iter().zip(pools) {
         let mine = challenges.fork();
-        match scope.spawn(move || accept_all(scope, site, host, pool, mine)) {
-            Ok(handle) => site.keep(&mut handles, handle),
-            Err(_) => site.fail(),
+        let started = scope.spawn(move || accept_all(scope, site, host, pool, mine));
+        match started.ok() {
+            Some(handle) => site.keep(&mut handles, handle),
+            None => site.fail(),
         }
     }
     Ok(handles)

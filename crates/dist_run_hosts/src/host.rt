@@ -17,26 +17,6 @@ use dist_run_plan::NodePlan;
 use std::alloc::{AllocError, Global};
 use std::net::{Net, TcpListener, TcpStream};
 use std::sync::Arc;
-use std::sync::atomic::AtomicUsize;
-
-/// The last connection for which no thread could be made, by the thread that had it: its number there. Nobody's is the
-/// highest number.
-#[derive(Drop)]
-pub struct Refused {
-    pub accepting: AtomicUsize,
-    pub first: AtomicUsize,
-    pub second: AtomicUsize,
-}
-
-impl Refused {
-    fn nobody() -> Refused {
-        Refused {
-            accepting: AtomicUsize::new(usize::MAX),
-            first: AtomicUsize::new(usize::MAX),
-            second: AtomicUsize::new(usize::MAX),
-        }
-    }
-}
 
 /// How the port mapper is reached: its port, and the most turns of a call.
 #[derive(Clone, Copy)]
@@ -52,7 +32,6 @@ pub struct Host {
     pub node: LockedNode,
     pub listener: LocalListener,
     pub registered: SocketStream,
-    pub refused: Refused,
     /// Which of the threads that had its seats have ended.
     pub ended: EndMarks,
 }
@@ -166,7 +145,6 @@ pub fn start<R: Net<Listener = TcpListener, Stream = TcpStream>>(
         node,
         listener,
         registered,
-        refused: Refused::nobody(),
         ended,
     };
     Ok((host, shares))

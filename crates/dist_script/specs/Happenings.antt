@@ -1,17 +1,20 @@
 -- The lines of a script that say what happens in a world.
-use Rattle.std.specs.Prelude.{ℕ, List, [], ◌∷◌, codes, Option}
+use Rattle.std.specs.Prelude.{ℕ, List, [], ◌∷◌, codes, Option, Some, None}
+use Rattle.dist_core.specs.declared.changing.Change.TheVariants as change
 use Rattle.dist_world_model.specs.declared.happening.Happening.{Happening}
 use Rattle.dist_world_model.specs.declared.happening.Happening.TheVariants as happening
 use Rattle.dist_script.specs.declared.happenings.HappeningWord.{HappeningWord}
 use Rattle.dist_script.specs.declared.happenings.HappeningWord.TheVariants as kind
 use Rattle.dist_script.specs.Fields.{Read, next, give, whole_line, count_in, number_in, creation_in, end_in, name_in, opening_in, why_in}
+use Rattle.dist_script.specs.Nodes.{cookie_in}
 
 -- the first word of each kind of line
 abbrev pub happening_kinds : List (List ℕ × HappeningWord)
 happening_kinds =
     (codes "begin", kind.Begin) ∷ (codes "halt", kind.Halt) ∷ (codes "dial", kind.Dial) ∷ (codes "reach", kind.Reach) ∷
     (codes "opened", kind.Opened) ∷ (codes "accept", kind.Accept) ∷ (codes "deliver", kind.Deliver) ∷ (codes "take", kind.Take) ∷
-    (codes "lose", kind.Lose) ∷ (codes "tick", kind.Tick) ∷ []
+    (codes "lose", kind.Lose) ∷ (codes "tick", kind.Tick) ∷ (codes "cookie", kind.Cookie) ∷ (codes "no_cookie", kind.NoCookie) ∷
+    (codes "usual_cookie", kind.UsualCookie) ∷ []
 
 -- what the words say behind the first and the next one, which is a node, or the connection that is accepted
 abbrev pub behind_node : HappeningWord → ℕ → List (List ℕ) → Read Happening
@@ -25,6 +28,9 @@ behind_node kind.Deliver node = next end_in (λ end_. next count_in (λ bytes. g
 behind_node kind.Take node = next end_in (λ end_. next (number_in 32) (λ fresh. give (happening.Take node end_ fresh)))
 behind_node kind.Lose node = next end_in (λ end_. next why_in (λ why. give (happening.Lose node end_ why)))
 behind_node kind.Tick node = next end_in (λ end_. give (happening.Tick node end_))
+behind_node kind.Cookie node = next name_in (λ peer. next cookie_in (λ cookie. give (happening.Reset node (change.Cookie peer (Some cookie)))))
+behind_node kind.NoCookie node = next name_in (λ peer. give (happening.Reset node (change.Cookie peer None)))
+behind_node kind.UsualCookie node = next cookie_in (λ cookie. give (happening.Reset node (change.UsualCookie cookie)))
 
 -- what the words behind the first say
 abbrev pub happening_in : HappeningWord → List (List ℕ) → Read Happening

@@ -8,7 +8,9 @@ use crate::fields::{
     count_word, creation_word, end_word, line_end, meaning_word, name_word, number_word,
     opening_word, why_word,
 };
+use crate::node_line::cookie_word;
 use crate::words::{LineFault, Words};
+use dist_core::Change;
 use dist_world_model::Happening;
 use std::alloc::Global;
 
@@ -24,10 +26,13 @@ enum HappeningWord {
     Take,
     Lose,
     Tick,
+    Cookie,
+    NoCookie,
+    UsualCookie,
 }
 
 // The first word of each kind of line.
-const KINDS: [(&str, HappeningWord); 10] = [
+const KINDS: [(&str, HappeningWord); 13] = [
     ("begin", HappeningWord::Begin),
     ("halt", HappeningWord::Halt),
     ("dial", HappeningWord::Dial),
@@ -38,6 +43,9 @@ const KINDS: [(&str, HappeningWord); 10] = [
     ("take", HappeningWord::Take),
     ("lose", HappeningWord::Lose),
     ("tick", HappeningWord::Tick),
+    ("cookie", HappeningWord::Cookie),
+    ("no_cookie", HappeningWord::NoCookie),
+    ("usual_cookie", HappeningWord::UsualCookie),
 ];
 
 // What happens, in the words behind the first. The first of them is the node, or the connection that is accepted.
@@ -88,6 +96,26 @@ fn happening_behind(
         HappeningWord::Tick => Happening::Tick {
             node,
             end_: end_word(words)?,
+        },
+        HappeningWord::Cookie => Happening::Reset {
+            node,
+            change: Change::Cookie {
+                peer: name_word(alloc, words)?,
+                cookie: Some(cookie_word(alloc, words)?),
+            },
+        },
+        HappeningWord::NoCookie => Happening::Reset {
+            node,
+            change: Change::Cookie {
+                peer: name_word(alloc, words)?,
+                cookie: None,
+            },
+        },
+        HappeningWord::UsualCookie => Happening::Reset {
+            node,
+            change: Change::UsualCookie {
+                cookie: cookie_word(alloc, words)?,
+            },
         },
     })
 }

@@ -38,6 +38,14 @@ fn cookie_of(alloc: Global, word: &[u8]) -> Result<Cookie, LineFault>
     }
 }
 
+/// The cookie that the next word is.
+pub fn cookie_word(alloc: Global, words: &mut Words<'_>) -> Result<Cookie, LineFault>
+    ensures reads { Reads result (first_in cookie_in words.old) }
+    ensures rest { words.new ≡ drop 1 words.old }
+{
+    cookie_of(alloc, words.word()?)
+}
+
 // A cookie for this peer, which has none of its own yet.
 fn set_cookie(cookies: &mut Cookies, peer: NodeName, cookie: Cookie) -> Result<(), LineFault>
     ensures { Makes result cookies.new (cookie_added cookies.old peer cookie) }

@@ -1,11 +1,9 @@
 -- What is returned of two nodes that each count the other as up is what they agree on.
 use Rattle.std.proofs.Common.{◌≡◌, ◌≢◌, ℕ, ◌<◌, List, length, take, Option, Some, None, Result, Ok, Err, OnOk, IfErr, sym, ap, ◌∙◌, subst}
-use Rattle.dist_core_setup.specs.declared.setup.Setup.{Setup}
+use Rattle.dist_world_model.proofs.Words.{Setup, run, World, empty}
+use Rattle.dist_world_model.specs.Laws.{Decided, AllLives}
 use Rattle.dist_world_model.specs.declared.happening.Happening.{Happening}
 use Rattle.dist_world.specs.declared.run.Stopped.{Stopped}
-use Rattle.dist_world_model.specs.Laws.{AllLives, Decided}
-use Rattle.dist_world_model.specs.Run.{run}
-use Rattle.dist_world_model.specs.World.{World, empty}
 use Rattle.dist_world_model.specs.Agreement.{Agreement as NodesAgree, IsReached, AllFit, IsUp, Counts}
 use Rattle.dist_world.specs.Ups.{FindsBoth, FindsAgreed, IsReported, agreement_on}
 use Rattle.dist_world.specs.declared.agreement.Agreement.{Agreement}

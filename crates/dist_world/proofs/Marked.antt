@@ -1,21 +1,9 @@
 -- An event that a node gets while a connection changes too: what is said and what changes there do not meet.
 use Rattle.std.proofs.Common.{◌≡◌, ℕ, zero, suc, Bool, true, false, cond, not, List, [], ◌∷◌, Option, Some, None, is_some, is_none, Ok, slice_get, refl, ap, sym, ◌∙◌}
-use Rattle.std.specs.Option.{option_map}
-use Rattle.std.specs.Int.{w16}
-use Rattle.dist_frames.specs.Stream.{first_body}
-use Rattle.dist_messages.specs.declared.message.Side.{Side}
-use Rattle.dist_messages.specs.declared.message.Side.TheVariants.{Dialler, Acceptor}
-use Rattle.dist_peers.specs.declared.entry.EndId.{EndId}
-use Rattle.dist_core.specs.declared.event.Event.{Event}
+use Rattle.dist_world_model.proofs.Words.{option_map, w16, first_body, Side, Dialler, Acceptor, EndId, Event, Reply, NodeState, step, at_place, EndRow}
+use Rattle.dist_world_model.proofs.Words.{rows_after, World, Life, Conn, runs, running, row_of_life, says, conns_after_saying, text_to, change_to, body_taken}
+use Rattle.dist_world_model.specs.Happenings.{notify, accept, take_frame, life_after, without_closing, accepted_by, next_end}
 use Rattle.dist_core.specs.declared.event.Event.TheVariants as event
-use Rattle.dist_core.specs.declared.reply.Reply.{Reply}
-use Rattle.dist_core.specs.Node.{NodeState}
-use Rattle.dist_core.specs.Step.{step}
-use Rattle.dist_world_model.specs.Lists.{at_place}
-use Rattle.dist_world_model.specs.Rows.{EndRow, rows_after}
-use Rattle.dist_world_model.specs.World.{World, Life, Conn, runs, running, row_of_life}
-use Rattle.dist_world_model.specs.Delivery.{says, conns_after_saying, text_to, change_to, body_taken}
-use Rattle.dist_world_model.specs.Happenings.{life_after, notify, without_closing, accept, accepted_by, next_end, take_frame}
 use Rattle.dist_world_model.proofs.Conditions.{there, holds, succeeds}
 use Rattle.dist_world_lives.specs.Stepping.{wire_of, conns_after}
 use Rattle.dist_world_lives.specs.Notifying.{event_wire, HasNotified}

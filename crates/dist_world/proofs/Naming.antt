@@ -1,25 +1,17 @@
 -- The names of setups.
 use Rattle.std.proofs.Common.{◌≡◌, ℕ, zero, suc, ◌+◌, ◌<◌, Bool, true, false, not, ◌||◌, List, [], ◌∷◌, length, drop, get_or, Some, slice_get, sym, ◌∙◌, ap, subst, refl, below_more, arith}
-use Rattle.dist_names.specs.Order.{Name, same_name}
-use Rattle.dist_core_setup.specs.declared.setup.Setup.{Setup}
+use Rattle.dist_world_model.proofs.Words.{Setup}
+use Rattle.dist_names.specs.Order.{same_name, Name}
 use Rattle.dist_world_model.specs.Agreement.{IsSetup}
+use Rattle.std.proofs.lemmas.Option.{slice_get-get_or}
+use Rattle.std.proofs.lemmas.Bool.{or_parts}
 use Rattle.dist_world.specs.Setups.{is_named, names_repeat}
-use Rattle.dist_world_lives.proofs.Notified.{get_some}
-
-pub within : {A : Type 0} (xs : List A) (i : ℕ) (x : A) → slice_get xs i ≡ Some x → i < length xs
-within [] i x e = absurd cc
-within (y ∷ xs) zero x e = omega arith
-within (y ∷ xs) (suc i) x e = omega (arith, within xs i x e)
 
 pub known_more : (ss : List Setup) (i : ℕ) (d : Setup) → i < length ss → d ≡ get_or ss i d → IsSetup d → ((k : ℕ) (s : Setup) → k < i → slice_get ss k ≡ Some s → IsSetup s) → (k : ℕ) (s : Setup) → k < i + 1 → slice_get ss k ≡ Some s → IsSetup s
 known_more ss i d few is good so_far k s lt at =
     let P : ℕ → Type 0 = λ n. (r : Setup) → slice_get ss n ≡ Some r → IsSetup r in
-    let here : P i = λ r e. (let same : Some (get_or ss i d) ≡ Some r = sym (get_some ss i d few) ∙ e in let one : get_or ss i d ≡ r = cc in subst IsSetup (is ∙ one) good) in
+    let here : P i = λ r e. (let same : Some (get_or ss i d) ≡ Some r = sym (slice_get-get_or ss i d few) ∙ e in let one : get_or ss i d ≡ r = cc in subst IsSetup (is ∙ one) good) in
     below_more P i (λ n l r e. so_far n r l e) here k lt s at
-
-both_false : (a b : Bool) → (a || b) ≡ false → (a ≡ false) × (b ≡ false)
-both_false true b e = absurd cc
-both_false false b e = (refl, e)
 
 -- names that are one compare as equal (order_of_names)
 abbrev pub IsItself : Type 0
@@ -30,20 +22,20 @@ none_named itself [] n j r un at e = absurd cc
 none_named itself (x ∷ ss) n zero r un at e =
     let same : x ≡ r = cc in
     let yes : same_name x.name n ≡ true = ap (λ m. same_name m n) (ap (λ (s : Setup). s.name) same ∙ e) ∙ itself n in
-    let not_so : same_name x.name n ≡ false = (both_false (same_name x.name n) (is_named ss n) un).0 in
+    let not_so : same_name x.name n ≡ false = (or_parts (same_name x.name n) (is_named ss n) un).0 in
     absurd cc
-none_named itself (x ∷ ss) n (suc j) r un at e = none_named itself ss n j r ((both_false (same_name x.name n) (is_named ss n) un).1) at e
+none_named itself (x ∷ ss) n (suc j) r un at e = none_named itself ss n j r ((or_parts (same_name x.name n) (is_named ss n) un).1) at e
 
 pub distinct : IsItself → (ss : List Setup) → names_repeat ss ≡ false → (i j : ℕ) (s r : Setup) → slice_get ss i ≡ Some s → slice_get ss j ≡ Some r → s.name ≡ r.name → i ≡ j
 distinct itself [] un i j s r a b e = absurd cc
 distinct itself (x ∷ ss) un zero zero s r a b e = refl
 distinct itself (x ∷ ss) un zero (suc j) s r a b e =
     let same : x ≡ s = cc in
-    absurd (none_named itself ss x.name j r ((both_false (is_named ss x.name) (names_repeat ss) un).0) b (sym e ∙ sym (ap (λ (t : Setup). t.name) same)))
+    absurd (none_named itself ss x.name j r ((or_parts (is_named ss x.name) (names_repeat ss) un).0) b (sym e ∙ sym (ap (λ (t : Setup). t.name) same)))
 distinct itself (x ∷ ss) un (suc i) zero s r a b e =
     let same : x ≡ r = cc in
-    absurd (none_named itself ss x.name i s ((both_false (is_named ss x.name) (names_repeat ss) un).0) a (e ∙ sym (ap (λ (t : Setup). t.name) same)))
-distinct itself (x ∷ ss) un (suc i) (suc j) s r a b e = ap suc (distinct itself ss ((both_false (is_named ss x.name) (names_repeat ss) un).1) i j s r a b e)
+    absurd (none_named itself ss x.name i s ((or_parts (is_named ss x.name) (names_repeat ss) un).0) a (e ∙ sym (ap (λ (t : Setup). t.name) same)))
+distinct itself (x ∷ ss) un (suc i) (suc j) s r a b e = ap suc (distinct itself ss ((or_parts (is_named ss x.name) (names_repeat ss) un).1) i j s r a b e)
 
 pub not_true : (b : Bool) → not b ≡ true → b ≡ false
 not_true true e = absurd cc

@@ -1,12 +1,7 @@
 -- What is found of two nodes that count each other as up.
 use Rattle.std.proofs.Common.{◌≡◌, ◌≢◌, ℕ, Option, Some, None, slice_get, refl, ap, sym, ◌∙◌}
-use Rattle.dist_core_ends.specs.declared.known.UpRecord.{UpRecord}
+use Rattle.dist_world_model.proofs.Words.{UpRecord, Setup, EndRow, World, Life, running, conn_of, IsUp}
 use Rattle.dist_core_ends.specs.declared.known.End.TheVariants as ends
-use Rattle.dist_core_setup.specs.declared.setup.Setup.{Setup}
-use Rattle.dist_world_model.specs.Rows.{EndRow}
-use Rattle.dist_world_model.specs.World.{World, Life, running}
-use Rattle.dist_world_model.specs.Happenings.{conn_of}
-use Rattle.dist_world_model.specs.Agreement.{IsUp}
 use Rattle.dist_world_lives.specs.Links.{up_on, FindsLink}
 use Rattle.dist_world.specs.Ups.{FindsPeer, FindsBoth, agreement_on, both_agreement}
 

@@ -1,12 +1,9 @@
 -- A list that is changed at places.
 use Rattle.std.proofs.Common.{◌≡◌, ℕ, zero, suc, ◌+◌, ◌<◌, ◌≤◌, ◌==◌, Bool, true, false, List, [], ◌∷◌, length, get_or, Option, Some, None, slice_get, refl, ap, ◌∙◌, arith}
-use Rattle.std.proofs.lemmas.Bool.Decides.{nat_tests}
-use Rattle.std.proofs.Math.ListN.{set}
-use Rattle.std.specs.Option.{option_map}
-use Rattle.dist_world_model.specs.Lists.{at_place, at_each}
 use Rattle.std.proofs.Common.{◌++◌, take, drop}
-use Rattle.dist_world_model.specs.Rows.{EndRow}
-use Rattle.dist_world_model.specs.Happenings.{shut_row, shut_all}
+use Rattle.dist_world_model.proofs.Words.{nat_tests, option_map, EndRow, shut_row, shut_all}
+use Rattle.std.proofs.Math.ListN.{set}
+use Rattle.dist_world_model.specs.Lists.{at_each, at_place}
 
 apart_first : (j : ℕ) → false ≡ (0 == suc j)
 apart_first j = grind (arith, nat_tests)

@@ -1,15 +1,12 @@
 -- The index of the running incarnations, when an incarnation begins, changes or ends.
 use Rattle.std.proofs.Common.{◌≡◌, ℕ, zero, suc, ◌<◌, ◌==◌, ◌⊎◌, inl, inr, Bool, true, false, cond, not, ◌&&◌, List, [], ◌∷◌, ◌++◌, length, Option, Some, None, is_some, slice_get, refl, ap, sym, ◌∙◌, subst, eq-eqb, arith}
 use Rattle.std.proofs.Common.{Result, Ok, Err, IfOk, OnErr, MatchOption}
+use Rattle.dist_world_model.proofs.Words.{eqb-true, Event, option_map, at_place, first_where, Life, Conn, runs_for, life_after_end, life_after, and_right}
+use Rattle.dist_world_model.proofs.Words.{and_parts}
 use Rattle.std.specs.declared.alloc.AllocError.{AllocError}
-use Rattle.std.proofs.lemmas.Bool.{eqb-true}
-use Rattle.dist_core.specs.declared.event.Event.{Event}
+use Rattle.std.proofs.lemmas.Option.{slice_get-get_or}
 use Rattle.dist_world_lives.specs.declared.stepping.LifeStep.{LifeStep}
 use Rattle.dist_world_lives.specs.Notifying.{HasNotified, Declines}
-use Rattle.std.specs.Option.{option_map}
-use Rattle.dist_world_model.specs.Lists.{at_place, first_where}
-use Rattle.dist_world_model.specs.World.{Life, Conn, runs_for}
-use Rattle.dist_world_model.specs.Happenings.{life_after_end, life_after}
 use Rattle.dist_world_lives.specs.Index.{flat, index_at, passes, IsIndexed}
 use Rattle.dist_world_lives.proofs.Edits.{changed_if, get_at}
 
@@ -90,11 +87,6 @@ gone_in : (o : Option (Option ℕ)) → flat (option_map (changed_if true (λ _.
 gone_in None = refl
 gone_in (Some x) = refl
 
-there : {A : Type 0} (xs : List A) (i : ℕ) → i < length xs → is_some (slice_get xs i) ≡ true
-there [] i few = absurd (omega arith)
-there (x ∷ xs) zero few = refl
-there (x ∷ xs) (suc i) few = there xs i (omega arith)
-
 put_index : (index : List (Option ℕ)) (node i : ℕ) (v : Option ℕ) (b : Bool) → (node == i) ≡ b → index_at (at_place node (λ _. v) index) i ≡ flat (option_map (changed_if b (λ _. v)) (slice_get index i))
 put_index index node i v b e = ap flat (get_at (λ _. v) index node i) ∙ ap (λ b. flat (option_map (changed_if b (λ _. v)) (slice_get index i))) e
 
@@ -132,7 +124,7 @@ pushed lives index node l idle few whose runs k = record {
     found i true e =
         let same : node ≡ i = eqb-true node i e in
         let none : first_where (runs_for i) lives ≡ None = ap (λ n. first_where (runs_for n) lives) (sym same) ∙ idle in
-        put_index index node i (Some (length lives)) true e ∙ (here_in (Some (length lives)) (slice_get index i) (there index i (omega arith))
+        put_index index node i (Some (length lives)) true e ∙ (here_in (Some (length lives)) (slice_get index i) (ap is_some (slice_get-get_or index i None (omega arith)))
         ∙ sym (first_push (runs_for i) lives l ∙ (λ j. or_else (none j) (cond ((new i ∙ e) j) (Some (length lives)) None))))
     found i false e =
         put_index index node i (Some (length lives)) false e ∙ (away_in (Some (length lives)) (slice_get index i) ∙ (k.found i
@@ -156,17 +148,13 @@ finished lives index node p t is k = record {
   alone = λ i a b h g. k.alone i a b (before i a h) (before i b g);
 }
   where
-    off : (b : Bool) → (b && false) ≡ false
-    off true = refl
-    off false = refl
-
     own : passes (runs_for node) (slice_get lives p) ≡ true
     own = first_passes (runs_for node) lives p is
 
     after_in : (i : ℕ) (b : Bool) (o : Option Life) → passes (runs_for i) (option_map (changed_if b (life_after_end t)) o) ≡ cond b false (passes (runs_for i) o)
     after_in i true None = refl
     after_in i false None = refl
-    after_in i true (Some l) = off (l.who == i)
+    after_in i true (Some l) = and_right (l.who == i) false refl
     after_in i false (Some l) = refl
 
     after : (i q : ℕ) → passes (runs_for i) (slice_get (at_place p (life_after_end t) lives) q) ≡ cond (p == q) false (passes (runs_for i) (slice_get lives q))
@@ -187,11 +175,7 @@ finished lives index node p t is k = record {
 
     whose_in : (i : ℕ) (o : Option Life) → passes (runs_for node) o ≡ true → passes (runs_for i) o ≡ true → node ≡ i
     whose_in i None h g = absurd cc
-    whose_in i (Some l) h g = sym (eqb-true l.who node (fst (l.who == node) _ h)) ∙ eqb-true l.who i (fst (l.who == i) _ g)
-      where
-        fst : (a b : Bool) → (a && b) ≡ true → a ≡ true
-        fst true b e = refl
-        fst false b e = absurd cc
+    whose_in i (Some l) h g = sym (eqb-true l.who node (and_parts (l.who == node) _ h).0) ∙ eqb-true l.who i (and_parts (l.who == i) _ g).0
 
     same_pass : (i q : ℕ) (b c : Bool) → (node == i) ≡ false → (p == q) ≡ b → passes (runs_for i) (slice_get lives q) ≡ c → cond b false c ≡ c
     same_pass i q true false away e h = refl

@@ -1,12 +1,7 @@
 -- The connection of an end that is up.
 use Rattle.std.proofs.Common.{◌≡◌, ℕ, Option, Some, None, slice_get, refl}
-use Rattle.std.specs.Option.{option_map}
-use Rattle.dist_names.specs.Order.{Name}
-use Rattle.dist_peers.specs.declared.entry.EndId.{EndId}
-use Rattle.dist_core_ends.specs.declared.known.UpRecord.{UpRecord}
+use Rattle.dist_world_model.proofs.Words.{option_map, Name, EndId, UpRecord, Life, conn_of}
 use Rattle.dist_core_ends.specs.Ends.{FindsUp}
-use Rattle.dist_world_model.specs.World.{Life}
-use Rattle.dist_world_model.specs.Happenings.{conn_of}
 use Rattle.dist_world_lives.specs.Links.{link_of_record, FindsLink}
 
 pub link_found : (l : Life) (p : Name) (o : Option (EndId × UpRecord)) → FindsUp l.node.ends p o → FindsLink l p (link_of_record l.rows o)

@@ -1,10 +1,6 @@
 -- A connection that is changed among all.
 use Rattle.std.proofs.Common.{◌≡◌, ℕ, zero, suc, List, [], ◌∷◌, ◌++◌, slice_get, Option, Some, None, refl, ap}
-use Rattle.dist_messages.specs.declared.message.Side.{Side}
-use Rattle.dist_messages.specs.declared.message.Side.TheVariants.{Dialler, Acceptor}
-use Rattle.dist_world_model.specs.Lists.{at_place}
-use Rattle.dist_world_model.specs.World.{Conn}
-use Rattle.dist_world_model.specs.Delivery.{says}
+use Rattle.dist_world_model.proofs.Words.{Side, Dialler, Acceptor, at_place, Conn, says}
 use Rattle.dist_world_lives.specs.Wires.{undelivered_by, with_undelivered}
 use Rattle.dist_world_lives.specs.Stepping.{conns_after, conns_with, undelivered_on}
 

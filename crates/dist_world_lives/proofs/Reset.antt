@@ -1,37 +1,29 @@
 -- What a change of an incarnation's setup does to the list.
-use Rattle.std.proofs.Common.{◌≡◌, ℕ, ◌<◌, ◌≤◌, Bool, true, false, List, length, get_or, slice_get, Option, Some, None, Result, Ok, Err, refl, ap, sym, ◌∙◌, subst}
+use Rattle.std.proofs.Common.{◌≡◌, ℕ, ◌<◌, Bool, true, false, List, length, get_or, slice_get, Option, Some, Result, Ok, Err, refl, ap, sym, ◌∙◌, subst}
+use Rattle.dist_world_model.proofs.Words.{Change, NodeState, Life, running, with_node}
 use Rattle.std.proofs.Math.ListN.{set}
 use Rattle.std.specs.declared.alloc.AllocError.{AllocError}
-use Rattle.dist_core.specs.declared.changing.Change.{Change}
+use Rattle.dist_core.specs.Changing.{IsChange, change}
 use Rattle.dist_core.specs.declared.changing.ChangeError.{ChangeError}
 use Rattle.dist_core.specs.declared.changing.ChangeError.TheVariants as error
-use Rattle.dist_core.specs.Changing.{IsChange, change}
-use Rattle.dist_core.specs.Node.{NodeState}
-use Rattle.dist_world_model.specs.World.{Life, running}
-use Rattle.dist_world_model.specs.Happenings.{with_node}
-use Rattle.dist_world_model.proofs.Conditions.{there, not_there, is_refused}
+use Rattle.dist_world_model.proofs.Conditions.{there, is_refused}
 use Rattle.dist_world_lives.specs.Index.{IsIndexed}
 use Rattle.dist_world_lives.specs.Resetting.{Forbids, HasReset, Resets, is_reset_memory_error}
 use Rattle.dist_world_lives.proofs.Edits.{at_set}
 use Rattle.dist_world_lives.proofs.Indexes.{changed}
-use Rattle.dist_world_lives.proofs.Notified.{get_none, of_world, put_back, stands}
+use Rattle.dist_world_lives.proofs.Notified.{of_world, put_back, stands}
 
 -- ---- what a refusal says
 
 stays : (e : ChangeError) (s : Result NodeState ChangeError) (old new : NodeState) → IsChange {T = Unit {0}} (Err e) s old new → new ≡ old
-stays error.InUse s old new h = h.1
-stays error.Full s old new h = h.1
 stays error.NoMemory s old new h = h.1
+stays e s old new h = h.1
 
 refused : (e : ChangeError) (s : Result NodeState ChangeError) (old new : NodeState) → is_reset_memory_error e ≡ false → IsChange {T = Unit {0}} (Err e) s old new → s ≡ Err e
-refused error.InUse s old new n h = h.0
-refused error.Full s old new n h = h.0
 refused error.NoMemory s old new n h = absurd cc
+refused e s old new n h = h.0
 
 -- ---- an incarnation among all
-
-pub forbids_past : (lives : List Life) (i : ℕ) (v : Change) → length lives ≤ i → Forbids lives i v
-forbids_past lives i v past = λ w node same place. there (running w node) i _ place ∙ not_there (slice_get w.lives i) _ (of_world lives w i None same (get_none lives i past))
 
 module _ (lives : List Life) (i : ℕ) (l : Life) (few : i < length lives) (is : l ≡ get_or lives i l) (v : Change) where
   pub forbids_refused : (e : ChangeError) (m : Life) → is_reset_memory_error e ≡ false → IsChange {T = Unit {0}} (Err e) (change l.node v) l.node m.node → Forbids lives i v

@@ -1,11 +1,9 @@
 -- A text under delivery: what is undelivered, and the reader that it goes to.
 use Rattle.std.proofs.Common.{◌≡◌, ℕ, min, List, ◌++◌, length, take, drop, refl, ap, ◌∙◌}
+use Rattle.dist_world_model.proofs.Words.{w16, Text, after_delivery, body_taken}
 use Rattle.std.proofs.lemmas.List.{take_min}
-use Rattle.std.specs.Int.{w16}
-use Rattle.dist_frames.specs.Stream.{first_body, after_first}
+use Rattle.dist_frames.specs.Stream.{after_first, first_body}
 use Rattle.dist_frames.specs.Reader.{Reader, Short, Linked, with_bytes, next_body, without_next}
-use Rattle.dist_world_model.specs.World.{Text}
-use Rattle.dist_world_model.specs.Delivery.{after_delivery, body_taken}
 use Rattle.dist_world_lives.specs.Reading.{come_of, IsShort}
 
 -- ---- the reader

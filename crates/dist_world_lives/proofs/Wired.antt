@@ -1,20 +1,9 @@
 -- The bytes of a reply go to the connection of the event's end.
 use Rattle.std.proofs.Common.{◌≡◌, ℕ, zero, suc, ◌+◌, List, [], ◌∷◌, Option, Some, None, Ok, slice_get, refl, ap, sym, ◌∙◌}
-use Rattle.std.proofs.lemmas.List.{append-nil}
-use Rattle.std.specs.Option.{option_map}
-use Rattle.dist_messages.specs.declared.message.Side.{Side}
-use Rattle.dist_messages.specs.declared.message.Side.TheVariants.{Dialler, Acceptor}
-use Rattle.dist_peers.specs.declared.entry.EndId.{EndId}
-use Rattle.dist_core.specs.declared.event.Event.{Event}
+use Rattle.dist_world_model.proofs.Words.{append-nil, option_map, Side, Dialler, Acceptor, EndId, Event, Reply, NodeState, step, at_place, EndRow, rows_after}
+use Rattle.dist_world_model.proofs.Words.{mark, Conn, says, conns_after_saying, spoken_on}
 use Rattle.dist_core.specs.declared.event.Event.TheVariants as event
-use Rattle.dist_core.specs.declared.reply.Reply.{Reply}
 use Rattle.dist_core_laws.specs.Laws.{IsOfItsEnd}
-use Rattle.dist_core.specs.Node.{NodeState}
-use Rattle.dist_core.specs.Step.{step}
-use Rattle.dist_world_model.specs.Lists.{at_place}
-use Rattle.dist_world_model.specs.Rows.{EndRow, rows_after, mark}
-use Rattle.dist_world_model.specs.World.{Conn}
-use Rattle.dist_world_model.specs.Delivery.{says, conns_after_saying, spoken_on}
 use Rattle.dist_world_lives.specs.Stepping.{wire_of, conns_after}
 use Rattle.dist_world_lives.specs.Notifying.{event_wire}
 use Rattle.dist_world_lives.proofs.Edits.{get_each}

@@ -1,15 +1,11 @@
 -- What a reply writes into the rows, row by row.
 use Rattle.std.proofs.Common.{◌≡◌, ℕ, ◌+◌, ◌==◌, Bool, true, false, ◌&&◌, if◌then◌else◌, List, Option, Some, None, slice_get, [], ◌∷◌, length, take, refl, ap, sym, ◌∙◌, arith}
-use Rattle.std.specs.Option.{option_map}
-use Rattle.dist_names.specs.Order.{Name}
-use Rattle.dist_peers.specs.declared.entry.EndId.{EndId}
-use Rattle.dist_core.specs.declared.reply.Reply.{Reply}
+use Rattle.dist_world_model.proofs.Words.{option_map, Name, EndId, Reply, Why, shut_row}
+use Rattle.dist_world_model.specs.Lists.{at_each, add_some, at_place}
+use Rattle.dist_world_model.specs.Rows.{is_end, EndRow, once, takes_name, says_reply, peer_by, rises, dooms, shuts_end, row_after, mark}
+use Rattle.std.proofs.lemmas.List.{take_all, take_at}
 use Rattle.dist_core.specs.declared.reply.Note.{Note}
 use Rattle.dist_core.specs.declared.reply.Note.TheVariants as note
-use Rattle.dist_core_ends.specs.declared.why.Why.{Why}
-use Rattle.dist_world_model.specs.Lists.{at_place, at_each, add_some}
-use Rattle.dist_world_model.specs.Rows.{EndRow, once, takes_name, says_reply, peer_by, rises, dooms, is_end, shuts_end, row_after, mark}
-use Rattle.dist_world_model.specs.Happenings.{shut_row}
 use Rattle.dist_world_lives.specs.Stepping.{own_row, doomed_row, rows_shut, rows_doomed, doomed_end}
 use Rattle.dist_world_lives.proofs.Edits.{changed_if, get_at, get_each, unchanged, same_places}
 
@@ -73,10 +69,5 @@ module _ (t : ℕ) (r : Reply) where
 
 -- what was given out is taken back
 pub taken_back : {A : Type 0} (xs : List A) (o : Option A) → take (length xs) (add_some xs o) ≡ xs
-taken_back xs None = all_of xs
-  where
-    all_of : {A : Type 0} (ys : List A) → take (length ys) ys ≡ ys
-    all_of [] = refl
-    all_of (y ∷ ys) = ap (λ zs. y ∷ zs) (all_of ys)
-taken_back [] (Some x) = refl
-taken_back (y ∷ xs) (Some x) = ap (λ zs. y ∷ zs) (taken_back xs (Some x))
+taken_back xs None = take_all (length xs) xs (omega arith)
+taken_back xs (Some x) = take_at xs (x ∷ []) (length xs) refl

@@ -27,10 +27,6 @@ there o x f at = ap (λ p. p >>= f) at
 pub holds : {A : Type 0} (test : Bool) (o : Option A) → test ≡ true → (test >> o) ≡ o
 holds test o is = ap (λ b. b >> o) is
 
--- nothing follows a thing that is not there
-pub not_there : {A B : Type 0} (o : Option A) (f : A → Option B) → o ≡ None → (o >>= f) ≡ None
-not_there o f at = ap (λ p. p >>= f) at
-
 -- nothing follows a test that does not hold
 pub not_held : {A : Type 0} (test : Bool) (o : Option A) → test ≡ false → (test >> o) ≡ None
 not_held test o is = ap (λ b. b >> o) is

@@ -141,10 +141,6 @@ pub record IsEnd (side : Side) (own other : Voice) (text : List ℕ) (x y : Opti
   pub peer : is_some (pledged side (marks_of x)) ≡ true → peer_of x ≡ Some other.name
   pub noted : NotedAt own other e
 
--- ONE CONNECTION, from the end e of the node n, with the row x, to the end d of the node m, with the row y
-abbrev pub IsWire : Voice → Voice → List ℕ → List ℕ → Option EndRow → Option EndRow → Option End → Option End → Type 0
-IsWire n m there back x y e d = IsEnd Dialler n m there x y e × IsEnd Acceptor m n back y x d
-
 -- ---- changes that it does not see
 
 -- the row says the same of what a connection rests on

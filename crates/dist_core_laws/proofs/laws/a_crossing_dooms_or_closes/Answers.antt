@@ -1,5 +1,7 @@
-use Rattle.dist_core_laws.proofs.Crossings.{dooms-or-closes}
+use Rattle.std.proofs.Common.{refl, ap, ◌∙◌, slice_get}
+use Rattle.dist_core.proofs.Words.{eq-eqb, names, Out}
+use Rattle.dist_core_laws.proofs.Crossings.{by-end}
 use Rattle.dist_core_laws.proofs.laws.a_crossing_dooms_or_closes.Goals as goal
 
 pub returns : goal.returns
-returns c = dooms-or-closes
+returns c n id say b x f legal is k = by-end n id say b x f (slice_get n.ends x.0) refl (legal b.peer Out x.0 ∙ ap (names Out x.0) is ∙ eq-eqb x.0 x.0 refl) k

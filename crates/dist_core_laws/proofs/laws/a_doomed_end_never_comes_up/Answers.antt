@@ -1,8 +1,5 @@
-use Rattle.dist_core_laws.proofs.Doomed.{stays-or-closes, brings-nothing-up}
+use Rattle.dist_core_laws.proofs.Doomed.{shuts-own, stays-or-closes}
 use Rattle.dist_core_laws.proofs.laws.a_doomed_end_never_comes_up.Goals as goal
 
-pub returns-clause-step : goal.returns-clause-step
-returns-clause-step c = stays-or-closes
-
-pub returns-clause-up : goal.returns-clause-up
-returns-clause-up c = brings-nothing-up
+pub returns : goal.returns
+returns c = record { step = stays-or-closes; up = λ n v fresh f e is at d. (let h = shuts-own n v fresh f e is at d in h.up) }

@@ -1,8 +1,6 @@
-use Rattle.dist_core_laws.proofs.Constant.{setup_step, setup_run}
+use Rattle.std.proofs.Common.{◌≡◌, refl, ◌∙◌}
+use Rattle.dist_core_laws.proofs.Constant.{after-run, setup_step}
 use Rattle.dist_core_laws.proofs.laws.setup_never_changes.Goals as goal
 
-pub returns-clause-step : goal.returns-clause-step
-returns-clause-step c = setup_step
-
-pub returns-clause-run : goal.returns-clause-run
-returns-clause-run c n events = setup_run events n
+pub returns : goal.returns
+returns c = record { step = setup_step; run = λ n events. after-run (λ m. m.setup ≡ n.setup) (λ m v fresh h. setup_step m v fresh ∙ h) events n refl }

@@ -1,8 +1,5 @@
-use Rattle.dist_core_laws.proofs.Succeeding as succeeding
+use Rattle.dist_core_laws.proofs.Succeeding.{keeps-setup, keeps-legal}
 use Rattle.dist_core_laws.proofs.step_laws.a_step_keeps.Goals as goal
 
-pub returns-clause-setup : goal.returns-clause-setup
-returns-clause-setup c = succeeding.keeps-setup
-
-pub returns-clause-legal : goal.returns-clause-legal
-returns-clause-legal c = succeeding.keeps-legal
+pub returns : goal.returns
+returns c = record { setup = keeps-setup; legal = keeps-legal }

@@ -1,8 +1,5 @@
-use Rattle.dist_core_laws.proofs.Succeeding as succeeding
+use Rattle.dist_core_laws.proofs.Succeeding.{places, stands-after}
 use Rattle.dist_core_laws.proofs.step_laws.two_ends_change_at_most.Goals as goal
 
-pub returns-clause-places : goal.returns-clause-places
-returns-clause-places c = succeeding.places
-
-pub returns-clause-after : goal.returns-clause-after
-returns-clause-after c = succeeding.stands-after
+pub returns : goal.returns
+returns c = record { places = places; after = stands-after }

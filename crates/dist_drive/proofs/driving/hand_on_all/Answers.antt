@@ -1,6 +1,5 @@
 use Rattle.std.proofs.Common.{◌≡◌, ◌∙◌, refl, inl, sym, ap, subst, arith}
-use Rattle.dist_frames.specs.Reader.{without_next}
-use Rattle.dist_drive.specs.Running.{Place, EndsSo, Runs, after_step}
+use Rattle.dist_drive.proofs.Words.{without_next, Place, EndsSo, Runs, after_step}
 use Rattle.dist_drive.proofs.Keeping.{FrameLaws, none_linked}
 use Rattle.dist_drive.proofs.Shown.{at_end, at_err}
 use Rattle.dist_drive.proofs.Carrying.{finish_at, lacks, stops, moves_on, rises_on}

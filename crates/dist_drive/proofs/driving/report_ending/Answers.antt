@@ -1,7 +1,5 @@
 use Rattle.std.proofs.Common.{◌≡◌, List, ◌++◌, refl, sym, subst}
-use Rattle.dist_drive.specs.declared.outcome.Ending.{Ending}
-use Rattle.dist_drive.specs.Desks.{Step}
-use Rattle.dist_drive.specs.Driven.{ReportsLoss}
+use Rattle.dist_drive.proofs.Words.{Ending, Step, ReportsLoss}
 use Rattle.dist_drive.proofs.Shown.{notes}
 use Rattle.dist_drive.proofs.driving.report_ending.Goals as goal
 

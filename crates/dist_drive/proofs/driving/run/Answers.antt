@@ -1,9 +1,6 @@
 use Rattle.std.proofs.Common.{ℕ, Bool, true, rules, refl, sym, ap, subst, ◌∙◌}
 use Rattle.std.specs.Prelude.{IfErr}
-use Rattle.dist_frames.specs.Reader.{Reader, to_come}
-use Rattle.dist_drive.specs.declared.outcome.Ending.{Ending}
-use Rattle.dist_drive.specs.Driven.{Start, IsOnlyGone, LeavesUnread, Carries}
-use Rattle.dist_drive.specs.Running.{Place, Runs, Goes, after_step}
+use Rattle.dist_drive.proofs.Words.{Reader, to_come, Ending, Start, IsOnlyGone, LeavesUnread, Carries, Place, Runs, Goes, after_step}
 use Rattle.dist_drive.proofs.Shown.{first_cut, begins_so, gone_unread, not_refused, at_err}
 use Rattle.dist_drive.proofs.Keeping.{none_linked}
 use Rattle.dist_drive.proofs.driving.run.Goals as goal

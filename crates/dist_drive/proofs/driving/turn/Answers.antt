@@ -1,12 +1,9 @@
 use Rattle.std.proofs.Common.{◌≡◌, Bool, arith, [], sym, subst}
-use Rattle.dist_peers.specs.declared.entry.EndId.{EndId}
+use Rattle.dist_drive.proofs.Words.{EndId, to_come, Ending, Finish, Place, EndsSo, GoesOn}
 use Rattle.dist_core_ends.specs.declared.phase.Still.TheVariants as still
-use Rattle.dist_frames.specs.Reader.{to_come}
-use Rattle.dist_drive.specs.declared.outcome.Ending.{Ending}
-use Rattle.dist_drive.specs.Driven.{Finish}
-use Rattle.dist_drive.specs.Running.{Place, EndsSo, GoesOn}
 use Rattle.dist_drive.proofs.Keeping.{FrameLaws}
-use Rattle.dist_drive.proofs.Shown.{if_ok_maps, ok_so, err_maps}
+use Rattle.dist_drive.proofs.Shown.{ok_so}
+use Rattle.std.proofs.lemmas.Result.{IfErr-weaker, IfOk-weaker}
 use Rattle.dist_drive.proofs.Carrying.{gone, piece_ends, piece_comes}
 use Rattle.dist_drive.proofs.driving.turn.Goals as goal
 
@@ -29,8 +26,9 @@ returns-in-Ok-clause-runs g c =
     let after : Place g.row.D.Denot g.row.W.Denot = record { stream = g.S.Stream.meaning c.hand_on_all.new.limited.stream.now; left = c.hand_on_all.new.limited.left; desk = c.hand_on_all.new.desk; draws = c.hand_on_all.new.draws } in
     let P : Bool → Type 0 = GoesOn g.D.Desk.facts g.W.Draws.gives c.args.end_ before c.hear.new.frames after c.hand_on_all.new.frames in
     let Q : Bool → Type 0 = λ up. to_come c.args.frames.now ≡ [] → GoesOn g.D.Desk.facts g.W.Draws.gives c.args.end_ begun c.args.frames.now after c.hand_on_all.new.frames up in
-    if_ok_maps P Q c.hand_on_all.result c.hand_on_all.ensures.runs
+    IfOk-weaker c.hand_on_all.result P Q
     (λ up later none start e runs. later start e (piece_comes laws g.D.Desk.facts g.W.Draws.gives start begun before.stream before.left c.args.frames.now c.hear.new.frames _ c.in-Ok.ensures.hears runs))
+    c.hand_on_all.ensures.runs
 
 pub returns-in-Ok-clause-ends : goal.returns-in-Ok-clause-ends
 returns-in-Ok-clause-ends g c =
@@ -40,8 +38,9 @@ returns-in-Ok-clause-ends g c =
     let finish : Finish g.row.D.Denot g.row.W.Denot = record { stream = g.S.Stream.meaning c.hand_on_all.new.limited.stream.now; desk = c.hand_on_all.new.desk; draws = c.hand_on_all.new.draws } in
     let P : Ending → Type 0 = EndsSo g.D.Desk.facts g.W.Draws.gives c.args.end_ before c.hear.new.frames finish in
     let Q : Ending → Type 0 = λ x. to_come c.args.frames.now ≡ [] → EndsSo g.D.Desk.facts g.W.Draws.gives c.args.end_ begun c.args.frames.now finish x in
-    err_maps P Q c.hand_on_all.result c.hand_on_all.ensures.ends
+    IfErr-weaker c.hand_on_all.result P Q
     (λ x later none start e runs. later start e (piece_comes laws g.D.Desk.facts g.W.Draws.gives start begun before.stream before.left c.args.frames.now c.hear.new.frames _ c.in-Ok.ensures.hears runs))
+    c.hand_on_all.ensures.ends
 
 pub returns-in-Ok-clause-fewer : goal.returns-in-Ok-clause-fewer
 returns-in-Ok-clause-fewer g c = ok_so c.hand_on_all.result (omega (arith, c.in-Ok.ensures.turn, c.hand_on_all.ensures.turns))

@@ -1,8 +1,7 @@
 use Rattle.std.proofs.Common.{refl, inl}
 use Rattle.dist_core_ends.specs.declared.why.Why.TheVariants as why
 use Rattle.dist_drive.specs.declared.outcome.Ending.TheVariants as ending
-use Rattle.dist_drive.specs.Driven.{Start}
-use Rattle.dist_drive.specs.Running.{Place}
+use Rattle.dist_drive.proofs.Words.{Start, Place}
 use Rattle.dist_drive.proofs.Keeping.{FrameLaws}
 use Rattle.dist_drive.proofs.Carrying.{lacks}
 use Rattle.dist_drive.proofs.Handshakes.{comes_up}

@@ -1,8 +1,7 @@
 use Rattle.std.proofs.Common.{sym, subst}
 use Rattle.dist_epmd.specs.declared.message.Asked.TheVariants as asked
 use Rattle.dist_epmd.specs.declared.message.Request.TheVariants as request
-use Rattle.dist_epmd.specs.Reading.{read_answer}
-use Rattle.dist_epmd_calls.specs.Asking.{AsksFor, Settles, names_meant}
+use Rattle.dist_epmd_calls.proofs.Words.{read_answer, AsksFor, Settles, names_meant}
 use Rattle.dist_epmd_calls.proofs.Asks.{reported, answer_of, refusal_of}
 use Rattle.dist_epmd_calls.proofs.ask.ask_names.Goals as goal
 

@@ -1,10 +1,7 @@
 use Rattle.std.proofs.Common.{arith, ◌≡◌, false, length, ltb, suc, Ok, Err, sym, subst}
-use Rattle.std.proofs.lemmas.Bool.{le-ltb}
+use Rattle.dist_epmd_calls.proofs.Words.{le-ltb, written_request, read_answer, AsksFor, Settles, info_meant}
 use Rattle.dist_epmd.specs.declared.message.Asked.TheVariants as asked
 use Rattle.dist_epmd.specs.declared.message.Request.TheVariants as request
-use Rattle.dist_epmd.specs.Layout.{written_request}
-use Rattle.dist_epmd.specs.Reading.{read_answer}
-use Rattle.dist_epmd_calls.specs.Asking.{AsksFor, Settles, info_meant}
 use Rattle.dist_epmd_calls.proofs.Asks.{Exchanges, reported, unsent, asks_none, fits_frame, answer_of, refusal_of}
 use Rattle.dist_epmd_calls.proofs.ask.lookup.Goals as goal
 

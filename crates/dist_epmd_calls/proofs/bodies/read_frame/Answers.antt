@@ -1,5 +1,5 @@
 use Rattle.std.proofs.Common.{◌≡◌, ◌≤◌, length, drop, ◌∙◌, arith}
-use Rattle.std.proofs.lemmas.List.{take_at}
+use Rattle.dist_epmd_calls.proofs.Words.{take_at}
 use Rattle.dist_epmd_calls.proofs.Arrivals.{frame_cut, frame_whole}
 use Rattle.dist_epmd_calls.proofs.bodies.read_frame.Goals as goal
 

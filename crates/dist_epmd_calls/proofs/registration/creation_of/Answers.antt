@@ -1,9 +1,6 @@
 use Rattle.std.proofs.Common.{Result, sym, subst}
-use Rattle.dist_names.specs.declared.creation.Creation.{Creation}
+use Rattle.dist_epmd_calls.proofs.Words.{Creation, read_answer, LookupError, Settles, creation_meant}
 use Rattle.dist_epmd.specs.declared.message.Asked.TheVariants as asked
-use Rattle.dist_epmd.specs.Reading.{read_answer}
-use Rattle.dist_epmd_calls.specs.declared.lookup_error.LookupError.{LookupError}
-use Rattle.dist_epmd_calls.specs.Asking.{Settles, creation_meant}
 use Rattle.dist_epmd_calls.proofs.Creations.{creation_settles}
 use Rattle.dist_epmd_calls.proofs.registration.creation_of.Goals as goal
 

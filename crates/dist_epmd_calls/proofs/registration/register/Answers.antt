@@ -1,7 +1,6 @@
 use Rattle.std.proofs.Common.{sym, subst}
-use Rattle.dist_epmd.specs.Layout.{written_request}
+use Rattle.dist_epmd_calls.proofs.Words.{written_request, RegistersFor}
 use Rattle.dist_epmd.specs.declared.message.Request.TheVariants as request
-use Rattle.dist_epmd_calls.specs.Asking.{RegistersFor}
 use Rattle.dist_epmd_calls.proofs.Asks.{reported}
 use Rattle.dist_epmd_calls.proofs.Registering.{registers_unframed, registers_framed}
 use Rattle.dist_epmd_calls.proofs.registration.register.Goals as goal

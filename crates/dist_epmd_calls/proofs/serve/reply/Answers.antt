@@ -1,5 +1,5 @@
 use Rattle.std.proofs.Common.{[], None, refl, inl}
-use Rattle.dist_stream.proofs.Talks.{Says-none}
+use Rattle.dist_epmd_calls.proofs.Words.{Says-none}
 use Rattle.dist_epmd_calls.proofs.serve.reply.Goals as goal
 
 pub returns-in_default-clause-says : goal.returns-in_default-clause-says

@@ -1,24 +1,15 @@
-use Rattle.std.proofs.Common.{rules, sym, ◌∙◌, ◌-◌, length, drop, arith}
-use Rattle.dist_names.proofs.Bytes.{IsBytes-drop, IsBytes-take}
-use Rattle.dist_names.proofs.Fronts.{sixteen_alike, front_decides}
+use Rattle.std.proofs.Common.{◌∙◌}
+use Rattle.std.specs.Ordering.{nat_cmp}
+use Rattle.dist_names.proofs.Fronts.{eight_decide, behind_eight}
+use Rattle.dist_names.specs.Order.{name_cmp}
 use Rattle.dist_names.proofs.order.+order_of.Goals as goal
 
-pub returns-then-our_front-their_front : goal.returns-then-our_front-their_front
-returns-then-our_front-their_front t c =
-    c.cmp-then-our_front-their_front.ensures
-    ∙ front_decides _ _ c.requires.bytes.0 c.requires.bytes.1 _ _ c.front_number-our_front.ensures c.front_number-their_front.ensures c.if-our_front-their_front.true
-
-pub order_of-requires : goal.order_of-requires
-order_of-requires t c = (
-  search rules,
-  (
-    IsBytes-take (length c.args.ours.now - 16) (drop 16 c.args.ours.now) (IsBytes-drop 16 c.args.ours.now c.requires.bytes.0),
-    IsBytes-take (length c.args.theirs.now - 16) (drop 16 c.args.theirs.now) (IsBytes-drop 16 c.args.theirs.now c.requires.bytes.1),
-  ),
-)
-
-pub returns : goal.returns
-returns t c =
+pub returns-in-Equal : goal.returns-in-Equal
+returns-in-Equal t c =
     c.order_of.ensures
-    ∙ sixteen_alike _ _ (omega (arith, c.if-ours-lt16.false)) (omega (arith, c.if-theirs-lt16.false)) c.requires.bytes.0 c.requires.bytes.1
-    (sym c.front_number-our_front.ensures ∙ c.if-our_front-their_front.false ∙ c.front_number-their_front.ensures)
+    ∙ (λ i. name_cmp (c.behind.ensures i) (c.behind-in-Equal.ensures i))
+    ∙ behind_eight c.args.ours.now c.args.theirs.now c.requires.ours c.requires.theirs _ (c.cmp-2.ensures ∙ λ i. nat_cmp (c.front_number.ensures i) (c.front_number-2.ensures i)) c.in-Equal.is
+
+pub returns-in_default : goal.returns-in_default
+returns-in_default t c =
+    eight_decide c.args.ours.now c.args.theirs.now c.requires.ours c.requires.theirs _ (c.cmp-2.ensures ∙ λ i. nat_cmp (c.front_number.ensures i) (c.front_number-2.ensures i)) c.in_default.not-Equal

@@ -1,5 +1,4 @@
-use Rattle.std.proofs.Common.{arith}
-use Rattle.dist_world_model.specs.Happenings.{life_after_end}
+use Rattle.dist_world_model.proofs.Words.{arith, life_after_end}
 use Rattle.dist_world_lives.proofs.Edits.{at_set, at_past}
 use Rattle.dist_world_lives.proofs.incarnations.end_life.Goals as goal
 

@@ -1,5 +1,4 @@
-use Rattle.std.proofs.Common.{arith}
-use Rattle.dist_world_model.specs.Happenings.{shut_row}
+use Rattle.dist_world_model.proofs.Words.{arith, shut_row}
 use Rattle.dist_world_lives.proofs.Edits.{at_set, at_past}
 use Rattle.dist_world_lives.proofs.stepping.close_row.Goals as goal
 

@@ -1,8 +1,8 @@
 use Rattle.std.proofs.Common.{◌≡◌, ◌++◌, Ok, sym, ap, ◌∙◌}
-use Rattle.dist_core.specs.declared.reply.Reply.{Reply}
 use Rattle.dist_world_lives.specs.Stepping.{conns_with, undelivered_on}
 use Rattle.dist_world_lives.proofs.Places.{joined_on}
 use Rattle.dist_world_lives.proofs.stepping.make_step.Goals as goal
+use Rattle.dist_core.specs.declared.reply.Reply.{Reply}
 
 pub returns-clause-ok : goal.returns-clause-ok
 returns-clause-ok c =

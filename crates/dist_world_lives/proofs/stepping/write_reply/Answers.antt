@@ -1,6 +1,5 @@
 use Rattle.std.proofs.Common.{◌≡◌, Option, Some, None, is_some, refl}
-use Rattle.dist_core_ends.specs.declared.known.UpRecord.{UpRecord}
-use Rattle.dist_world_model.specs.Rows.{rises}
+use Rattle.dist_world_model.proofs.Words.{UpRecord, rises}
 use Rattle.dist_world_lives.proofs.Writing.{as_marked}
 use Rattle.dist_world_lives.proofs.stepping.write_reply.Goals as goal
 

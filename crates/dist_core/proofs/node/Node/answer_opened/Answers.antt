@@ -1,10 +1,7 @@
 use Rattle.std.proofs.Common.{◌≡◌, ◌∙◌, Option, Some, Ok, sym, ap, slice_get}
-use Rattle.dist_core_ends.specs.declared.known.End.{End}
+use Rattle.dist_core.proofs.Words.{End, NodeState, effect_by, at_end, opening_effect}
 use Rattle.dist_core_ends.specs.declared.known.End.TheVariants as ends
 use Rattle.dist_core.specs.declared.event.Event.TheVariants as event
-use Rattle.dist_core.specs.Node.{NodeState}
-use Rattle.dist_core.specs.Progress.{effect_by}
-use Rattle.dist_core.specs.Step.{at_end, opening_effect}
 use Rattle.dist_core.proofs.Kept.{reported-so}
 use Rattle.dist_core.proofs.node.Node.answer_opened.Goals as goal
 

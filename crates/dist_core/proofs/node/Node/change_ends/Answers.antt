@@ -1,7 +1,5 @@
 use Rattle.std.proofs.Common.{◌≤◌, ◌+◌, List, length, sym, subst}
-use Rattle.dist_core_ends.specs.declared.known.End.{End}
-use Rattle.dist_core.specs.declared.effect.Effect.{Effect}
-use Rattle.dist_core.specs.Node.{NodeState, ends_after, limits_of}
+use Rattle.dist_core.proofs.Words.{End, Effect, NodeState, ends_after, limits_of}
 use Rattle.dist_core.proofs.node.Node.change_ends.Goals as goal
 
 pub invariant_of-self : goal.invariant_of-self

@@ -1,10 +1,6 @@
 use Rattle.std.proofs.Common.{sym, ◌∙◌, arith}
-use Rattle.std.specs.List.{list_any}
+use Rattle.dist_core.proofs.Words.{list_any, len-entries, at_drop_all, table_of, has_usual}
 use Rattle.std.specs.FinMap as map
-use Rattle.std.specs.FinMap.{len-entries}
-use Rattle.std.proofs.lemmas.List.{at_drop_all}
-use Rattle.dist_core_ends.specs.Ends.{table_of}
-use Rattle.dist_core.specs.Changing.{has_usual}
 use Rattle.dist_core.proofs.UsualCookies.{found-at, none-at}
 use Rattle.dist_core.proofs.node.Node.is_usual_in_use.Goals as goal
 

@@ -1,9 +1,7 @@
 -- Any entry that is up under the usual cookie is among those that are left.
 use Rattle.std.proofs.Common.{◌≡◌, drop}
-use Rattle.std.specs.List.{list_any}
+use Rattle.dist_core.proofs.Words.{list_any, table_of, has_usual}
 use Rattle.std.specs.FinMap as map
-use Rattle.dist_core_ends.specs.Ends.{table_of}
-use Rattle.dist_core.specs.Changing.{has_usual}
 use Rattle.dist_core.proofs.node.Node.is_usual_in_use.Given as goal
 
 abbrev pub invariant-loop-i : goal.invariant-loop-i

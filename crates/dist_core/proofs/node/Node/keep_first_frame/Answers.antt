@@ -1,21 +1,18 @@
-use Rattle.std.proofs.Common.{◌≡◌, ◌∙◌, Option, Ok, refl, ap}
-use Rattle.dist_core_ends.specs.declared.known.End.{End}
-use Rattle.dist_core.specs.Step.{effect_of, at_end, framed_from, sender_to}
+use Rattle.std.proofs.Common.{◌∙◌, Option, refl, ap}
+use Rattle.dist_core.proofs.Words.{End, at_end, framed_from, sender_to}
+use Rattle.dist_core.specs.Step.{effect_of}
 use Rattle.dist_core.specs.declared.event.Event.TheVariants as event
 use Rattle.dist_core.proofs.Doing.{can-do}
-use Rattle.dist_core.proofs.InPlace.{frame-effect}
 use Rattle.dist_core.proofs.Kept.{kept-done}
 use Rattle.dist_core.proofs.node.Node.keep_first_frame.Goals as goal
 
 pub keep_effect-requires : goal.keep_effect-requires
+unfolding effect_of
 keep_effect-requires g c =
     let n = c.args.self.now in
-    let v = event.Frame c.args.id c.args.body.now in
-    let f = c.in_ok-effect.effect in
-    let is : effect_of n v c.args.fresh ≡ Ok f = frame-effect n c.args.id c.args.body.now c.args.fresh
-    ∙ ap (λ (o : Option End). at_end o (λ e. framed_from n c.args.id c.args.fresh c.args.body.now e (sender_to e))) c.requires ∙ c.in_ok-effect.ensures in
     let kept = c.counted_steps.ensures in
-    can-do n v c.args.fresh f is refl kept.few kept.bounded kept.numbered
+    can-do n (event.Frame c.args.id c.args.body.now) c.args.fresh c.in_ok-effect.effect
+    (ap (λ (o : Option End). at_end o (λ e. framed_from n c.args.id c.args.fresh c.args.body.now e (sender_to e))) c.requires ∙ c.in_ok-effect.ensures) refl kept.few kept.bounded kept.numbered
 
 pub returns : goal.returns
 returns g c =

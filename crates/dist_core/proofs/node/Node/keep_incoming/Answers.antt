@@ -1,14 +1,16 @@
-use Rattle.std.proofs.Common.{◌∙◌, refl}
+use Rattle.std.proofs.Common.{refl}
+use Rattle.dist_core.specs.Step.{effect_of}
 use Rattle.dist_core.specs.declared.event.Event.TheVariants as event
 use Rattle.dist_core.proofs.Doing.{can-do}
-use Rattle.dist_core.proofs.Kept.{incoming-effect, kept-done}
+use Rattle.dist_core.proofs.Kept.{kept-done}
 use Rattle.dist_core.proofs.node.Node.keep_incoming.Goals as goal
 
 pub keep_effect-requires : goal.keep_effect-requires
+unfolding effect_of
 keep_effect-requires g c =
     let n = c.args.self.now in
     let kept = c.counted_steps.ensures in
-    can-do n (event.Incoming c.args._link) 0 c.in_ok-effect.effect (incoming-effect n c.args._link 0 ∙ c.in_ok-effect.ensures) refl kept.few kept.bounded kept.numbered
+    can-do n (event.Incoming c.args._link) 0 c.in_ok-effect.effect c.in_ok-effect.ensures refl kept.few kept.bounded kept.numbered
 
 pub returns : goal.returns
 returns g c =

@@ -1,6 +1,5 @@
 use Rattle.std.proofs.Common.{subst}
-use Rattle.dist_core.specs.Clauses.{loss_reply}
-use Rattle.dist_core.specs.declared.reply.Reply.{Reply}
+use Rattle.dist_core.proofs.Words.{loss_reply, Reply}
 use Rattle.dist_core.proofs.node.Node.keep_loss.Goals as goal
 
 pub returns-clause-step : goal.returns-clause-step

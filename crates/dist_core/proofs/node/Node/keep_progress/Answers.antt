@@ -1,8 +1,6 @@
 use Rattle.std.proofs.Common.{◌≡◌, ◌≤◌, ◌+◌, List, length, arith, ap, sym, subst}
-use Rattle.dist_core_ends.specs.declared.known.End.{End}
+use Rattle.dist_core.proofs.Words.{End, NodeState, ends_after, limits_of, CanProgress, effect_by}
 use Rattle.dist_core_ends.specs.declared.known.End.TheVariants as ends
-use Rattle.dist_core.specs.Node.{NodeState, ends_after, limits_of}
-use Rattle.dist_core.specs.Progress.{CanProgress, effect_by}
 use Rattle.dist_core.proofs.Counts.{length-after}
 use Rattle.dist_core.proofs.Numbers.{stays}
 use Rattle.dist_core.proofs.InPlace.{end-by}

@@ -1,14 +1,6 @@
 use Rattle.std.proofs.Common.{rules, ◌≡◌, ◌∙◌, true, Option, Some, Ok, refl, sym, length, ap, arith, slice_get}
-use Rattle.std.proofs.lemmas.Option.{slice_get_within}
-use Rattle.dist_core_ends.specs.declared.known.End.{End}
+use Rattle.dist_core.proofs.Words.{slice_get_within, End, is_open, Effect, IsGone, NodeState, at_end, closes, stays-closing}
 use Rattle.dist_core_ends.specs.declared.known.End.TheVariants as ends
-use Rattle.dist_core_ends.specs.Ends.{is_open}
-use Rattle.dist_core.specs.declared.effect.Effect.{Effect}
-use Rattle.dist_core.specs.Losses.{IsGone}
-use Rattle.dist_core.specs.Node.{NodeState}
-use Rattle.dist_core.specs.Step.{at_end}
-use Rattle.dist_core.specs.Effects.{closes}
-use Rattle.dist_core_ends.proofs.Fitting.{stays-closing}
 use Rattle.dist_core.proofs.Counts.{length-within}
 use Rattle.dist_core.proofs.Losses.{gone_at, open_found}
 use Rattle.dist_core.proofs.node.Node.lose.Goals as goal

@@ -1,10 +1,7 @@
 use Rattle.std.proofs.Common.{◌∙◌, Bool, Option, Ok, Err, cond, sym, ap}
-use Rattle.dist_messages.specs.Reading.{read}
-use Rattle.dist_messages.specs.declared.message.Side.{Side}
+use Rattle.dist_core.proofs.Words.{read, Side, Effect, framed_from, message_effect}
 use Rattle.dist_core_ends.specs.declared.known.End.TheVariants as ends
-use Rattle.dist_core.specs.declared.effect.Effect.{Effect}
 use Rattle.dist_core.specs.declared.step_error.StepError.TheVariants as error
-use Rattle.dist_core.specs.Step.{framed_from, message_effect}
 use Rattle.dist_core.proofs.node.Node.progress_of_frame.Goals as goal
 
 pub returns-clause-effect : goal.returns-clause-effect

@@ -1,45 +1,38 @@
-use Rattle.std.proofs.Common.{sym, subst, Result}
-use Rattle.dist_core.specs.Keeping.{KeepsStep}
-use Rattle.dist_core.specs.Node.{NodeState}
-use Rattle.dist_core.specs.Step.{step}
-use Rattle.dist_core.specs.declared.event.Event.{Event}
-use Rattle.dist_core.specs.declared.event.Event.TheVariants as event
-use Rattle.dist_core.specs.declared.reply.Reply.{Reply}
-use Rattle.dist_core.specs.declared.step_error.StepError.{StepError}
-use Rattle.dist_core.proofs.Doing.{dial-effect}
-use Rattle.dist_core.proofs.InPlace.{frame-effect, opened-effect}
-use Rattle.dist_core.proofs.Kept.{incoming-effect, same-loss, tick-effect, whole}
+use Rattle.std.proofs.Common.{sym, subst}
+use Rattle.dist_core.proofs.Words.{KeepsStep, Event}
+use Rattle.dist_core.specs.Step.{effect_of, step}
+use Rattle.dist_core.proofs.Kept.{same-loss}
 use Rattle.dist_core.proofs.node.Node.step_kept.Goals as goal
 
 pub returns-in-Dial-clause-step : goal.returns-in-Dial-clause-step
+unfolding effect_of
 returns-in-Dial-clause-step g c =
     let n = c.args.self.now in
-    let P : Result (Reply × NodeState) StepError → Type 0 = λ s. KeepsStep (g.K.Keeper.keeps c.args.keeper.now) c.keep_dial.result s n c.keep_dial.new.self in
-    subst P (whole n c.args.event.now (event.Dial c.in-Dial.peer c.in-Dial.opening) c.args.fresh _ c.in-Dial.is (dial-effect n c.in-Dial.peer c.in-Dial.opening c.args.fresh)) c.keep_dial.ensures
+    subst (λ (v : Event). KeepsStep (g.K.Keeper.keeps c.args.keeper.now) c.keep_dial.result (step n v c.args.fresh) n c.keep_dial.new.self) (sym c.in-Dial.is) c.keep_dial.ensures
 
 pub returns-in-Incoming-clause-step : goal.returns-in-Incoming-clause-step
+unfolding effect_of
 returns-in-Incoming-clause-step g c =
     let n = c.args.self.now in
-    let P : Result (Reply × NodeState) StepError → Type 0 = λ s. KeepsStep (g.K.Keeper.keeps c.args.keeper.now) c.keep_incoming.result s n c.keep_incoming.new.self in
-    subst P (whole n c.args.event.now (event.Incoming c.in-Incoming.link) c.args.fresh _ c.in-Incoming.is (incoming-effect n c.in-Incoming.link c.args.fresh)) c.keep_incoming.ensures
+    subst (λ (v : Event). KeepsStep (g.K.Keeper.keeps c.args.keeper.now) c.keep_incoming.result (step n v c.args.fresh) n c.keep_incoming.new.self) (sym c.in-Incoming.is) c.keep_incoming.ensures
 
 pub returns-in-Opened-clause-step : goal.returns-in-Opened-clause-step
+unfolding effect_of
 returns-in-Opened-clause-step g c =
     let n = c.args.self.now in
-    let P : Result (Reply × NodeState) StepError → Type 0 = λ s. KeepsStep (g.K.Keeper.keeps c.args.keeper.now) c.keep_opened.result s n c.keep_opened.new.self in
-    subst P (whole n c.args.event.now (event.Opened c.in-Opened.id c.in-Opened.link) c.args.fresh _ c.in-Opened.is (opened-effect n c.in-Opened.id c.in-Opened.link c.args.fresh)) c.keep_opened.ensures
+    subst (λ (v : Event). KeepsStep (g.K.Keeper.keeps c.args.keeper.now) c.keep_opened.result (step n v c.args.fresh) n c.keep_opened.new.self) (sym c.in-Opened.is) c.keep_opened.ensures
 
 pub returns-in-Frame-clause-step : goal.returns-in-Frame-clause-step
+unfolding effect_of
 returns-in-Frame-clause-step g c =
     let n = c.args.self.now in
-    let P : Result (Reply × NodeState) StepError → Type 0 = λ s. KeepsStep (g.K.Keeper.keeps c.args.keeper.now) c.keep_frame.result s n c.keep_frame.new.self in
-    subst P (whole n c.args.event.now (event.Frame c.in-Frame.id c.in-Frame.body) c.args.fresh _ c.in-Frame.is (frame-effect n c.in-Frame.id c.in-Frame.body c.args.fresh)) c.keep_frame.ensures
+    subst (λ (v : Event). KeepsStep (g.K.Keeper.keeps c.args.keeper.now) c.keep_frame.result (step n v c.args.fresh) n c.keep_frame.new.self) (sym c.in-Frame.is) c.keep_frame.ensures
 
 pub returns-in-Tick-clause-step : goal.returns-in-Tick-clause-step
+unfolding effect_of
 returns-in-Tick-clause-step g c =
     let n = c.args.self.now in
-    let P : Result (Reply × NodeState) StepError → Type 0 = λ s. KeepsStep (g.K.Keeper.keeps c.args.keeper.now) c.keep_tick.result s n c.keep_tick.new.self in
-    subst P (whole n c.args.event.now (event.Tick c.in-Tick.id) c.args.fresh _ c.in-Tick.is (tick-effect n c.in-Tick.id c.args.fresh)) c.keep_tick.ensures
+    subst (λ (v : Event). KeepsStep (g.K.Keeper.keeps c.args.keeper.now) c.keep_tick.result (step n v c.args.fresh) n c.keep_tick.new.self) (sym c.in-Tick.is) c.keep_tick.ensures
 
 pub returns-in-Lost-clause-step : goal.returns-in-Lost-clause-step
 returns-in-Lost-clause-step g c =

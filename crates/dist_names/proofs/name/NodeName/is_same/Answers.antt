@@ -1,6 +1,10 @@
-use Rattle.dist_names.proofs.Fronts.{front_differs}
+use Rattle.std.proofs.Common.{sym, ◌∙◌}
+use Rattle.std.proofs.lemmas.Map.Text.{is_eq-slice_cmp}
+use Rattle.dist_names.proofs.Orders.{answered_each}
 use Rattle.dist_names.proofs.name.NodeName.is_same.Goals as goal
 
-pub returns-else-ours-theirs-clause-computed : goal.returns-else-ours-theirs-clause-computed
-returns-else-ours-theirs-clause-computed c =
-    front_differs c.args.self.now c.args.other.now _ _ c.front-ours.ensures.same c.front-theirs.ensures.same c.if-ours-theirs.false
+pub returns-clause-computed : goal.returns-clause-computed
+returns-clause-computed c = c.eq.ensures ∙ sym (is_eq-slice_cmp c.args.self.now c.args.other.now)
+
+pub returns-clause-each : goal.returns-clause-each
+returns-clause-each c = answered_each c.args.self.now c.args.other.now c.eq.result (returns-clause-computed c)

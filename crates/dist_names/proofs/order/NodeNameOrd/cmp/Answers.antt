@@ -1,38 +1,21 @@
-use Rattle.std.proofs.Common.{sym, ◌∙◌, ◌-◌, length, drop}
-use Rattle.dist_names.proofs.Bytes.{IsBytes-drop, IsBytes-take}
-use Rattle.dist_names.proofs.Fronts.{behind_fronts, bytes_of, front_decides, next_decides, returned_bytes}
+use Rattle.std.proofs.Common.{◌∙◌, drop}
+use Rattle.dist_names.proofs.Fronts.{fronts_cmp, fronts_decide, behind_fronts, visible_behind}
+use Rattle.dist_names.specs.Order.{name_cmp}
 use Rattle.dist_names.proofs.order.NodeNameOrd.cmp.Goals as goal
 
-pub returns-then-ours-theirs : goal.returns-then-ours-theirs
-returns-then-ours-theirs c =
-    let ours = c.front-ours.ensures in
-    let theirs = c.front-theirs.ensures in
-    c.cmp.ensures ∙ front_decides _ _ (bytes_of _ ours.good) (bytes_of _ theirs.good) _ _ ours.same theirs.same c.if-ours-theirs.true
+pub order_of-requires-clause-ours : goal.order_of-requires-clause-ours
+order_of-requires-clause-ours c = visible_behind _ _ _ c.behind.ensures c.bytes.ensures.same c.bytes.ensures.good
 
-pub returns-then-our_next-their_next : goal.returns-then-our_next-their_next
-returns-then-our_next-their_next c =
-    let ours = c.next-our_next.ensures in
-    let theirs = c.next-their_next.ensures in
-    let first = c.if-ours-theirs.false in
-    c.cmp-then-our_next-their_next.ensures ∙ next_decides _ _ (bytes_of _ ours.good) (bytes_of _ theirs.good) (sym c.front-ours.ensures.same ∙ first ∙ c.front-theirs.ensures.same) _ _ ours.same theirs.same c.if-our_next-their_next.true
+pub order_of-requires-clause-theirs : goal.order_of-requires-clause-theirs
+order_of-requires-clause-theirs c = visible_behind _ _ _ c.behind-in-Equal.ensures c.bytes-in-Equal.ensures.same c.bytes-in-Equal.ensures.good
 
-pub order_of-requires : goal.order_of-requires
-order_of-requires c =
-    let ours = c.bytes-our_text.result.now in
-    let theirs = c.bytes-their_text.result.now in
-    let our_bytes = returned_bytes _ ours c.bytes-our_text.ensures.same c.bytes-our_text.ensures.good in
-    let their_bytes = returned_bytes _ theirs c.bytes-their_text.ensures.same c.bytes-their_text.ensures.good in
-    record {
-      bytes = (
-        IsBytes-take (length ours - 32) (drop 32 ours) (IsBytes-drop 32 ours our_bytes),
-        IsBytes-take (length theirs - 32) (drop 32 theirs) (IsBytes-drop 32 theirs their_bytes),
-      );
-    }
-
-pub returns : goal.returns
-returns c =
+pub returns-in-Equal : goal.returns-in-Equal
+returns-in-Equal c =
     c.order_of.ensures
-    ∙ behind_fronts _ _ _ _ c.bytes-our_text.ensures.same c.bytes-their_text.ensures.same c.bytes-our_text.ensures.good c.bytes-their_text.ensures.good
-    c.if-our_text-lt32.false c.if-their_text-lt32.false
-    (sym c.front-ours.ensures.same ∙ c.if-ours-theirs.false ∙ c.front-theirs.ensures.same)
-    (sym c.next-our_next.ensures.same ∙ c.if-our_next-their_next.false ∙ c.next-their_next.ensures.same)
+    ∙ (λ i. name_cmp (c.behind.ensures i) (c.behind-in-Equal.ensures i))
+    ∙ (λ i. name_cmp (drop 32 (c.bytes.ensures.same i)) (drop 32 (c.bytes-in-Equal.ensures.same i)))
+    ∙ behind_fronts c.args.self.now c.args.other.now c.bytes.ensures.good c.bytes-in-Equal.ensures.good _ (c.cmp.ensures ∙ λ i. fronts_cmp (c.fronts.ensures.same i) (c.fronts-2.ensures.same i)) c.in-Equal.is
+
+pub returns-in_default : goal.returns-in_default
+returns-in_default c =
+    fronts_decide c.args.self.now c.args.other.now c.fronts.ensures.good c.fronts-2.ensures.good _ (c.cmp.ensures ∙ λ i. fronts_cmp (c.fronts.ensures.same i) (c.fronts-2.ensures.same i)) c.in_default.not-Equal

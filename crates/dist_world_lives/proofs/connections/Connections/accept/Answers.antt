@@ -1,5 +1,4 @@
-use Rattle.std.proofs.Common.{arith}
-use Rattle.dist_world_model.specs.Happenings.{accepted_by}
+use Rattle.dist_world_model.proofs.Words.{arith, accepted_by}
 use Rattle.dist_world_lives.proofs.Edits.{at_set, at_past}
 use Rattle.dist_world_lives.proofs.connections.Connections.accept.Goals as goal
 

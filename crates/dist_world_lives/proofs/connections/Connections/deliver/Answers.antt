@@ -1,5 +1,4 @@
-use Rattle.std.proofs.Common.{arith}
-use Rattle.dist_world_model.specs.Delivery.{change_to, after_delivery}
+use Rattle.dist_world_model.proofs.Words.{arith, change_to, after_delivery}
 use Rattle.dist_world_lives.proofs.Edits.{at_set}
 use Rattle.dist_world_lives.proofs.connections.Connections.deliver.Goals as goal
 

@@ -1,7 +1,5 @@
 use Rattle.std.proofs.Common.{◌≡◌, length, None, ◌∙◌, ap, arith}
-use Rattle.dist_world_model.specs.Lists.{first_where}
-use Rattle.dist_world_model.specs.World.{Life, runs_for}
-use Rattle.dist_world_model.specs.Happenings.{new_life}
+use Rattle.dist_world_model.proofs.Words.{first_where, Life, runs_for, new_life}
 use Rattle.dist_world_lives.proofs.Indexes.{pushed, as_wide}
 use Rattle.dist_world_lives.proofs.incarnations.Lives.begin.Goals as goal
 

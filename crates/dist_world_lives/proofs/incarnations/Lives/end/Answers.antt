@@ -1,6 +1,5 @@
 use Rattle.std.proofs.Common.{◌≡◌, ℕ, List, Option, Some, sym, ◌∙◌, ap}
-use Rattle.dist_world_model.specs.Lists.{first_where}
-use Rattle.dist_world_model.specs.World.{runs_for}
+use Rattle.dist_world_model.proofs.Words.{first_where, runs_for}
 use Rattle.dist_world_lives.specs.Index.{index_at}
 use Rattle.dist_world_lives.proofs.Indexes.{finished}
 use Rattle.dist_world_lives.proofs.incarnations.Lives.end.Goals as goal

@@ -1,5 +1,4 @@
-use Rattle.std.proofs.Common.{refl}
-use Rattle.dist_world_model.specs.Happenings.{reached_life}
+use Rattle.dist_world_model.proofs.Words.{refl, reached_life}
 use Rattle.dist_world_lives.proofs.Indexes.{changed}
 use Rattle.dist_world_lives.proofs.incarnations.Lives.reach.Goals as goal
 

@@ -1,0 +1,10 @@
+use Rattle.std.proofs.Common.{rules, subst}
+use Rattle.std.specs.Prelude.{IfErr}
+use Rattle.dist_audit.specs.Audit.{RefusesLine, UnlessShort}
+use Rattle.dist_audit.specs.Lines.{NodeLine}
+use Rattle.dist_audit.proofs.walk.follow.Goals as goal
+
+pub returns-clause-which : goal.returns-clause-which
+returns-clause-which c =
+    subst (λ (t : NodeLine). IfErr c.follow_line.result (λ e. UnlessShort e (RefusesLine e c.args.lines.now c.args.count c.args.links.now c.args.world.now t)))
+    (search rules) c.follow_line.ensures.which

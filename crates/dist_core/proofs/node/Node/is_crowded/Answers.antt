@@ -1,5 +1,0 @@
-use Rattle.std.proofs.Common.{rules}
-use Rattle.dist_core.proofs.node.Node.is_crowded.Goals as goal
-
-pub returns : goal.returns
-returns c = search rules
