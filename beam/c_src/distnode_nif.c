@@ -9,12 +9,18 @@
  * the process that made the node gets a message of it before the lock is released: so the messages come in the order of the
  * steps, and a process that is killed right after its step has reported it.
  *
- * An end that came up stays up until gone(): a frame that would close it is held, and lost() leaves it as it is. */
+ * An end that came up stays up until gone(): a frame that would close it is held, and lost() leaves it as it is.
+ *
+ * Where a recording was asked for, each call that changes a node is written with its answer before the lock is released: so nothing that
+ * it said is sent before it stands there, and a process that is killed leaves all that others can know of it. */
 #define _GNU_SOURCE
 #include <distnode.h>
 #include <erl_nif.h>
+#include <fcntl.h>
 #include <string.h>
 #include <sys/random.h>
+#include <sys/uio.h>
+#include <time.h>
 
 /* owner: the process that made the node. changes: how often a cookie or the allow list was changed. */
 typedef struct {
@@ -133,11 +139,57 @@ static void report(ErlNifEnv *env, kept *k, ERL_NIF_TERM node, ERL_NIF_TERM what
     (void)enif_send(env, &k->owner, NULL, enif_make_tuple5(env, a_made, node, enif_make_pid(env, &self), what, step));
 }
 
-/* What a step of an end's own process did; `what` is the end's socket, where the step may bring it up. */
+/* What a step of an end's own process did; `what` is the controller of the end's socket, where the step may bring it up. */
 static ERL_NIF_TERM own_step_term(ErlNifEnv *env, kept *k, ERL_NIF_TERM node, uint32_t code, const dn_reply *reply, ERL_NIF_TERM what) {
     ERL_NIF_TERM term = step_term(env, k, code, reply);
     if (reply->closed || (!code && reply->up)) report(env, k, node, what, term);
     return term;
+}
+
+/* ---- a recording of the calls */
+
+/* The file, where one was asked for. */
+static int recording = -1;
+
+/* Appends {Nanoseconds, Caller, Call, Arguments, Answer} behind its length, by one write. The nanoseconds are those since this machine
+ * was started: by them the recordings of several emulators are put in one order. What can't be written is missing there. */
+static void record(ErlNifEnv *env, const char *call, int argc, const ERL_NIF_TERM argv[], ERL_NIF_TERM answer) {
+    struct timespec now = {0, 0};
+    ErlNifPid self;
+    ErlNifBinary bytes;
+    if (!enif_self(env, &self)) return;
+    (void)clock_gettime(CLOCK_MONOTONIC, &now);
+    ERL_NIF_TERM line = enif_make_tuple5(env, enif_make_uint64(env, (ErlNifUInt64)now.tv_sec * 1000000000 + (ErlNifUInt64)now.tv_nsec),
+                                         enif_make_pid(env, &self), enif_make_atom(env, call),
+                                         enif_make_list_from_array(env, argv, (unsigned)argc), answer);
+    if (!enif_term_to_binary(env, line, &bytes)) return;
+    uint8_t size[4] = {(uint8_t)(bytes.size >> 24), (uint8_t)(bytes.size >> 16), (uint8_t)(bytes.size >> 8), (uint8_t)bytes.size};
+    struct iovec parts[2] = {{size, sizeof size}, {bytes.data, bytes.size}};
+    ssize_t written = writev(recording, parts, 2);
+    (void)written;
+    enif_release_binary(&bytes);
+}
+
+/* Ends each call that changes a node, which has taken its lock. */
+static ERL_NIF_TERM done(ErlNifEnv *env, kept *k, const char *call, int argc, const ERL_NIF_TERM argv[], ERL_NIF_TERM answer) {
+    if (recording >= 0) record(env, call, argc - 1, argv + 1, answer);
+    enif_mutex_unlock(k->lock);
+    return answer;
+}
+
+/* recording(File): from now on the calls are recorded there, behind what the file has. It has cookies: its owner alone may read it. */
+static ERL_NIF_TERM nif_recording(ErlNifEnv *env, int argc, const ERL_NIF_TERM argv[]) {
+    char file[4096];
+    (void)argc;
+    if (enif_get_string(env, argv[0], file, sizeof file, ERL_NIF_LATIN1) <= 0) return enif_make_badarg(env);
+    if (recording < 0) recording = open(file, O_WRONLY | O_CREAT | O_APPEND | O_CLOEXEC, 0600);
+    return recording >= 0 ? a_ok : a_error;
+}
+
+/* connection(Own, Other): the caller has a connection with these addresses */
+static ERL_NIF_TERM nif_connection(ErlNifEnv *env, int argc, const ERL_NIF_TERM argv[]) {
+    if (recording >= 0) record(env, "connection", argc, argv, a_ok);
+    return a_ok;
 }
 
 /* ---- the node, its cookies and its allow list */
@@ -157,7 +209,6 @@ static ERL_NIF_TERM nif_new(ErlNifEnv *env, int argc, const ERL_NIF_TERM argv[])
     ErlNifBinary name, cookie;
     ErlNifUInt64 flags, required;
     unsigned creation, most_ends;
-    (void)argc;
     if (!bytes_of(env, argv[0], &name) || !bytes_of(env, argv[1], &cookie) || !enif_get_uint64(env, argv[2], &flags) ||
         !enif_get_uint64(env, argv[3], &required) || !enif_get_uint(env, argv[4], &creation) ||
         !enif_get_uint(env, argv[5], &most_ends))
@@ -170,48 +221,43 @@ static ERL_NIF_TERM nif_new(ErlNifEnv *env, int argc, const ERL_NIF_TERM argv[])
     uint32_t code = dn_node_new(&k->node, name.data, name.size, cookie.data, cookie.size, &setup);
     ERL_NIF_TERM node = enif_make_resource(env, k);
     enif_release_resource(k);
+    if (recording >= 0) record(env, "new", argc, argv, code_term(env, code));
     return code ? fault(env, code) : enif_make_tuple2(env, a_ok, node);
 }
 
 /* drop(Node): no step is made any more */
 static ERL_NIF_TERM nif_drop(ErlNifEnv *env, int argc, const ERL_NIF_TERM argv[]) {
     kept *k;
-    (void)argc;
     if (!kept_of(env, argv[0], &k)) return enif_make_badarg(env);
     enif_mutex_lock(k->lock);
     uint32_t code = dn_node_free(&k->node);
-    enif_mutex_unlock(k->lock);
-    return code_term(env, code);
+    return done(env, k, "drop", argc, argv, code_term(env, code));
 }
 
 /* cookie(Node, Peer, Cookie) */
 static ERL_NIF_TERM nif_cookie(ErlNifEnv *env, int argc, const ERL_NIF_TERM argv[]) {
     kept *k;
     ErlNifBinary peer, cookie;
-    (void)argc;
     if (!kept_of(env, argv[0], &k) || !bytes_of(env, argv[1], &peer) || !bytes_of(env, argv[2], &cookie))
         return enif_make_badarg(env);
     enif_mutex_lock(k->lock);
     uint32_t code = dn_node_cookie(&k->node, peer.data, peer.size, cookie.data, cookie.size);
     k->changes++;
-    enif_mutex_unlock(k->lock);
-    return code_term(env, code);
+    return done(env, k, "cookie", argc, argv, code_term(env, code));
 }
 
 /* usual_cookie(Node, Cookie) */
 static ERL_NIF_TERM nif_usual_cookie(ErlNifEnv *env, int argc, const ERL_NIF_TERM argv[]) {
     kept *k;
     ErlNifBinary cookie;
-    (void)argc;
     if (!kept_of(env, argv[0], &k) || !bytes_of(env, argv[1], &cookie)) return enif_make_badarg(env);
     enif_mutex_lock(k->lock);
     uint32_t code = dn_node_usual_cookie(&k->node, cookie.data, cookie.size);
     k->changes++;
-    enif_mutex_unlock(k->lock);
-    return code_term(env, code);
+    return done(env, k, "usual_cookie", argc, argv, code_term(env, code));
 }
 
-static ERL_NIF_TERM listed(ErlNifEnv *env, const ERL_NIF_TERM argv[],
+static ERL_NIF_TERM listed(ErlNifEnv *env, const char *name, int argc, const ERL_NIF_TERM argv[],
                            uint32_t (*call)(dn_node *, const uint8_t *, size_t)) {
     kept *k;
     ErlNifBinary peer;
@@ -219,20 +265,17 @@ static ERL_NIF_TERM listed(ErlNifEnv *env, const ERL_NIF_TERM argv[],
     enif_mutex_lock(k->lock);
     uint32_t code = call(&k->node, peer.data, peer.size);
     k->changes++;
-    enif_mutex_unlock(k->lock);
-    return code_term(env, code);
+    return done(env, k, name, argc, argv, code_term(env, code));
 }
 
 /* allow(Node, Peer) */
 static ERL_NIF_TERM nif_allow(ErlNifEnv *env, int argc, const ERL_NIF_TERM argv[]) {
-    (void)argc;
-    return listed(env, argv, dn_node_allow);
+    return listed(env, "allow", argc, argv, dn_node_allow);
 }
 
 /* disallow(Node, Peer) */
 static ERL_NIF_TERM nif_disallow(ErlNifEnv *env, int argc, const ERL_NIF_TERM argv[]) {
-    (void)argc;
-    return listed(env, argv, dn_node_disallow);
+    return listed(env, "disallow", argc, argv, dn_node_disallow);
 }
 
 /* a node and a peer are given: takes the node's lock and the peer's entry */
@@ -249,12 +292,10 @@ static ERL_NIF_TERM nif_no_cookie(ErlNifEnv *env, int argc, const ERL_NIF_TERM a
     ErlNifBinary peer;
     dn_entry entry = {0, 0, 0};
     uint32_t code;
-    (void)argc;
     if (!entry_of(env, argv, &k, &peer, &entry, &code)) return enif_make_badarg(env);
     if (!code) code = entry.state ? DN_PEER_IN_USE : dn_node_no_cookie(&k->node, peer.data, peer.size);
     if (!code) k->changes++;
-    enif_mutex_unlock(k->lock);
-    return code_term(env, code);
+    return done(env, k, "no_cookie", argc, argv, code_term(env, code));
 }
 
 /* changes(Node): how often a cookie or the allow list was changed */
@@ -287,26 +328,22 @@ static ERL_NIF_TERM nif_dial(ErlNifEnv *env, int argc, const ERL_NIF_TERM argv[]
     kept *k;
     ErlNifBinary peer;
     dn_reply reply = {0};
-    (void)argc;
     if (!kept_of(env, argv[0], &k) || !bytes_of(env, argv[1], &peer)) return enif_make_badarg(env);
     enif_mutex_lock(k->lock);
     uint32_t code = dn_node_dial(&k->node, peer.data, peer.size, 1, &reply);
     ERL_NIF_TERM term = step_term(env, k, code, &reply);
-    enif_mutex_unlock(k->lock);
-    return term;
+    return done(env, k, "dial", argc, argv, term);
 }
 
-/* incoming(Node) */
+/* incoming(Node, Pid): this process has the connection */
 static ERL_NIF_TERM nif_incoming(ErlNifEnv *env, int argc, const ERL_NIF_TERM argv[]) {
     kept *k;
     dn_reply reply = {0};
-    (void)argc;
     if (!kept_of(env, argv[0], &k)) return enif_make_badarg(env);
     enif_mutex_lock(k->lock);
     uint32_t code = dn_node_incoming(&k->node, &reply);
     ERL_NIF_TERM term = step_term(env, k, code, &reply);
-    enif_mutex_unlock(k->lock);
-    return term;
+    return done(env, k, "incoming", argc, argv, term);
 }
 
 /* opened(Node, Id), by the process that dials */
@@ -314,13 +351,11 @@ static ERL_NIF_TERM nif_opened(ErlNifEnv *env, int argc, const ERL_NIF_TERM argv
     kept *k;
     unsigned id;
     dn_reply reply = {0};
-    (void)argc;
     if (!kept_of(env, argv[0], &k) || !enif_get_uint(env, argv[1], &id)) return enif_make_badarg(env);
     enif_mutex_lock(k->lock);
     uint32_t code = dn_node_opened(&k->node, id, &reply);
     ERL_NIF_TERM term = own_step_term(env, k, argv[0], code, &reply, a_step);
-    enif_mutex_unlock(k->lock);
-    return term;
+    return done(env, k, "opened", argc, argv, term);
 }
 
 typedef struct {
@@ -345,13 +380,11 @@ static uint32_t take(frame *f, dn_reply *reply) {
 static ERL_NIF_TERM nif_body(ErlNifEnv *env, int argc, const ERL_NIF_TERM argv[]) {
     frame f;
     dn_reply reply = {0};
-    (void)argc;
     if (!frame_of(env, argv, &f)) return enif_make_badarg(env);
     enif_mutex_lock(f.k->lock);
     uint32_t code = take(&f, &reply);
     ERL_NIF_TERM term = step_term(env, f.k, code, &reply);
-    enif_mutex_unlock(f.k->lock);
-    return term;
+    return done(env, f.k, "body", argc, argv, term);
 }
 
 static ERL_NIF_TERM own_body(ErlNifEnv *env, frame *f, ERL_NIF_TERM node, ERL_NIF_TERM what) {
@@ -371,18 +404,16 @@ static uint32_t foresee(frame *f, dn_reply *reply) {
 static ERL_NIF_TERM nif_early_body(ErlNifEnv *env, int argc, const ERL_NIF_TERM argv[]) {
     frame f;
     dn_reply reply = {0};
-    (void)argc;
     if (!frame_of(env, argv, &f)) return enif_make_badarg(env);
     enif_mutex_lock(f.k->lock);
     uint32_t code = foresee(&f, &reply);
     ERL_NIF_TERM term = code       ? fault_step(env, code)
                         : reply.up ? enif_make_tuple2(env, a_ready, up_term(env, f.k, &reply))
                                    : own_body(env, &f, argv[0], a_step);
-    enif_mutex_unlock(f.k->lock);
-    return term;
+    return done(env, f.k, "early_body", argc, argv, term);
 }
 
-/* come_up(Node, Id, Body, Challenge, Common, Creation, Socket): as body/4, by the end's process; but `other`, and nothing done, where
+/* come_up(Node, Id, Body, Challenge, Common, Creation, Controller): as body/4, by the end's process; but `other`, and nothing done, where
  * that would bring the end up with other flags or another creation, 0 where the peer has none; and {held, Shown}, and nothing done,
  * where that would close this end, which is up and is to be gone first */
 static ERL_NIF_TERM nif_come_up(ErlNifEnv *env, int argc, const ERL_NIF_TERM argv[]) {
@@ -390,15 +421,13 @@ static ERL_NIF_TERM nif_come_up(ErlNifEnv *env, int argc, const ERL_NIF_TERM arg
     ErlNifUInt64 common;
     unsigned creation;
     dn_reply reply = {0};
-    (void)argc;
     if (!frame_of(env, argv, &f) || !enif_get_uint64(env, argv[4], &common) || !enif_get_uint(env, argv[5], &creation))
         return enif_make_badarg(env);
     enif_mutex_lock(f.k->lock);
     uint32_t code = foresee(&f, &reply);
     int is_other = reply.up && (reply.common != common || reply.creation != creation);
     ERL_NIF_TERM term = code ? fault_step(env, code) : is_other ? a_other : own_body(env, &f, argv[0], argv[6]);
-    enif_mutex_unlock(f.k->lock);
-    return term;
+    return done(env, f.k, "come_up", argc, argv, term);
 }
 
 /* The end is there, so its owner has to know of it whatever becomes of the frame. */
@@ -419,7 +448,6 @@ static ERL_NIF_TERM nif_arrive(ErlNifEnv *env, int argc, const ERL_NIF_TERM argv
     ErlNifUInt64 changes;
     dn_reply reply = {0};
     ERL_NIF_TERM term = a_changed;
-    (void)argc;
     if (!kept_of(env, argv[0], &f.k) || !enif_get_uint64(env, argv[1], &changes) || !bytes_of(env, argv[2], &f.body) ||
         !enif_get_uint(env, argv[3], &f.challenge))
         return enif_make_badarg(env);
@@ -428,8 +456,7 @@ static ERL_NIF_TERM nif_arrive(ErlNifEnv *env, int argc, const ERL_NIF_TERM argv
         uint32_t code = dn_node_incoming(&f.k->node, &reply);
         term = code ? own_step_term(env, f.k, argv[0], code, &reply, a_step) : first_frame(env, &f, argv[0], &reply);
     }
-    enif_mutex_unlock(f.k->lock);
-    return term;
+    return done(env, f.k, "arrive", argc, argv, term);
 }
 
 static uint32_t phase_of(kept *k, uint32_t id, uint32_t *why) {
@@ -441,7 +468,7 @@ static uint32_t phase_of(kept *k, uint32_t id, uint32_t *why) {
 }
 
 /* the end is lost, but where it is up while its socket is there */
-static ERL_NIF_TERM lost(ErlNifEnv *env, const ERL_NIF_TERM argv[], unsigned why, int is_gone) {
+static ERL_NIF_TERM lost(ErlNifEnv *env, int argc, const ERL_NIF_TERM argv[], unsigned why, int is_gone) {
     kept *k;
     unsigned id, known;
     dn_reply reply = {0};
@@ -450,21 +477,18 @@ static ERL_NIF_TERM lost(ErlNifEnv *env, const ERL_NIF_TERM argv[], unsigned why
     int is_shown = !is_gone && phase_of(k, id, &known) == DN_PHASE_UP;
     uint32_t code = is_shown ? DN_SHOWN_END : dn_node_lost(&k->node, id, why, &reply);
     ERL_NIF_TERM term = step_term(env, k, code, &reply);
-    enif_mutex_unlock(k->lock);
-    return term;
+    return done(env, k, is_gone ? "gone" : "lost", argc, argv, term);
 }
 
 /* lost(Node, Id, Why) with Why a number of dn_why: of an end that is not up */
 static ERL_NIF_TERM nif_lost(ErlNifEnv *env, int argc, const ERL_NIF_TERM argv[]) {
     unsigned why;
-    (void)argc;
-    return enif_get_uint(env, argv[2], &why) ? lost(env, argv, why, 0) : enif_make_badarg(env);
+    return enif_get_uint(env, argv[2], &why) ? lost(env, argc, argv, why, 0) : enif_make_badarg(env);
 }
 
 /* gone(Node, Id): the socket of this end, which came up, is gone from the emulator */
 static ERL_NIF_TERM nif_gone(ErlNifEnv *env, int argc, const ERL_NIF_TERM argv[]) {
-    (void)argc;
-    return lost(env, argv, DN_WHY_ENDED, 1);
+    return lost(env, argc, argv, DN_WHY_ENDED, 1);
 }
 
 /* give_up(Node, Peer): the end by which a peer that is not up is about to connect is lost; none, and nothing done, where there is none */
@@ -474,7 +498,6 @@ static ERL_NIF_TERM nif_give_up(ErlNifEnv *env, int argc, const ERL_NIF_TERM arg
     dn_entry entry = {0, 0, 0};
     dn_reply reply = {0};
     ERL_NIF_TERM term = a_none;
-    (void)argc;
     if (!kept_of(env, argv[0], &k) || !bytes_of(env, argv[1], &peer)) return enif_make_badarg(env);
     enif_mutex_lock(k->lock);
     if (!dn_node_entry(&k->node, peer.data, peer.size, &entry) &&
@@ -482,8 +505,7 @@ static ERL_NIF_TERM nif_give_up(ErlNifEnv *env, int argc, const ERL_NIF_TERM arg
         uint32_t code = dn_node_lost(&k->node, entry.pending, DN_WHY_GAVE_UP, &reply);
         term = step_term(env, k, code, &reply);
     }
-    enif_mutex_unlock(k->lock);
-    return term;
+    return done(env, k, "give_up", argc, argv, term);
 }
 
 /* ---- questions */
@@ -562,12 +584,13 @@ static int load(ErlNifEnv *env, void **priv, ERL_NIF_TERM info) {
 static ErlNifFunc functions[] = {
     {"new", 6, nif_new, 0},           {"cookie", 3, nif_cookie, 0},   {"usual_cookie", 2, nif_usual_cookie, 0},
     {"allow", 2, nif_allow, 0},       {"disallow", 2, nif_disallow, 0}, {"changes", 1, nif_changes, 0},
-    {"forget", 2, nif_forget, 0},     {"dial", 2, nif_dial, 0},       {"incoming", 1, nif_incoming, 0},
+    {"forget", 2, nif_forget, 0},     {"dial", 2, nif_dial, 0},       {"incoming", 2, nif_incoming, 0},
     {"opened", 2, nif_opened, 0},     {"body", 4, nif_body, 0},       {"early_body", 4, nif_early_body, 0},
     {"come_up", 7, nif_come_up, 0},   {"arrive", 4, nif_arrive, 0},   {"lost", 3, nif_lost, 0},
     {"cause", 2, nif_cause, 0},       {"up_end", 2, nif_up_end, 0},   {"peers", 1, nif_peers, 0},
     {"challenge", 0, nif_challenge, 0}, {"no_cookie", 2, nif_no_cookie, 0}, {"give_up", 2, nif_give_up, 0},
-    {"gone", 2, nif_gone, 0},         {"drop", 1, nif_drop, 0},
+    {"gone", 2, nif_gone, 0},         {"drop", 1, nif_drop, 0},       {"recording", 1, nif_recording, 0},
+    {"connection", 2, nif_connection, 0},
 };
 
 ERL_NIF_INIT(distnode_nif, functions, load, NULL, NULL, NULL)

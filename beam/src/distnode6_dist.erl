@@ -5,29 +5,26 @@
 -export([childspecs/0, listen/2, accept/1, accept_connection/5, setup/5, close/1, select/1, address/0,
          is_node_name/1, setopts/2, getopts/2]).
 
-childspecs() -> distnode_carrier:childspecs().
+childspecs() -> distnode_carrier:childspecs(distnode_tcp).
 
-listen(Name, Host) -> distnode_carrier:renamed(inet6_tcp_dist:listen(Name, Host)).
+listen(Name, Host) -> distnode_carrier:renamed(distnode_tcp, inet6_tcp_dist:listen(Name, Host)).
 
-accept(Listen) -> distnode_carrier:accept(inet6_tcp, Listen).
+accept(Listen) -> distnode_carrier:accept(distnode_tcp, inet6_tcp, Listen).
 
 accept_connection(Acceptor, Socket, MyNode, Allowed, SetupTime) ->
-    distnode_accept:start(inet6_tcp, Acceptor, Socket, MyNode, Allowed, SetupTime).
+    distnode_accept:start(distnode_tcp, Acceptor, Socket, MyNode, Allowed, SetupTime).
 
-setup(Node, Type, MyNode, LongOrShort, SetupTime) when node() =:= nonode@nohost ->
-    %% A node gets its name from the first one that it dials, and net_kernel alone gives names.
-    inet6_tcp_dist:setup(Node, Type, MyNode, LongOrShort, SetupTime);
 setup(Node, Type, MyNode, LongOrShort, SetupTime) ->
-    distnode_setup:start(inet6_tcp, Node, Type, MyNode, LongOrShort, SetupTime).
+    distnode_carrier:setup(inet6_tcp_dist, distnode_tcp, inet6_tcp, [Node, Type, MyNode, LongOrShort, SetupTime]).
 
 close(Socket) -> inet6_tcp:close(Socket).
 
 select(Node) -> inet6_tcp_dist:select(Node).
 
-address() -> distnode_carrier:renamed(inet6_tcp_dist:address()).
+address() -> distnode_carrier:renamed(distnode_tcp, inet6_tcp_dist:address()).
 
 is_node_name(Node) -> inet6_tcp_dist:is_node_name(Node).
 
-setopts(Socket, Options) -> distnode_tcp:setopts(Socket, Options).
+setopts(Listen, Options) -> distnode_carrier:setopts(distnode_tcp, Listen, Options).
 
-getopts(Socket, Options) -> distnode_tcp:getopts(Socket, Options).
+getopts(Listen, Options) -> distnode_tcp:getopts(Listen, Options).

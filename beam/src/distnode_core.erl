@@ -5,7 +5,7 @@
 %% ends the distribution does, as it does where net_kernel ends.
 -module(distnode_core).
 -behaviour(gen_server).
--export([start_link/0, want/1, arrived/2, opened/1, early/2, come_up/2, refused/1, handed/1, done/1, lost/1]).
+-export([start_link/0, begun_anew/0, want/1, arrived/3, opened/1, early/2, come_up/2, refused/1, handed/1, done/1, lost/1]).
 -export([table/0, counts/0]).
 -export([init/1, handle_call/3, handle_cast/2, handle_info/2]).
 
@@ -20,7 +20,7 @@
 -export_type([own_end/0, info/0, received/0]).
 
 %% own: the cookies that the node has for peers while they have ends, and when each was lent; usual: for all others. dials: the access of
-%% each peer that is wanted. shown: the ends that came up, by the monitors of their sockets; held: the callers that wait until such an
+%% each peer that is wanted. shown: the ends that came up, by the monitors of their controllers; held: the callers that wait until such an
 %% end is gone.
 -record(st, {node :: reference() | undefined, flags = 0, links = distnode_links:new(), watched = #{}, shown = #{}, held = [],
              usual :: binary() | undefined, own = #{}, dials = #{}, is_limited = false, forgotten = 0, counts = #{}}).
@@ -30,10 +30,14 @@
 -define(MOST_OWN, 1024).
 
 %% What others read of the node, so that most connections that come need not ask: {node, Node, Changes, Flags, Usual} and, for each
-%% peer that has a cookie of its own, {{cookie, Peer}, Cookie}.
+%% peer that has a cookie of its own, {{cookie, Peer}, Cookie}; and how often the node has begun anew, {begun_anew, Times}.
 -define(TABLE, ?MODULE).
 
 start_link() -> gen_server:start_link({local, ?MODULE}, ?MODULE, [], []).
+
+%% How often the node has begun anew.
+-spec begun_anew() -> non_neg_integer().
+begun_anew() -> ets:lookup_element(?TABLE, begun_anew, 2).
 
 %% net_kernel has started the caller to set up a connection to this peer. It hears {distnode, {dial, own_end()}},
 %% {distnode, {closed, Id, Why}} of that dial, {distnode, {failed, Code}}, {distnode, again} or, from the process that has made
@@ -42,21 +46,22 @@ start_link() -> gen_server:start_link({local, ?MODULE}, ?MODULE, [], []).
 want(Access) -> gen_server:call(?MODULE, {want, Access}, infinity).
 
 %% The caller has accepted a connection, and this is its first frame, with what this emulator says of the name in it. The end
-%% that it gets, and what became of the frame. Where the node has the very cookie, the caller makes the step by itself.
--spec arrived(binary(), access() | none) -> {ok, own_end(), received()} | {error, atom()}.
-arrived(Body, Access) ->
-    case node_as(Access) of
-        {Node, Changes, Flags} -> arrived(Node, Changes, Flags, Body, Access);
-        none -> gen_server:call(?MODULE, {arrived, Body, Access}, infinity)
+%% that it gets, and what became of the frame; `Gone` where the node has begun anew since. Where the node has the very cookie, the caller
+%% makes the step by itself.
+-spec arrived(binary(), access() | none, Begun :: non_neg_integer()) -> {ok, own_end(), received()} | {error, atom()}.
+arrived(Body, Access, Begun) ->
+    case {node_as(Access), begun_anew()} of
+        {{Node, Changes, Flags}, Begun} ->
+            case distnode_nif:arrive(Node, Changes, Body, distnode_nif:challenge()) of
+                {arrived, Id, Step} ->
+                    End = #{id => Id, node => Node, flags => Flags},
+                    {ok, End, outcome(Step, End)};
+                _ -> ask_arrived(Body, Access, Begun)
+            end;
+        _ -> ask_arrived(Body, Access, Begun)
     end.
 
-arrived(Node, Changes, Flags, Body, Access) ->
-    case distnode_nif:arrive(Node, Changes, Body, distnode_nif:challenge()) of
-        {arrived, Id, Step} ->
-            End = #{id => Id, node => Node, flags => Flags},
-            {ok, End, outcome(Step, End)};
-        _ -> gen_server:call(?MODULE, {arrived, Body, Access}, infinity)
-    end.
+ask_arrived(Body, Access, Begun) -> gen_server:call(?MODULE, {arrived, Body, Access, Begun}, infinity).
 
 %% The node, where it has this cookie for this peer and needs no list.
 node_as(#{peer := Peer, cookie := {ok, Cookie}, allowed := all}) ->
@@ -85,14 +90,15 @@ early(Body, #{id := Id, node := Node} = End) ->
 
 %% net_kernel has agreed: the end comes up with the very peer, flags and creation for which it has, or not at all. Where an old
 %% connection of that peer is up in the node, the caller waits until its socket is gone; the caller's own timer limits that. On an
-%% accepted end the words are the acknowledgement.
--spec come_up(port(), info()) -> {ok, [binary()]} | received().
-come_up(Socket, #{id := Id, node := Node, frame := {Body, Challenge}, common := Common, creation := Creation} = Info) ->
-    case distnode_nif:come_up(Node, Id, Body, Challenge, Common, distnode_script:number(Creation), Socket) of
+%% accepted end the words are the acknowledgement. The controller is the port or process whose end is the end of the connection, for the
+%% emulator too.
+-spec come_up(port() | pid(), info()) -> {ok, [binary()]} | received().
+come_up(Controller, #{id := Id, node := Node, frame := {Body, Challenge}, common := Common, creation := Creation} = Info) ->
+    case distnode_nif:come_up(Node, Id, Body, Challenge, Common, distnode_script:number(Creation), Controller) of
         {step, Id, Bodies, _, _, _, {_, Common, Creation}} -> {ok, Bodies};
         {held, Shown} ->
             ok = gen_server:call(?MODULE, {end_shown, Shown}, infinity),
-            come_up(Socket, Info);
+            come_up(Controller, Info);
         other -> {error, 'OtherFlags'};
         Step -> outcome(Step, Info)
     end.
@@ -126,7 +132,9 @@ init([]) ->
     process_flag(priority, high),
     case distnode_nif:load() of
         ok ->
+            ok = distnode_recording:start(),
             ?TABLE = ets:new(?TABLE, [named_table, protected, {read_concurrency, true}]),
+            true = ets:insert(?TABLE, {begun_anew, 0}),
             {ok, #st{}};
         {error, Text} ->
             error_logger:error_msg("** distnode: the library distnode_nif can't be loaded, so there is no distribution: ~ts **~n", [Text]),
@@ -142,8 +150,9 @@ handle_call({want, #{peer := Peer} = Access}, {Pid, _}, St0) ->
             Pid ! {distnode, {failed, Code}},
             {reply, ok, St0}
     end;
-handle_call({arrived, Body, Access}, {Pid, _}, St0) ->
-    case with_node(St0) of
+handle_call({arrived, Body, Access, Begun}, {Pid, _}, St0) ->
+    case Begun =:= begun_anew() andalso with_node(St0) of
+        false -> {reply, {error, 'Gone'}, St0};
         {ok, St1} ->
             {Answer, St} = accept(Body, Access, Pid, St1),
             {reply, Answer, publish(St)};
@@ -177,7 +186,7 @@ handle_info({distnode_made, _, Pid, _, _}, St) ->
     %% Of a node that was given up since.
     exit(Pid, kill),
     {noreply, St};
-handle_info({'DOWN', Ref, port, _, _}, #st{shown = Shown} = St) when is_map_key(Ref, Shown) ->
+handle_info({'DOWN', Ref, _, _, _}, #st{shown = Shown} = St) when is_map_key(Ref, Shown) ->
     {{Id, Peer}, Left} = maps:take(Ref, Shown),
     {noreply, gone(Id, Peer, St#st{shown = Left})};
 handle_info({'DOWN', Ref, process, Pid, _}, #st{watched = Watched} = St) ->
@@ -201,7 +210,7 @@ accept(Body, Access, Pid, St0) ->
     end.
 
 incoming(Body, Pid, #st{node = Node, flags = Flags} = St) ->
-    case distnode_nif:incoming(Node) of
+    case distnode_nif:incoming(Node, Pid) of
         {step, Id, [], none, Room, none, none} ->
             End = #{id => Id, node => Node, flags => Flags},
             Step = distnode_nif:body(Node, Id, Body, distnode_nif:challenge()),
@@ -219,8 +228,9 @@ answer(_, {error, Code, _}) -> {error, Code}.
 follow({arrived, Id, Room}, Pid, Step, St0) ->
     {_, St} = report({accepted, Id, Pid}, watch(Pid, note(incoming, St0))),
     closed(Room, none, settle(Id, none, follow_name(Step, follow_step(Pid, Step, forget(Id, St)))));
-follow(Socket, Pid, {step, Id, _, _, _, _, {Peer, _, _}}, #st{shown = Shown} = St) ->
-    ignored(report({came_up, Id, Pid}, note(came_up, St#st{shown = Shown#{monitor(port, Socket) => {Id, Peer}}})));
+follow(Controller, Pid, {step, Id, _, _, _, _, {Peer, _, _}}, #st{shown = Shown} = St) ->
+    Kind = case is_port(Controller) of true -> port; false -> process end,
+    ignored(report({came_up, Id, Pid}, note(came_up, St#st{shown = Shown#{monitor(Kind, Controller) => {Id, Peer}}})));
 follow(_, Pid, Step, St) -> follow_step(Pid, Step, St).
 
 follow_name({step, Id, _, Peer, _, _, _}, St) when Peer =/= none -> ignored(report({named, Id, Peer}, St));
@@ -330,13 +340,16 @@ begin_anew(#st{node = Node} = St0) ->
     error_logger:warning_msg("** distnode: all numbers of connections were given out; all are closed, and numbered anew **~n"),
     ok = distnode_nif:drop(Node),
     {_, #st{shown = Shown} = St} = report(spent, came_up_last(note(spent, St0))),
-    _ = [receive {'DOWN', Ref, port, _, _} -> ok end || Ref <- maps:keys(Shown)],
-    true = ets:delete_all_objects(?TABLE),
+    _ = [receive {'DOWN', Ref, _, _, _} -> ok end || Ref <- maps:keys(Shown)],
+    _ = ets:update_counter(?TABLE, begun_anew, 1),
+    true = ets:delete(?TABLE, node),
+    true = ets:match_delete(?TABLE, {{cookie, '_'}, '_'}),
     St#st{node = undefined, own = #{}, dials = #{}, shown = #{}, held = []}.
 
 %% Who came up before the node was dropped, and is not known here yet.
 came_up_last(#st{node = Node} = St) ->
-    receive {distnode_made, Node, Pid, Socket, Step} when is_port(Socket) -> came_up_last(follow(Socket, Pid, Step, St))
+    receive {distnode_made, Node, Pid, Controller, Step} when is_port(Controller); is_pid(Controller) ->
+            came_up_last(follow(Controller, Pid, Step, St))
     after 0 -> St
     end.
 

@@ -2,9 +2,9 @@
 %% A node of the C library as functions of Erlang: c_src/distnode_nif.c.
 -module(distnode_nif).
 -export([load/0, new/6, drop/1, cookie/3, no_cookie/2, usual_cookie/2, allow/2, disallow/2, changes/1, forget/2]).
--export([dial/2, incoming/1, body/4, lost/3, gone/2, give_up/2]).
+-export([dial/2, incoming/2, body/4, lost/3, gone/2, give_up/2]).
 -export([arrive/4, opened/2, early_body/4, come_up/7]).
--export([cause/2, up_end/2, peers/1, challenge/0]).
+-export([cause/2, up_end/2, peers/1, challenge/0, recording/1, connection/2]).
 -export_type([id/0, peer/0, closed/0, step/0, up/0, made/0]).
 
 -type id() :: non_neg_integer().
@@ -19,8 +19,8 @@
     {step, id(), Bodies :: [binary()], peer() | none, closed(), Received :: status(), up()} | {error, atom(), closed()}.
 %% The process that made the node gets such a message of each step of another process that gave out an end, closed one or brought
 %% one up. The messages come in the order of the steps. Closed is the end that made room for the one that arrived; a step that was to
-%% bring an end up comes with its socket.
--type made() :: {distnode_made, reference(), pid(), step | port() | {arrived, id(), Closed :: closed()}, step()}.
+%% bring an end up comes with its controller.
+-type made() :: {distnode_made, reference(), pid(), step | port() | pid() | {arrived, id(), Closed :: closed()}, step()}.
 
 %% Loads the library: from beside ebin, else from where the code server knows this application to be. It is called where the
 %% distribution starts. That is before the server of files is there, and in a release before init runs what -on_load names, so
@@ -77,8 +77,9 @@ forget(_Node, _Below) -> ?STUB.
 -spec dial(reference(), peer()) -> step().
 dial(_Node, _Peer) -> ?STUB.
 
--spec incoming(reference()) -> step().
-incoming(_Node) -> ?STUB.
+%% This process has the connection.
+-spec incoming(reference(), pid()) -> step().
+incoming(_Node, _Pid) -> ?STUB.
 
 -spec body(reference(), id(), binary(), Challenge :: non_neg_integer()) -> step().
 body(_Node, _Id, _Body, _Challenge) -> ?STUB.
@@ -113,8 +114,8 @@ early_body(_Node, _Id, _Body, _Challenge) -> ?STUB.
 %% Nothing is done where the frame would bring the end up with other flags or another creation, 0 where the peer has none; or where it
 %% would close this other end, which is up until it is gone.
 -spec come_up(reference(), id(), binary(), Challenge :: non_neg_integer(), Common :: non_neg_integer(),
-              Creation :: non_neg_integer(), port()) -> step() | other | {held, id()}.
-come_up(_Node, _Id, _Body, _Challenge, _Common, _Creation, _Socket) -> ?STUB.
+              Creation :: non_neg_integer(), port() | pid()) -> step() | other | {held, id()}.
+come_up(_Node, _Id, _Body, _Challenge, _Common, _Creation, _Controller) -> ?STUB.
 
 %% ---- questions
 
@@ -130,3 +131,13 @@ peers(_Node) -> ?STUB.
 
 -spec challenge() -> non_neg_integer().
 challenge() -> ?STUB.
+
+%% ---- a recording
+
+%% From now on each call that changes a node is appended to this file: distnode_recording.
+-spec recording(string()) -> ok | error.
+recording(_File) -> ?STUB.
+
+%% And so is this: the caller has a connection with these addresses.
+-spec connection(term(), term()) -> ok.
+connection(_Own, _Other) -> ?STUB.

@@ -15,6 +15,9 @@
 
 -define(KEY, distnode_script).
 
+%% The exit of a holder that dist_util ends. The sender of ssl takes a plain `shutdown` for its supervisor's, and waits for 5 seconds.
+-define(ENDED, {shutdown, distnode}).
+
 %% Of an own dial dist_util begins once the name was said, and the peer's frames are read here: so it gets as far as it does without the
 %% acknowledgement while the peer looks at the reply.
 %%
@@ -22,89 +25,84 @@
 %% about to let another connection of that peer in, for which dist_util ends before it has said a word; {distnode, gone}: the
 %% node has closed the end meanwhile. An own dial throws {distnode, {message, What, Kept}} where a message came to this process
 %% instead of a frame, with what to begin with again; {distnode, {closed, Why, Status}} or {distnode, {failed, Why}}.
--spec other_started(module(), pid(), port(), map(), {node(), [term()]}, pid()) -> no_return().
-other_started(Driver, Kernel, Socket, Info, {MyNode, Allowed}, Timer) ->
-    Data = data(Driver, Kernel, Socket, MyNode, Timer, Info),
-    start(accepted, Driver, Info),
+-spec other_started(module(), pid(), term(), map(), {node(), [term()]}, pid()) -> no_return().
+other_started(Transport, Kernel, Socket, Info, {MyNode, Allowed}, Timer) ->
+    Data = data(Transport, Kernel, Socket, MyNode, Timer, Info),
+    start(accepted, Transport, Socket, Info),
     try dist_util:handshake_other_started(Data#hs_data{allowed = Allowed})
     catch
         exit:shutdown ->
             case get(?KEY) of
                 #{said := []} -> throw({distnode, already});
-                _ -> exit(shutdown)
+                _ -> exit(?ENDED)
             end
     end.
 
--spec we_started(module(), pid(), port(), map(), {node(), node(), term()}, pid()) -> no_return().
-we_started(Driver, Kernel, Socket, Info, {MyNode, Node, Type}, Timer) ->
-    Data = data(Driver, Kernel, Socket, MyNode, Timer, Info),
-    start(dialled, Driver, Info#{timer => Timer}),
-    dist_util:handshake_we_started(Data#hs_data{other_node = Node, other_version = 6, request_type = Type}).
+-spec we_started(module(), pid(), term(), map(), {node(), node(), term()}, pid()) -> no_return().
+we_started(Transport, Kernel, Socket, Info, {MyNode, Node, Type}, Timer) ->
+    Data = data(Transport, Kernel, Socket, MyNode, Timer, Info),
+    start(dialled, Transport, Socket, Info#{timer => Timer}),
+    try dist_util:handshake_we_started(Data#hs_data{other_node = Node, other_version = 6, request_type = Type})
+    catch
+        exit:shutdown -> exit(?ENDED)
+    end.
 
-data(Driver, Kernel, Socket, MyNode, Timer, #{id := Id} = Info) ->
-    #hs_data{
-       kernel_pid = Kernel, this_node = MyNode, socket = Socket, timer = Timer, this_flags = 0,
-       f_send = fun send/2,
-       f_recv = fun recv/3,
-       f_setopts_pre_nodeup =
-           fun(S) -> inet:setopts(S, [{active, false}, {packet, 4}, distnode_tcp:nodelay()]) end,
-       f_setopts_post_nodeup =
-           fun(S) -> inet:setopts(S, [{active, true}, {deliver, port}, {packet, 4}, binary, distnode_tcp:nodelay()]) end,
-       f_getll = fun inet:getll/1,
-       f_address = fun(S, Node) -> address(Driver, S, Node, Info) end,
-       mf_tick = fun(S) -> distnode_tcp:tick(Driver, S) end,
-       mf_getstat = fun distnode_tcp:getstat/1,
-       mf_setopts = fun distnode_tcp:setopts/2,
-       mf_getopts = fun distnode_tcp:getopts/2,
-       f_handshake_complete = fun(_, _, _) -> erase(?KEY), distnode_core:done(Id) end}.
-
-address(_, _, _, #{address := Address}) -> Address;
-address(Driver, Socket, Node, _) -> distnode_tcp:remote(Driver, Socket, Node).
+data(Transport, Kernel, Socket, MyNode, Timer, #{id := Id}) ->
+    #hs_data{f_handshake_complete = Complete} = Data = distnode_carrier:hs_data(Transport, Socket),
+    Data#hs_data{
+      kernel_pid = Kernel, this_node = MyNode, timer = Timer, this_flags = 0,
+      f_send = fun(_, Words) -> send(iolist_to_binary(Words)) end,
+      f_recv = fun(_, _, _) -> recv() end,
+      f_handshake_complete =
+          fun(Controller, Node, Handle) ->
+                  erase(?KEY),
+                  distnode_core:done(Id),
+                  Complete(Controller, Node, Handle)
+          end}.
 
 %% ---- the script: what was sent and received so far decides what comes next
 
-start(Side, Driver, Info) -> put(?KEY, Info#{side => Side, driver => Driver, said => []}).
+start(Side, Transport, Socket, Info) -> put(?KEY, Info#{side => Side, transport => Transport, socket => Socket, said => []}).
 
-send(Socket, Data) ->
-    Words = iolist_to_binary(Data),
+send(Words) ->
     #{side := Side, said := Said} = Before = get(?KEY),
     Script = Before#{said := [Words | Said]},
     keep(Script),
-    send(Side, Words, Socket, Script).
+    send(Side, Words, Script).
 
 keep(Script) ->
     put(?KEY, Script),
     ok.
 
-send(accepted, <<"snok">>, _, _) -> throw({distnode, nok});
-send(accepted, <<$s, _/binary>>, _, Script) -> ask_cookie(Script);
-send(accepted, <<$N, Flags:64, Challenge:32, _/binary>>, _, Script) -> challenged(Flags, Challenge, Script);
-send(accepted, <<$a, _/binary>>, Socket, Script) -> admitted(Socket, Script);
-send(dialled, <<$N, Flags:64, _/binary>>, _, Script) -> challenged(Flags, none, Script);
-send(dialled, <<$r, Challenge:32, Shown/binary>>, _, Script) -> replied(Challenge, Shown, Script).
+send(accepted, <<"snok">>, _) -> throw({distnode, nok});
+send(accepted, <<$s, _/binary>>, Script) -> ask_cookie(Script);
+send(accepted, <<$N, Flags:64, Challenge:32, _/binary>>, Script) -> challenged(Flags, Challenge, Script);
+send(accepted, <<$a, _/binary>>, Script) -> admitted(Script);
+send(dialled, <<$N, Flags:64, _/binary>>, Script) -> challenged(Flags, none, Script);
+send(dialled, <<$r, Challenge:32, Shown/binary>>, Script) -> replied(Challenge, Shown, Script).
 
-recv(Socket, _, _) ->
+recv() ->
     #{side := Side, said := Said} = Script = get(?KEY),
-    recv(Side, Said, Socket, Script).
+    recv(Side, Said, Script).
 
 %% Of an accepted peer: its name, `true` where net_kernel asks whether it lives, its reply.
-recv(accepted, [], _, Script) -> {ok, name(Script)};
-recv(accepted, [<<"salive">>], _, Script) ->
+recv(accepted, [], Script) -> {ok, name(Script)};
+recv(accepted, [<<"salive">>], Script) ->
     ask_cookie(Script),
     {ok, "strue"};
-recv(accepted, [<<$N, _/binary>> | _], _, Script) -> {ok, [$r, 0, 0, 0, 0 | digest(Script)]};
+recv(accepted, [<<$N, _/binary>> | _], Script) -> {ok, [$r, 0, 0, 0, 0 | digest(Script)]};
 %% Of a dialled peer: a status, its challenge, its acknowledgement.
-recv(dialled, [<<$N, _/binary>>], _, Script) ->
+recv(dialled, [<<$N, _/binary>>], Script) ->
     keep(Script#{said := [status]}),
     {ok, "sok"};
-recv(dialled, [status], _, #{common := _} = Script) -> challenge(Script);
-recv(dialled, [status], Socket, Script) -> challenge(await_challenge(Socket, Script));
-recv(dialled, [<<$r, _/binary>> | _], Socket, #{received := _} = Script) ->
+recv(dialled, [status], #{common := _} = Script) -> challenge(Script);
+recv(dialled, [status], Script) -> challenge(await_challenge(Script));
+recv(dialled, [<<$r, _/binary>> | _], #{received := _} = Script) ->
     Digest = digest(Script),
-    await_acknowledgement(Socket, Script),
+    await_acknowledgement(Script),
     {ok, [$a | Digest]};
-recv(dialled, [<<$r, _/binary>> | _], Socket, Script) ->
-    case admitted(Socket, Script) of
+recv(dialled, [<<$r, _/binary>> | _], Script) ->
+    case admitted(Script) of
         ok -> {ok, [$a | digest(Script)]};
         Error -> Error
     end.
@@ -112,47 +110,58 @@ recv(dialled, [<<$r, _/binary>> | _], Socket, Script) ->
 %% ---- the frames of an own dial
 
 %% Until the node says the reply to the peer's challenge.
-await_challenge(Socket, #{driver := Driver} = Script) ->
-    Body = next(Socket, Script),
-    Bodies = go_on(distnode_core:early(Body, Script), Socket, Script),
-    case {distnode_shake:say(Driver, Socket, Bodies), [reply || <<$r, _/binary>> <- Bodies]} of
-        {ok, []} -> await_challenge(Socket, Script#{is_active => false});
+await_challenge(Script) ->
+    Body = next(Script),
+    Bodies = go_on(distnode_core:early(Body, Script), Script),
+    case {say(Bodies, Script), [reply || <<$r, _/binary>> <- Bodies]} of
+        {ok, []} -> await_challenge(Script#{is_active => false});
         {ok, _} ->
             Foreseen = foreseen(Script#{received => Body, is_active => true}),
-            _ = inet:setopts(Socket, [{active, once}]),
+            _ = activate(Foreseen),
             keep(Foreseen),
             Foreseen;
         _ -> throw({distnode, {failed, write_failed}})
     end.
 
-await_acknowledgement(Socket, Script) ->
-    Body = next(Socket, Script),
-    case distnode_core:come_up(Socket, Script#{frame => {Body, distnode_nif:challenge()}}) of
-        {ok, Bodies} -> distnode_shake:say(maps:get(driver, Script), Socket, Bodies);
+await_acknowledgement(Script) ->
+    Body = next(Script),
+    case come_up(Script#{frame => {Body, distnode_nif:challenge()}}) of
+        {ok, Bodies} -> say(Bodies, Script);
         Other ->
-            _ = distnode_shake:say(maps:get(driver, Script), Socket, go_on(Other, Socket, Script)),
-            await_acknowledgement(Socket, Script#{is_active => false})
+            _ = say(go_on(Other, Script), Script),
+            await_acknowledgement(Script#{is_active => false})
     end.
 
 %% A message may come first, while the socket is active: then that is kept.
-next(Socket, #{wait := Wait, timer := Timer} = Script) ->
+next(#{timer := Timer, transport := Transport} = Script) ->
     ok = dist_util:reset_timer(Timer),
-    _ = [inet:setopts(Socket, [{active, once}]) || not maps:get(is_active, Script, false)],
+    case maps:get(is_active, Script, false) orelse activate(Script) of
+        {error, _} -> throw({distnode, {failed, ended}});
+        _ -> await(Transport:messages(), Script)
+    end.
+
+await({Data, Closed, Error}, #{wait := Wait, socket := Socket} = Script) ->
     receive
-        {tcp, Socket, Body} -> Body;
-        {tcp_closed, Socket} -> throw({distnode, {failed, ended}});
-        {tcp_error, Socket, _} -> throw({distnode, {failed, read_failed}});
+        {Data, Socket, Body} -> Body;
+        {Closed, Socket} -> throw({distnode, {failed, ended}});
+        {Error, Socket, _} -> throw({distnode, {failed, read_failed}});
         {distnode, Message} ->
             throw({distnode, {message, Message, maps:with([received, common, creation, is_active], Script#{is_active => true})}})
     after Wait -> throw({distnode, {failed, gave_up}})
     end.
 
-go_on({more, Bodies}, _, _) -> Bodies;
-go_on({closed, Bodies, Why, Status}, Socket, #{driver := Driver}) ->
-    _ = distnode_shake:say(Driver, Socket, Bodies),
+activate(#{transport := Transport, socket := Socket}) -> Transport:setopts(Socket, [{active, once}]).
+
+say(Bodies, #{transport := Transport, socket := Socket}) -> distnode_shake:say(Transport, Socket, Bodies).
+
+come_up(#{transport := Transport, socket := Socket} = Script) -> distnode_core:come_up(Transport:controller(Socket), Script).
+
+go_on({more, Bodies}, _) -> Bodies;
+go_on({closed, Bodies, Why, Status}, Script) ->
+    _ = say(Bodies, Script),
     throw({distnode, {closed, Why, Status}});
-go_on({error, 'Gone'}, _, _) -> throw({distnode, gone});
-go_on({error, Code}, _, _) -> throw({distnode, {failed, Code}}).
+go_on({error, 'Gone'}, _) -> throw({distnode, gone});
+go_on({error, Code}, _) -> throw({distnode, {failed, Code}}).
 
 %% What the end will be up with, if the peer acknowledges: the node says so itself before it comes up (distnode_core:come_up/2).
 foreseen(#{received := <<$N, Flags:64, _Challenge:32, Creation:32, _/binary>>} = Info) -> foreseen(Flags, Creation, Info);
@@ -169,9 +178,9 @@ challenged(Flags, _, #{flags := Own, peer := Peer}) ->
                            [Flags, distnode_access:quoted(Peer), Own]),
     exit(distnode_other_flags).
 
-admitted(Socket, #{id := Id, driver := Driver} = Script) ->
-    case distnode_core:come_up(Socket, Script) of
-        {ok, Bodies} -> distnode_shake:say(Driver, Socket, Bodies);
+admitted(#{id := Id} = Script) ->
+    case come_up(Script) of
+        {ok, Bodies} -> say(Bodies, Script);
         _ ->
             _ = distnode_core:lost(Id),
             throw({distnode, gone})

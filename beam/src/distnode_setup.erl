@@ -3,7 +3,7 @@
 %% ready with that peer, its own dial or a connection that the peer made meanwhile; that one it holds to its end. A process
 %% beside it finds the peer and connects, so that another end can be reported to it at any time.
 -module(distnode_setup).
--export([start/6, setup/7, dial/2]).
+-export([start/7, setup/8, dial/2]).
 
 -include_lib("kernel/include/dist_util.hrl").
 
@@ -14,17 +14,17 @@
 -define(MOST_ATTEMPTS, 100).
 
 %% The own dial: `dialler` finds the peer until it has handed `socket` over; `end_of` is #{id, node, flags} of its end.
--record(setup, {driver, kernel, node, peer, type, my_node, name, host, wait, dialler = none, end_of = none, socket = none,
+-record(setup, {transport, driver, kernel, node, peer, type, my_node, name, host, wait, dialler = none, end_of = none, socket = none,
                 left = ?MOST_ATTEMPTS}).
 
-start(Driver, Node, Type, MyNode, LongOrShort, SetupTime) ->
-    spawn_opt(?MODULE, setup, [Driver, self(), Node, Type, MyNode, LongOrShort, SetupTime],
+start(Transport, Driver, Node, Type, MyNode, LongOrShort, SetupTime) ->
+    spawn_opt(?MODULE, setup, [Transport, Driver, self(), Node, Type, MyNode, LongOrShort, SetupTime],
               distnode_carrier:setup_options()).
 
-setup(Driver, Kernel, Node, Type, MyNode, LongOrShort, SetupTime) ->
-    {Name, Host} = distnode_tcp:parts(Driver, Node, LongOrShort),
+setup(Transport, Driver, Kernel, Node, Type, MyNode, LongOrShort, SetupTime) ->
+    {Name, Host} = distnode_address:parts(Driver, Node, LongOrShort),
     not_hidden(Type, Node),
-    want(#setup{driver = Driver, kernel = Kernel, node = Node, peer = atom_to_binary(Node, utf8), type = Type,
+    want(#setup{transport = Transport, driver = Driver, kernel = Kernel, node = Node, peer = atom_to_binary(Node, utf8), type = Type,
                 my_node = MyNode, name = Name, host = Host, wait = SetupTime}).
 
 %% The node has one set of flags for all its dials, so it can't hide from one peer.
@@ -57,14 +57,14 @@ dial_now(End, #setup{dialler = Dialler, wait = Wait} = S) ->
 await(#setup{dialler = Dialler} = S, Wait) ->
     receive
         {distnode, Message} -> receive_message(Message, S, Wait);
-        {Dialler, {connected, Connected, Address}} -> connected(Connected, Address, S);
+        {Dialler, {connected, Connected}} -> shake(S#setup{dialler = none, socket = Connected});
         {Dialler, {failed, Why}} -> failed(S, Why)
     after Wait -> failed(S, gave_up)
     end.
 
 receive_message({dial, End}, #setup{socket = none, end_of = none} = S, _) -> dial_now(End, S);
 receive_message({dial, End}, S, _) -> dial_now(End, end_dial(S));
-receive_message({ready, Socket, Info, _}, S, _) -> bring_up(Socket, Info, end_dial(S));
+receive_message({ready, Transport, Socket, Info}, S, _) -> bring_up(Transport, Socket, Info, end_dial(S));
 receive_message({failed, Code}, S, _) ->
     distnode_access:report(S#setup.peer, Code),
     failed(S, Code);
@@ -77,30 +77,27 @@ receive_message({closed, _, _}, S, _) -> shake(S).
 
 await_other(S) ->
     receive
-        {distnode, {ready, Socket, Info, _}} -> bring_up(Socket, Info, S)
+        {distnode, {ready, Transport, Socket, Info}} -> bring_up(Transport, Socket, Info, S)
     after ?WAIT_FOR_OTHER -> want(S)
     end.
 
 %% An end that another process has made ready.
-bring_up(Socket, Info, #setup{driver = Driver, kernel = Kernel, wait = Wait} = S) ->
+bring_up(Transport, Socket, Info, #setup{kernel = Kernel, wait = Wait} = S) ->
     Timer = dist_util:start_timer(Wait),
-    try distnode_script:we_started(Driver, Kernel, Socket, Info, {S#setup.my_node, S#setup.node, S#setup.type}, Timer)
+    try distnode_script:we_started(Transport, Kernel, Socket, Info, {S#setup.my_node, S#setup.node, S#setup.type}, Timer)
     catch
         throw:{distnode, gone} ->
             dist_util:cancel_timer(Timer),
-            _ = Driver:close(Socket),
+            _ = Transport:close(Socket),
             want(S)
     end.
 
 %% ---- the own dial: the dialler makes the first step, by which the name is said, and this process the others, in distnode_script
 
-connected(Socket, Address, #setup{end_of = End} = S) ->
-    shake(S#setup{dialler = none, socket = Socket, end_of = End#{address => Address}}).
-
-shake(#setup{driver = Driver, kernel = Kernel, socket = Socket, end_of = End, wait = Wait} = S) ->
+shake(#setup{transport = Transport, kernel = Kernel, socket = Socket, end_of = End, wait = Wait} = S) ->
     Timer = dist_util:start_timer(Wait),
     Info = End#{peer => S#setup.peer, wait => Wait},
-    try distnode_script:we_started(Driver, Kernel, Socket, Info, {S#setup.my_node, S#setup.node, S#setup.type}, Timer)
+    try distnode_script:we_started(Transport, Kernel, Socket, Info, {S#setup.my_node, S#setup.node, S#setup.type}, Timer)
     catch
         throw:{distnode, Why} ->
             dist_util:cancel_timer(Timer),
@@ -116,14 +113,15 @@ over('StatusRefused', nok, S) -> await_other(S);
 over(Why, _, S) when Why =:= 'Crossed'; Why =:= 'Replaced'; Why =:= 'GaveUp' -> want(S);
 over(Why, _, S) -> failed(S, Why).
 
-start_dialler(#setup{dialler = none, driver = Driver, name = Name, host = Host, wait = Wait} = S) ->
-    S#setup{dialler = spawn_opt(?MODULE, dial, [self(), {Driver, Name, Host, Wait}], distnode_carrier:setup_options())}.
+start_dialler(#setup{dialler = none, transport = Transport, driver = Driver, name = Name, host = Host, wait = Wait} = S) ->
+    S#setup{dialler = spawn_opt(?MODULE, dial, [self(), {Transport, Driver, Name, Host, Wait}], distnode_carrier:setup_options())}.
 
 %% A dial that another end has overtaken, or that the node has closed.
 end_dial(#setup{dialler = none, socket = none} = S) -> S#setup{end_of = none};
-end_dial(#setup{dialler = none, socket = Socket, driver = Driver} = S) ->
-    _ = Driver:close(Socket),
-    receive {tcp, Socket, _} -> ok after 0 -> ok end,
+end_dial(#setup{dialler = none, socket = Socket, transport = Transport} = S) ->
+    _ = Transport:close(Socket),
+    {Data, _, _} = Transport:messages(),
+    receive {Data, Socket, _} -> ok after 0 -> ok end,
     end_dial(S#setup{socket = none});
 end_dial(#setup{dialler = Dialler} = S) ->
     unlink(Dialler),
@@ -131,39 +129,44 @@ end_dial(#setup{dialler = Dialler} = S) ->
     exit(Dialler, kill),
     receive {'DOWN', Ref, process, Dialler, _} -> ok end,
     receive
-        {Dialler, {connected, Socket, _}} -> end_dial(S#setup{dialler = none, socket = Socket});
+        {Dialler, {connected, Socket}} -> end_dial(S#setup{dialler = none, socket = Socket});
         {Dialler, _} -> end_dial(S#setup{dialler = none})
     after 0 -> end_dial(S#setup{dialler = none})
     end.
 
-dial(Setup, {Driver, Name, Host, Wait}) ->
-    Found = distnode_tcp:find(Driver, Name, Host),
+%% A setup that is killed where it ends its dialler has let its link go (end_dial/1).
+dial(Setup, {Transport, Driver, Name, Host, Wait}) ->
+    Ref = monitor(process, Setup),
+    Found = distnode_address:find(Driver, Name, Host),
     receive
         {Setup, {dial, End}} ->
-            case connect(Driver, Found, Host, Wait) of
-                {ok, Socket, Address} -> say_name(Setup, Driver, Socket, Address, End);
+            case connect(Found, {Transport, Driver, Host, Wait}) of
+                {ok, Socket} ->
+                    ok = distnode_recording:connection(Transport, Socket),
+                    say_name(Setup, Transport, Socket, End);
                 {error, Why} -> Setup ! {self(), {failed, Why}}
-            end
+            end;
+        {'DOWN', Ref, process, Setup, _} -> ok
     end.
 
-connect(Driver, {ok, Ip, Port}, Host, Wait) -> distnode_tcp:connect(Driver, Ip, Port, Host, Wait);
-connect(_, {error, _} = Error, _, _) -> Error.
+connect({ok, Ip, Port}, {Transport, Driver, Host, Wait}) -> Transport:connect(Driver, Ip, Port, Host, Wait);
+connect({error, _} = Error, _) -> Error.
 
 %% The name is on its way before the socket is handed over.
-say_name(Setup, Driver, Socket, Address, End) ->
+say_name(Setup, Transport, Socket, End) ->
     case distnode_core:opened(End) of
-        {more, Bodies} -> Setup ! {self(), hand_over(distnode_shake:say(Driver, Socket, Bodies), Setup, Driver, Socket, Address)};
+        {more, Bodies} -> Setup ! {self(), hand_over(distnode_shake:say(Transport, Socket, Bodies), Setup, Transport, Socket)};
         {closed, _, _, _} -> ok;
         {error, 'Gone'} -> ok;
         {error, Code} -> Setup ! {self(), {failed, Code}}
     end.
 
-hand_over(ok, Setup, Driver, Socket, Address) ->
-    case Driver:controlling_process(Socket, Setup) of
-        ok -> {connected, Socket, Address};
+hand_over(ok, Setup, Transport, Socket) ->
+    case Transport:controlling_process(Socket, Setup) of
+        ok -> {connected, Socket};
         {error, Why} -> {failed, Why}
     end;
-hand_over({error, Why}, _, _, _, _) -> {failed, Why}.
+hand_over({error, Why}, _, _, _) -> {failed, Why}.
 
 -spec failed(#setup{}, term()) -> no_return().
 failed(#setup{node = Node}, 'WrongDigest') ->

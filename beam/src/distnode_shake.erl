@@ -1,18 +1,18 @@
 %% SPDX-License-Identifier: Apache-2.0
 %% The handshake of an accepted connection on the wire: frames go from the socket to the node, its words back to the socket,
 %% until the node is ready to bring the end up, or it is closed. A socket puts lengths on and takes them off itself, by
-%% {packet, 2}, and is active for one frame at a time, so that what follows the handshake stays in it.
+%% {packet, 2} over TCP and {packet, 4} over TLS, and is active for one frame at a time, so that what follows the handshake stays in it.
 -module(distnode_shake).
--export([accepted/4, say/3, give/3]).
+-export([accepted/4, say/3, give/4]).
 -export_type([outcome/0]).
 
-%% An end's process makes the steps of its end by itself (distnode_core:arrived/2, early/2).
+%% An end's process makes the steps of its end by itself (distnode_core:arrived/3, early/2).
 
 -include_lib("kernel/include/dist.hrl").
 
-%% timer: the one of dist_util, started while the peer is at its reply.
--record(shake, {driver :: module(), socket :: port(), own_end = none :: distnode_core:own_end() | none, wait :: timeout(),
-                peer = none :: binary() | none, timer = none :: pid() | none}).
+%% timer: the one of dist_util, started while the peer is at its reply. begun: which node may take the connection.
+-record(shake, {transport :: module(), socket :: term(), own_end = none :: distnode_core:own_end() | none, wait :: timeout(),
+                peer = none :: binary() | none, timer = none :: pid() | none, begun :: non_neg_integer()}).
 
 -type outcome() ::
     {ready, distnode_core:info(), Timer :: pid()} |
@@ -22,18 +22,30 @@
 
 %% The status and the challenge go out in one segment: what is said before the second frame is held back until all of it was said.
 %% Each frame has this many milliseconds. A connection gets an end of the node with its first frame.
--spec accepted(module(), port(), [term()], timeout()) -> outcome().
-accepted(Driver, Socket, Allowed, Wait) ->
-    S = #shake{driver = Driver, socket = Socket, wait = Wait},
-    case next([binary, {packet, 2}, distnode_tcp:nodelay(), {nopush, true}], S) of
-        {frame, <<$N, Flags:64, _/binary>> = Body} when Flags band ?DFLAG_NAME_ME =/= 0 -> {nameless, Body};
+-spec accepted(module(), {Socket :: term(), Begun :: non_neg_integer()}, [term()], timeout()) -> outcome().
+accepted(Transport, {Socket, Begun}, Allowed, Wait) ->
+    S = #shake{transport = Transport, socket = Socket, wait = Wait, begun = Begun},
+    case next([binary, {packet, Transport:packet()}, distnode_address:nodelay(), {nopush, true}], S) of
+        {frame, <<$N, Flags:64, _:32, Size:16, Host:Size/binary, _/binary>> = Body} when Flags band ?DFLAG_NAME_ME =/= 0 ->
+            case Allowed =:= [] orelse is_certified(Host, S) of
+                true -> {nameless, Body};
+                false -> shut('Refused', S#shake{peer = Host})
+            end;
         {frame, Body} -> named(Body, distnode_access:named_in(Body), Allowed, S);
         Closed -> Closed
     end.
 
-named(Body, none, _, S) -> arrived(distnode_core:arrived(Body, none), S);
-named(Body, Peer, Allowed, S) ->
-    arrived(distnode_core:arrived(Body, distnode_access:of_peer(Peer, Allowed)), S#shake{peer = Peer}).
+named(Body, none, _, #shake{begun = Begun} = S) -> arrived(distnode_core:arrived(Body, none, Begun), S);
+named(Body, Peer, Allowed, #shake{begun = Begun} = S) ->
+    Access = case distnode_access:of_peer(Peer, Allowed) of
+                 #{allowed := true} = Listed -> Listed#{allowed := is_certified(Peer, S)};
+                 Other -> Other
+             end,
+    arrived(distnode_core:arrived(Body, Access, Begun), S#shake{peer = Peer}).
+
+%% Where there is an allow list: has the peer shown a certificate of the host in its name, if any?
+is_certified(Name, #shake{transport = Transport, socket = Socket}) ->
+    Transport:is_certified(Socket, binary_to_list(lists:last(binary:split(Name, <<"@">>)))).
 
 arrived({ok, End, Answer}, S) -> taken(Answer, S#shake{own_end = End});
 arrived({error, Code}, S) -> taken({error, Code}, S).
@@ -44,24 +56,29 @@ go_on(#shake{own_end = End} = S) ->
         Closed -> Closed
     end.
 
-next(Options, #shake{socket = Socket, own_end = End, wait = Wait} = S) ->
-    _ = inet:setopts(Socket, Options ++ [{active, once}]),
+next(Options, #shake{transport = Transport, socket = Socket} = S) ->
+    case Transport:setopts(Socket, Options ++ [{active, once}]) of
+        ok -> await(Transport:messages(), S);
+        {error, _} -> given_up(ended, S)
+    end.
+
+await({Data, Closed, Error}, #shake{socket = Socket, own_end = End, wait = Wait} = S) ->
     Id = case End of #{id := Own} -> Own; none -> none end,
     receive
-        {tcp, Socket, Body} -> {frame, Body};
-        {tcp_closed, Socket} -> given_up(ended, S);
-        {tcp_error, Socket, _} -> given_up(read_failed, S);
+        {Data, Socket, Body} -> {frame, Body};
+        {Closed, Socket} -> given_up(ended, S);
+        {Error, Socket, _} -> given_up(read_failed, S);
         {distnode, {closed, Id, Why}} -> shut(Why, S)
     after Wait -> given_up(gave_up, S)
     end.
 
-taken({more, Bodies}, #shake{driver = Driver, socket = Socket} = S) ->
-    case say(Driver, Socket, Bodies) of
+taken({more, Bodies}, #shake{transport = Transport, socket = Socket} = S) ->
+    case say(Transport, Socket, Bodies) of
         ok -> go_on(with_timer(S));
         _ -> given_up(write_failed, S)
     end;
-taken({closed, Bodies, Why, _}, #shake{driver = Driver, socket = Socket} = S) ->
-    _ = say(Driver, Socket, Bodies),
+taken({closed, Bodies, Why, _}, #shake{transport = Transport, socket = Socket} = S) ->
+    _ = say(Transport, Socket, Bodies),
     shut(Why, S);
 taken({ready, Info}, #shake{timer = Timer}) -> {ready, Info, Timer};
 taken({error, 'Gone'}, S) -> gone(S);
@@ -88,24 +105,24 @@ given_up(Why, #shake{own_end = #{id := Id}} = S) ->
     _ = distnode_core:lost(Id),
     shut(Why, S).
 
-shut(Why, #shake{driver = Driver, socket = Socket, peer = Peer}) ->
-    _ = Driver:close(Socket),
+shut(Why, #shake{transport = Transport, socket = Socket, peer = Peer}) ->
+    _ = Transport:close(Socket),
     {closed, Why, Peer}.
 
--spec say(module(), port(), [binary()]) -> ok | {error, term()}.
+-spec say(module(), term(), [binary()]) -> ok | {error, term()}.
 say(_, _, []) -> ok;
-say(Driver, Socket, [Body | Bodies]) ->
-    case Driver:send(Socket, Body) of
-        ok -> say(Driver, Socket, Bodies);
+say(Transport, Socket, [Body | Bodies]) ->
+    case Transport:send(Socket, Body) of
+        ok -> say(Transport, Socket, Bodies);
         Error -> Error
     end.
 
 %% Hands the socket of an end that is ready to the setup that gets it, and ends.
--spec give(port(), distnode_core:info(), pid()) -> no_return().
-give(Socket, #{id := Id} = Info, Setup) ->
-    case inet_tcp:controlling_process(Socket, Setup) of
+-spec give(module(), term(), distnode_core:info(), pid()) -> no_return().
+give(Transport, Socket, #{id := Id} = Info, Setup) ->
+    case Transport:controlling_process(Socket, Setup) of
         ok ->
-            Setup ! {distnode, {ready, Socket, Info, self()}},
+            Setup ! {distnode, {ready, Transport, Socket, Info}},
             distnode_core:handed(Id),
             exit(normal);
         _ -> exit(shutdown)

@@ -3,6 +3,7 @@
 %% has a deadline.
 -module(cases).
 -export([main/0, main/1, main/2, between/2, after_a_change/3, came/2, comes_up/3]).
+-export([with/2, connect/2, both_up/2, apart/2, agreed/1, copy/2]).
 
 -define(FLAGS, 16#d07df7fbd).   % those that OTP 25 announces, DFLAG_PUBLISHED among them
 
@@ -34,7 +35,11 @@ passes(Name, Body) ->
 said({said, Format, Arguments}) -> [": ", io_lib:format(Format, Arguments)];
 said(_) -> "".
 
+%% Where the environment has TLS=1, all nodes are over TLS.
 cases(Mapper) ->
+    common(Mapper) ++ [Case || code:which(ssl) =/= non_existing, Case <- over_tls(Mapper)].
+
+common(Mapper) ->
     [{"links_walk", fun links_walk:run/0},
      {"ping_and_calls", fun ping_and_calls/0},
      {"many_messages", fun many_messages/0},
@@ -44,6 +49,7 @@ cases(Mapper) ->
      {"crossing_dials_ordinary_greater", fun() -> crossing(ours, otp, 40) end},
      {"random_connects_and_kills", fun random_traffic/0},
      {"kill_and_restart", fun kill_and_restart/0},
+     {"shown_as_long_as_its_controller", fun shown_as_long/0},
      {"frame_is_held", fun() -> held(Mapper) end},
      {"frozen_connection_is_replaced", fun() -> [frozen(A, B, Mapper) || {A, B} <- [{ours, ours}, {otp, ours}, {ours, otp}]] end},
      {"wrong_cookie", fun wrong_cookie/0},
@@ -51,7 +57,7 @@ cases(Mapper) ->
      {"cookies_without_use", fun without_use/0},
      {"cookie_changed_meanwhile", fun changed_meanwhile/0},
      {"half_open_at_a_cookie_change", fun() -> half_open(Mapper) end},
-     {"names_after_a_cookie_change", fun() -> after_a_change(fun said/2, 5000, Mapper) end},
+     {"names_after_a_cookie_change", fun() -> after_a_change(fun said/2, case test_nodes:is_tls() of false -> 5000; true -> 1100 end, Mapper) end},
      {"nodes_after_a_cookie_change", fun() -> after_a_change(fun came/2, 1100, Mapper) end},
      {"all_cookies_are_lent", fun all_lent/0},
      {"names_in_the_log", fun() -> names_in_the_log(Mapper) end},
@@ -66,11 +72,28 @@ cases(Mapper) ->
      {"ticks", fun ticks/0},
      {"strangers", fun() -> strangers(Mapper) end},
      {"impostor", fun() -> impostor(Mapper) end},
-     {"numbers_run_out", fun numbers_run_out/0},
+     {"numbers_run_out", fun() -> numbers_run_out(Mapper) end},
+     {"orders_swept", fun() -> order_sweeps:some(Mapper) end},
      {"embedded_release", fun embedded_release/0},
      {"killed_core", fun killed_core/0},
      {"unfit_library", fun unfit_library/0},
      {"unfit_archive", fun unfit_archive/0}].
+
+over_tls(Mapper) ->
+    [{Name, fun() -> with_tls("1", Body) end}
+     || {Name, Body} <- [{"crossing_dials_over_tls", fun() -> crossing(ours, ours, 20) end},
+                         {"kill_and_restart_over_tls", fun kill_and_restart/0},
+                         {"certificate_of_a_stranger", fun untrusted/0},
+                         {"certificate_of_another_host", fun elsewhere/0},
+                         {"plain_strangers_at_a_tls_port", fun() -> plain_strangers(Mapper) end},
+                         {"tls_and_tcp_apart", fun tls_and_tcp/0}]].
+
+with_tls(Is, Body) ->
+    Before = os:getenv("TLS", ""),
+    true = os:putenv("TLS", Is),
+    try Body()
+    after os:putenv("TLS", Before)
+    end.
 
 %% ---- what the cases stand on
 
@@ -211,6 +234,19 @@ kill_and_restart() ->
                  First = restarted(A, test_nodes:start("b", ours, ?QUIET)),
                  Second = restarted(A, test_nodes:start("b", ours, ?QUIET)),
                  true = First =/= Second
+         end).
+
+%% A peer is shown no longer than the port or process is there that the emulator was given, which is what the core watches.
+shown_as_long() ->
+    with([{"a", ours, ?QUIET}, {"b", ours, ?QUIET}, {"o", otp, ?QUIET}],
+         fun([A, B, O]) ->
+                 [begin
+                      true = connect(X, Y),
+                      both_up(A, Other),
+                      ok = c(A, test_agent, gone_with_its_controller, [n(Other)]),
+                      {none} = settled(A, Other),
+                      agreed([A])
+                  end || _ <- lists:seq(1, 20), Other <- [B, O], {X, Y} <- [{A, Other}, {Other, A}]]
          end).
 
 %% Two nodes that need not be of one release: pings and calls both ways, messages, one that is killed and comes back on either
@@ -390,7 +426,7 @@ half_open(Mapper) ->
                  true = c(A, erlang, set_cookie, [new]),
                  true = connect(B, A),
                  #{lent := 0} = c(A, distnode_core, table, []),
-                 gen_tcp:close(Socket),
+                 other_side:close(Socket),
                  agreed([A])
          end).
 
@@ -417,10 +453,10 @@ after_a_change(Comes, N, Mapper) ->
 said(Port, Name) ->
     Socket = stranger(Port, Name),
     <<"ok">> = other_side:status(Socket),
-    gen_tcp:close(Socket).
+    other_side:close(Socket).
 
 %% A node that knows the cookie comes, and goes.
-came(Port, Name) -> gen_tcp:close(comes_up(Port, Name, "new")).
+came(Port, Name) -> other_side:close(comes_up(Port, Name, "new")).
 
 comes_up(Port, Name, Cookie) ->
     Socket = stranger(Port, Name),
@@ -461,8 +497,8 @@ names_in_the_log(Mapper) ->
                                [begin
                                     Socket = other_side:connect(Port),
                                     ok = other_side:say_name(Socket, ?FLAGS, list_to_binary([First | Name])),
-                                    _ = gen_tcp:recv(Socket, 0, 5000),
-                                    gen_tcp:close(Socket),
+                                    _ = other_side:recv(Socket, 5000),
+                                    other_side:close(Socket),
                                     true = test_nodes:has_logged(A, ["\\Q'", First, "\\E.*\\Q", Shown, "\\E"])
                                 end || {Name, Shown} <- Names]
                        end,
@@ -530,7 +566,7 @@ veto(Mapper) ->
                  ok = other_side:ack(Socket, "test"),
                  true = test_nodes:wait(fun() -> c(A, erlang, nodes, []) =:= ['x@127.0.0.1'] end, 5000),
                  agreed([A]),
-                 gen_tcp:close(Socket),
+                 other_side:close(Socket),
                  true = test_nodes:wait(fun() -> c(A, erlang, nodes, []) =:= [] end, 5000),
                  agreed([A])
          end).
@@ -643,16 +679,17 @@ strangers(Mapper) ->
          fun([A, B, O]) ->
                  Port = other_side:port_of("a", Mapper),
                  [begin true = connect(X, Y), both_up(X, Y), apart(X, Y) end || {X, Y} <- [{O, A}, {A, B}]],
-                 gen_tcp:close(stranger(Port, <<"first">>)),
+                 other_side:close(stranger(Port, <<"first">>)),
                  true = test_nodes:wait(fun() -> maps:get(open, c(A, distnode_core, table, [])) =:= 0 end, 5000),
                  Atoms = c(A, erlang, system_info, [atom_count]),
-                 Silent = [other_side:connect(Port) || _ <- lists:seq(1, 200)],
-                 Named = [stranger(Port, integer_to_binary(I)) || I <- lists:seq(1, 200)],
+                 Many = case test_nodes:is_tls() of false -> 200; true -> 40 end,
+                 Silent = [other_side:connect(Port) || _ <- lists:seq(1, Many)],
+                 Named = [stranger(Port, integer_to_binary(I)) || I <- lists:seq(1, Many)],
                  [<<"ok">> = other_side:status(Socket) || Socket <- Named],
-                 #{open := 200} = c(A, distnode_core, table, []),
+                 #{open := Many} = c(A, distnode_core, table, []),
                  true = connect(O, A),
                  true = connect(A, B),
-                 [gen_tcp:close(Socket) || Socket <- Silent ++ Named],
+                 [other_side:close(Socket) || Socket <- Silent ++ Named],
                  agreed([A, B]),
                  true = c(A, erlang, system_info, [atom_count]) - Atoms < 20
          end).
@@ -677,10 +714,14 @@ impostor(Mapper) ->
                  agreed([A, B])
          end).
 
-%% A node whose numbers are used up closes its connections and begins anew.
-numbers_run_out() ->
+%% A node whose numbers are used up closes its connections and begins anew. It doesn't take a connection that was made before, nor the one
+%% that comes next: that may have been made before, too.
+numbers_run_out(Mapper) ->
     with([{"a", ours, ["-kernel", "distnode_most_ends", "6" | ?QUIET]}, {"b", ours, ?QUIET}, {"o", otp, ?QUIET}],
          fun([A, B, O]) ->
+                 true = connect(B, A),
+                 Before = [other_side:connect(other_side:port_of("a", Mapper)) || _ <- [1, 2, 3]],
+                 apart(A, B),
                  Answers = [begin
                                 Answer = connect(X, Y),
                                 [apart(X, Y) || Answer],
@@ -688,11 +729,86 @@ numbers_run_out() ->
                             end || _ <- lists:seq(1, 6), {X, Y} <- [{A, B}, {B, A}, {A, O}, {O, A}]],
                  Times = maps:get(spent, c(A, distnode_core, counts, [])),
                  true = Times >= 2,
-                 true = length([no || false <- Answers]) =< Times,
+                 true = length([no || false <- Answers]) =< 2 * Times,
+                 [begin
+                      ok = other_side:say_name(Socket, ?FLAGS, <<"before@127.0.0.1">>),
+                      {error, closed} = gen_tcp:recv(Socket, 0, 5000)
+                  end || Socket <- Before],
                  agreed([B]),
+                 true = test_nodes:wait(fun() -> connect(B, A) end, 5000),
+                 apart(A, B),
                  true = test_nodes:wait(fun() -> connect(A, B) end, 5000),
                  agreed([A, B]),
                  {said, "begun anew ~b times in ~b attempts", [Times, length(Answers)]}
+         end).
+
+%% ---- over TLS alone
+
+options(Name) -> ["-ssl_dist_optfile", test_certificates:options(Name) | ?QUIET].
+
+%% A certificate of an authority that the other node doesn't trust: refused by who accepts and by who dials.
+untrusted() ->
+    with([{"a", ours, ?QUIET}, {"b", ours, ?QUIET}, {"u", ours, options("untrusted")}, {"v", otp, options("untrusted")}],
+         fun([A, B, U, V]) ->
+                 [false = connect(X, Y) || Other <- [U, V], {X, Y} <- [{A, Other}, {Other, A}]],
+                 [[] = c(X, erlang, nodes, []) || X <- [A, U, V]],
+                 agreed([A, U]),
+                 true = connect(A, B),
+                 agreed([A, B])
+         end).
+
+%% A trusted certificate, but of another host than the one in the node's name: who dials refuses it, and who accepts does where it has an
+%% allow list, by verify_client of inet_tls_dist, or without that by the name that is said.
+elsewhere() ->
+    Flags = lists:append([["-ssl_dist_opt", Side ++ Name, Value] || Side <- ["server_", "client_"], {Name, Value} <- flags("node")]),
+    with([{"a", ours, ?QUIET}, {"d", ours, Flags ++ ["-ssl_dist_opt", "server_fail_if_no_peer_cert", "true" | ?QUIET]}, {"b", ours, ?QUIET},
+          {"e", ours, options("elsewhere")}, {"f", otp, options("elsewhere")}],
+         fun([A, D, B | Elsewhere]) ->
+                 [begin
+                      [false = connect(X, E) || E <- Elsewhere],
+                      [begin true = connect(E, X), both_up(E, X), apart(E, X) end || E <- Elsewhere],
+                      ok = c(X, net_kernel, allow, [[n(Y) || Y <- [B | Elsewhere]]]),
+                      [false = connect(E, X) || E <- Elsewhere],
+                      true = connect(B, X),
+                      apart(B, X),
+                      true = connect(X, B),
+                      agreed([X, B])
+                  end || X <- [A, D]],
+                 true = test_nodes:has_logged(D, "Connection attempt from disallowed node 'e@127.0.0.1'")
+         end).
+
+flags(Name) ->
+    [{atom_to_list(Key), case Value of [_ | _] -> Value; _ -> atom_to_list(Value) end} || {Key, Value} <- test_certificates:client(Name)].
+
+%% Connections without TLS at a port for TLS: some say nothing, some a name as over TCP. None has an end of the node, and peers connect.
+plain_strangers(Mapper) ->
+    with([{"a", ours, ?QUIET}, {"b", ours, ?QUIET}, {"o", otp, ?QUIET}],
+         fun([A, B, O]) ->
+                 Port = other_side:port_of("a", Mapper),
+                 Silent = [with_tls("", fun() -> other_side:connect(Port) end) || _ <- lists:seq(1, 50)],
+                 Named = [with_tls("", fun() -> stranger(Port, integer_to_binary(I)) end) || I <- lists:seq(1, 50)],
+                 [{error, _} = other_side:recv(Socket, 5000) || Socket <- Named],
+                 #{open := 0} = c(A, distnode_core, table, []),
+                 [begin true = connect(X, Y), both_up(X, Y) end || {X, Y} <- [{B, A}, {A, O}]],
+                 [other_side:close(Socket) || Socket <- Silent ++ Named],
+                 agreed([A, B])
+         end).
+
+%% Nodes over TLS and nodes over TCP don't connect, and are free for others afterwards.
+tls_and_tcp() ->
+    Soon = ["-kernel", "net_setuptime", "2" | ?QUIET],
+    with([{"a", ours, Soon}, {"b", ours, Soon}],
+         fun([A, B]) ->
+                 with_tls("", fun() ->
+                                      with([{"t", ours, Soon}, {"o", otp, Soon}],
+                                           fun([T, O]) ->
+                                                   [false = connect(X, Y) || {X, Y} <- [{A, T}, {T, A}, {A, O}, {O, A}]],
+                                                   true = connect(O, T),
+                                                   agreed([A, T])
+                                           end)
+                              end),
+                 true = connect(A, B),
+                 agreed([A, B])
          end).
 
 %% The application in a boot script, and code in embedded mode: the distribution starts before init runs what -on_load names.
@@ -700,7 +816,8 @@ embedded_release() ->
     Folder = filename:join(os:getenv("LOGS"), "release"),
     Lib = filename:join([Folder, "lib", "distnode-0.2.0"]),
     [ok = copy(filename:join([os:getenv("EBIN"), "..", Part]), filename:join(Lib, Part)) || Part <- ["ebin", "priv"]],
-    Applications = [{App, version(App)} || App <- [kernel, stdlib]] ++ [{distnode, "0.2.0"}],
+    Tls = [App || test_nodes:is_tls(), App <- [crypto, asn1, public_key, ssl]],
+    Applications = [{App, version(App)} || App <- [kernel, stdlib | Tls]] ++ [{distnode, "0.2.0"}],
     Release = {release, {"test", "1"}, {erts, erlang:system_info(version)}, Applications},
     ok = file:write_file(filename:join(Folder, "test.rel"), io_lib:format("~p.~n", [Release])),
     ok = systools:make_script(filename:join(Folder, "test"), [no_warn_sasl, {path, [filename:join(Lib, "ebin")]}, {outdir, Folder}, local]),
@@ -762,7 +879,12 @@ unfit_library() ->
 %% make refuses a library of another version, a folder without an archive, and an archive for another machine. It makes the module anew
 %% where the header is another one, although that is the older file.
 unfit_archive() ->
-    Build = filename:join(os:getenv("LOGS"), "build"),
+    case [Tool || Tool <- ["make", "cc"], os:find_executable(Tool) =:= false] of
+        [] -> unfit_archive(filename:join(os:getenv("LOGS"), "build"));
+        Missing -> {said, "~p missing here, so nothing was made", [Missing]}
+    end.
+
+unfit_archive(Build) ->
     Library = filename:join(os:getenv("LOGS"), "library"),
     Header = filename:join([Library, "include", "distnode.h"]),
     Archive = filename:join([Library, "lib", "libdistnode.a"]),

@@ -80,10 +80,10 @@ knocks(Mapper, N) ->
     with([{"a", ours, ?QUIET}, {"b", ours, ?QUIET}],
          fun([A, B]) ->
                  Port = other_side:port_of("a", Mapper),
-                 [gen_tcp:close(other_side:connect(Port)) || _ <- lists:seq(1, 1000)],
+                 [other_side:close(other_side:connect(Port)) || _ <- lists:seq(1, 1000)],
                  agreed(A),
                  Before = c(A, test_agent, memory, []),
-                 [gen_tcp:close(other_side:connect(Port)) || _ <- lists:seq(1, N)],
+                 [other_side:close(other_side:connect(Port)) || _ <- lists:seq(1, N)],
                  {Took, true} = timer:tc(fun() -> c(B, net_kernel, connect_node, [n(A)]) end),
                  agreed(A),
                  io_lib:format("~b knocks, then a peer connects in ~b ms; ~b KiB before, ~b after", [N, Took div 1000, Before, c(A, test_agent, memory, [])])
@@ -96,7 +96,7 @@ strangers(Mapper, N) ->
                  Port = other_side:port_of("a", Mapper),
                  Held = [stranger(Port, integer_to_binary(I)) || I <- lists:seq(1, N)],
                  Took = [element(1, {_, true} = timer:tc(fun() -> c(X, net_kernel, connect_node, [n(A)]) end)) div 1000 || X <- [B, O]],
-                 [gen_tcp:close(Socket) || Socket <- Held],
+                 [other_side:close(Socket) || Socket <- Held],
                  agreed(A),
                  io_lib:format("~b strangers held, peers connect beside them in ~w ms", [N, Took])
          end).
@@ -131,7 +131,7 @@ more_up_than_cookies(Mapper, N) ->
                  Took = [element(1, {_, true} = timer:tc(fun() -> c(X, net_kernel, connect_node, [n(A)]) end)) div 1000 || X <- [B, O]],
                  [both_up(A, X) || X <- [B, O]],
                  #{lent := Lent} = c(A, distnode_core, table, []),
-                 [gen_tcp:close(Socket) || Socket <- Held ++ Up],
+                 [other_side:close(Socket) || Socket <- Held ++ Up],
                  true = test_nodes:wait(fun() -> maps:get(lent, c(A, distnode_core, table, [])) =:= 2 end, 20000),
                  [both_up(A, X) || X <- [B, O]],
                  agreed(A),
@@ -153,7 +153,7 @@ no_descriptors(Mapper) ->
                                     Held = [other_side:connect(Port) || _ <- lists:seq(1, 260)],
                                     receive after 2000 -> ok end,
                                     Took = timer:tc(fun() -> test_nodes:wait(fun() -> c(B, net_kernel, connect_node, [n(X)]) end, 20000) end),
-                                    [gen_tcp:close(Socket) || Socket <- Held],
+                                    [other_side:close(Socket) || Socket <- Held],
                                     {Took, test_nodes:is_alive(X)}
                                 end || {X, Short} <- [{A, "a"}, {O, "o"}]],
                  {{_, true}, true} = Ours,
@@ -176,7 +176,7 @@ impostor(Mapper) ->
                                     ok = other_side:say_name(Socket, ?FLAGS, atom_to_binary(n(B))),
                                     <<"ok">> = other_side:status(Socket),
                                     {Took, Answer} = timer:tc(fun() -> c(B, net_kernel, connect_node, [n(X)]) end),
-                                    gen_tcp:close(Socket),
+                                    other_side:close(Socket),
                                     [Answer, Took div 1000]
                                 end || {X, Short} <- [{A, "a"}, {O, "o"}]],
                  true = hd(Ours),

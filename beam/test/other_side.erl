@@ -1,8 +1,8 @@
 %% SPDX-License-Identifier: Apache-2.0
-%% The other side of a handshake by hand, frame by frame, as the ERTS User's Guide has it; and a relay between a node and its
-%% peer that can stop without a word.
+%% The other side of a handshake by hand, frame by frame, as the ERTS User's Guide has it, over TCP or TLS as the nodes; and a relay
+%% between a node and its peer that can stop without a word.
 -module(other_side).
--export([port_of/2, connect/1, connect_from/2, say_name/3, status/1, challenge/1, reply/3, ack/2, is_silent/2]).
+-export([port_of/2, connect/1, send/2, recv/2, close/1, say_name/3, status/1, challenge/1, reply/3, ack/2, is_silent/2]).
 -export([relay/1, freeze/1]).
 
 %% The port of a node at the port mapper.
@@ -14,32 +14,50 @@ port_of(Short, Mapper) ->
     gen_tcp:close(Socket),
     Port.
 
-connect(Port) -> connect_from({127, 0, 0, 1}, Port).
-
-connect_from(Own, Port) ->
-    {ok, Socket} = gen_tcp:connect({127, 0, 0, 1}, Port, [binary, {packet, 2}, {active, false}, {ip, Own}]),
+connect(Port) ->
+    Options = [binary, {active, false}],
+    {ok, Socket} = case test_nodes:is_tls() of
+                       false -> gen_tcp:connect({127, 0, 0, 1}, Port, [{packet, 2} | Options]);
+                       true -> connect_tls(Port, [{packet, 4}, {server_name_indication, "127.0.0.1"} | Options])
+                   end,
     Socket.
 
-say_name(Socket, Flags, Name) -> gen_tcp:send(Socket, <<$N, Flags:64, 7:32, (byte_size(Name)):16, Name/binary>>).
+connect_tls(Port, Options) ->
+    {ok, _} = application:ensure_all_started(ssl),
+    ssl:connect({127, 0, 0, 1}, Port, Options ++ test_certificates:client("node")).
+
+send(Socket, Body) when is_port(Socket) -> gen_tcp:send(Socket, Body);
+send(Socket, Body) -> ssl:send(Socket, Body).
+
+recv(Socket, Wait) when is_port(Socket) -> gen_tcp:recv(Socket, 0, Wait);
+recv(Socket, Wait) -> ssl:recv(Socket, 0, Wait).
+
+%% ssl may wait for the other side.
+close(Socket) when is_port(Socket) -> gen_tcp:close(Socket);
+close(Socket) ->
+    _ = spawn(ssl, close, [Socket]),
+    ok.
+
+say_name(Socket, Flags, Name) -> send(Socket, <<$N, Flags:64, 7:32, (byte_size(Name)):16, Name/binary>>).
 
 status(Socket) ->
-    {ok, <<$s, Status/binary>>} = gen_tcp:recv(Socket, 0, 5000),
+    {ok, <<$s, Status/binary>>} = recv(Socket, 5000),
     Status.
 
 challenge(Socket) ->
-    {ok, <<$N, _Flags:64, Challenge:32, _Creation:32, Size:16, _Name:Size/binary>>} = gen_tcp:recv(Socket, 0, 5000),
+    {ok, <<$N, _Flags:64, Challenge:32, _Creation:32, Size:16, _Name:Size/binary>>} = recv(Socket, 5000),
     Challenge.
 
-reply(Socket, Cookie, Challenge) -> gen_tcp:send(Socket, <<$r, 42:32, (digest(Cookie, Challenge))/binary>>).
+reply(Socket, Cookie, Challenge) -> send(Socket, <<$r, 42:32, (digest(Cookie, Challenge))/binary>>).
 
 ack(Socket, Cookie) ->
     Digest = digest(Cookie, 42),
-    {ok, <<$a, Digest/binary>>} = gen_tcp:recv(Socket, 0, 5000),
+    {ok, <<$a, Digest/binary>>} = recv(Socket, 5000),
     ok.
 
 digest(Cookie, Challenge) -> erlang:md5([Cookie, integer_to_list(Challenge)]).
 
-is_silent(Socket, Wait) -> gen_tcp:recv(Socket, 0, Wait) =:= {error, timeout}.
+is_silent(Socket, Wait) -> recv(Socket, Wait) =:= {error, timeout}.
 
 %% ---- the relay: it carries bytes to a port until it freezes, and then it reads nothing more and closes nothing
 

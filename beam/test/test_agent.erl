@@ -2,7 +2,8 @@
 %% In a node under test: does what the test asks, over a connection of its own beside the distribution. It connects to the
 %% test's port, and ends the node with that connection.
 -module(test_agent).
--export([main/1, row/1, connect_at/2, is_asked/1, is_agreed/0, sink/0, flood/2, watch/1, is_down/1, stay_up/2, traffic/2]).
+-export([main/1, row/1, gone_with_its_controller/1, connect_at/2, is_idle/0, is_asked/1, is_agreed/0, sink/0, flood/2, watch/1, is_down/1]).
+-export([stay_up/2, traffic/2]).
 -export([up_end/1, is_held/1, observe/1, traffic_observed/2, reconnect/2, memory/0, crowd/2, crowd_closed/0, change_cookie_once_asked/2]).
 
 main([Port]) ->
@@ -25,14 +26,29 @@ answer(M, F, A) ->
     catch Class:Reason:Stack -> {Class, Reason, Stack}
     end.
 
-%% How net_kernel sees a node: {State, {OwnAddress, PeerAddress}}, or none. The places of its rows are those of OTP 25 to 29.
+%% How net_kernel sees a node: {State, {OwnAddress, PeerAddress}}, or none. The places of its rows are those of OTP 25 to 29, and that of
+%% the peer's address in a row's.
 row(Node) ->
     case ets:lookup(sys_dist, Node) of
-        [Row] when is_port(element(6, Row)) ->
-            {element(4, Row), {inet:sockname(element(6, Row)), inet:peername(element(6, Row))}};
-        [Row] -> {element(4, Row), none};
+        [Row] -> {element(4, Row), addresses(element(8, Row))};
         [] -> none
     end.
+
+addresses(undefined) -> none;
+addresses(Address) ->
+    Peer = {ok, element(2, Address)},
+    case [inet:sockname(Port) || Port <- erlang:ports(), inet:peername(Port) =:= Peer] of
+        [Own] -> {Own, Peer};
+        _ -> none
+    end.
+
+%% Disconnects: once the node's controller is gone, nodes() has the node no more.
+gone_with_its_controller(Node) ->
+    [Row] = ets:lookup(sys_dist, Node),
+    Controller = element(6, Row),
+    Ref = monitor(case is_port(Controller) of true -> port; false -> process end, Controller),
+    true = erlang:disconnect_node(Node),
+    receive {'DOWN', Ref, _, _, _} -> false = lists:member(Node, nodes()), ok after 20000 -> timeout end.
 
 %% connect_node at a moment of the system's clock, in nanoseconds: it is busy for the last milliseconds.
 connect_at(Node, Moment) ->
@@ -45,6 +61,13 @@ busy_until(Moment) ->
         true -> busy_until(Moment);
         false -> ok
     end.
+
+%% Is nobody about to ask net_kernel for a connection? It has done what it was asked before.
+is_idle() ->
+    About = [Pid || Pid <- processes(), {current_function, {Module, Function, _}} <- [process_info(Pid, current_function)],
+                    lists:member({Module, Function}, [{?MODULE, connect_at}, {?MODULE, busy_until}, {net_kernel, connect_node}])],
+    _ = net_kernel:longnames(),
+    About =:= [].
 
 %% Has net_kernel been asked to take a connection of this node, and not answered yet?
 is_asked(Node) ->
@@ -150,7 +173,7 @@ member(I, Flags) ->
     Name = iolist_to_binary(io_lib:format("stranger~b@127.0.0.1", [I])),
     Frame = <<$N, Flags:64, 7:32, (byte_size(Name)):16, Name/binary>>,
     Pid = spawn(fun() ->
-                        {ok, #{id := Id}, {more, [<<"sok">>, <<$N, _/binary>>]}} = distnode_core:arrived(Frame, distnode_access:of_peer(Name, [])),
+                        {ok, #{id := Id}, {more, [<<"sok">>, <<$N, _/binary>>]}} = distnode_core:arrived(Frame, distnode_access:of_peer(Name, []), 0),
                         Self ! {self(), came},
                         stay(Id, false)
                 end),

@@ -2,7 +2,7 @@
 %% Starts emulators as processes of the system, for a test that has no distribution of its own, and asks their agents. It ends
 %% what it has started and nothing else.
 -module(test_nodes).
--export([port_mapper/0, start/1, start/3, start_bare/3, call/4, call/5, name/1, stop/1, kill/1, signal/2, is_alive/1, log/1, has_logged/2, ended/2, wait/2]).
+-export([port_mapper/0, start/1, start/3, start_bare/3, is_tls/0, call/4, call/5, name/1, stop/1, kill/1, signal/2, is_alive/1, log/1, has_logged/2, ended/2, wait/2]).
 
 -record(node, {name, port, os_pid, socket = none, log}).
 
@@ -13,7 +13,7 @@ port_mapper() ->
     ok = gen_tcp:close(Free),
     Text = integer_to_list(Port),
     Mapper = open_port({spawn_executable, os:find_executable("sh")},
-                       [{args, ["-c", "exec epmd -port " ++ Text ++ " -address 127.0.0.1,::1 2>/dev/null"]}, exit_status]),
+                       [{args, ["-c", "exec epmd -port " ++ Text ++ " -address 127.0.0.1,127.0.0.2,127.0.0.3,::1 2>/dev/null"]}, exit_status]),
     os:putenv("ERL_EPMD_PORT", Text),
     os:putenv("ERL_EPMD_ADDRESS", "127.0.0.1"),
     true = wait(fun() -> element(1, gen_tcp:connect({127, 0, 0, 1}, Port, [])) =:= ok end, 10000),
@@ -21,9 +21,10 @@ port_mapper() ->
     {Port, OsPid}.
 
 %% Several at once: [{Short, Kind, Arguments}] with ours | otp | ours6 | otp6, those with a 6 over IPv6; {short | long, ours | otp} with
-%% a host that has a name of one part or of several; {limited, Kind}, with 200 descriptors; {later, Kind}, which has no name yet; or
-%% {Root, Kind}: of the
-%% Erlang that is installed below that folder, which has this test's files under the same names.
+%% a host that has a name of one part or of several; {limited, Kind}, with 200 descriptors; {later, Kind}, which has no name yet;
+%% {program, Command, Environment}, a node that another program starts, with the name Short: the environment is a function of the port
+%% that its agent connects to; or {Root, Kind}: of the Erlang that is installed below that folder, which has this test's files under
+%% the same names.
 start(Specs) ->
     Begun = [begin_one(Spec) || Spec <- Specs],
     try [join(One) || One <- Begun]
@@ -37,10 +38,17 @@ start(Short, Kind, Arguments) ->
     [Node] = start([{Short, Kind, Arguments}]),
     Node.
 
+begin_one({Name, {program, Command, Environment}, []}) ->
+    {Listen, Port} = listen(),
+    {Listen, opened(Name, "program", Command, Environment(Port))};
 begin_one({Short, Kind, Arguments}) ->
+    {Listen, Port} = listen(),
+    {Listen, start_bare(Short, Kind, Arguments ++ agent(Kind, integer_to_list(Port)))}.
+
+listen() ->
     {ok, Listen} = gen_tcp:listen(0, [binary, {packet, 4}, {active, false}, {ip, {127, 0, 0, 1}}]),
     {ok, Port} = inet:port(Listen),
-    {Listen, start_bare(Short, Kind, Arguments ++ agent(Kind, integer_to_list(Port)))}.
+    {Listen, Port}.
 
 %% Code in embedded mode isn't looked for, so it is loaded by hand there.
 agent(release, Port) ->
@@ -48,7 +56,7 @@ agent(release, Port) ->
     ["-eval", lists:flatten(io_lib:format("{module, test_agent} = code:load_abs(~p), test_agent:main([~p]).", [Agent, Port]))];
 agent(_, Port) -> ["-run", "test_agent", "main", Port].
 
-join({Listen, Node}) -> join(Listen, Node, 300).
+join({Listen, Node}) -> join(Listen, Node, 1200).
 
 %% It is looked after now and then, in case it does not start.
 join(Listen, Node, Left) ->
@@ -75,12 +83,15 @@ start_bare(Erl, Short, Kind, Arguments) -> start_bare(Erl, Short, Kind, Argument
 start_bare(Erl, Short, Kind, Arguments, HostKind) ->
     {Flag, Host, Interface} = host(HostKind),
     Name = Short ++ "@" ++ Host,
-    Log = filename:join(os:getenv("LOGS"), Short ++ "." ++ integer_to_list(erlang:unique_integer([positive])) ++ ".log"),
     Command = Erl ++ ["-noinput", "-pa", os:getenv("TESTS"), "-start_epmd", "false",
                "-kernel", "inet_dist_use_interface", Interface] ++ carrier(Kind) ++ [Word || Word <- [Flag, Name], Flag =/= none] ++
-        cookie(Arguments) ++ Arguments,
+        cookie(Arguments) ++ lists:append([tls(Erl, Kind, Arguments) || is_tls()]) ++ Arguments,
+    opened(Name, Short, Command, []).
+
+opened(Name, Short, Command, Environment) ->
+    Log = filename:join(os:getenv("LOGS"), Short ++ "." ++ integer_to_list(erlang:unique_integer([positive])) ++ ".log"),
     Port = open_port({spawn_executable, os:find_executable("sh")},
-                     [{args, ["-c", "exec \"$@\" >" ++ Log ++ " 2>&1", "sh" | Command]}, exit_status]),
+                     [{args, ["-c", "exec \"$@\" >" ++ Log ++ " 2>&1", "sh" | Command]}, {env, Environment}, exit_status]),
     {os_pid, OsPid} = erlang:port_info(Port, os_pid),
     #node{name = list_to_atom(Name), port = Port, os_pid = OsPid, log = Log}.
 
@@ -97,11 +108,31 @@ hosts() ->
     File.
 
 carrier(ours) -> carrier(os:getenv("EBIN"));
-carrier(ours6) -> ["-proto_dist", "distnode6", "-pa", os:getenv("EBIN")];
-carrier(otp) -> [];
-carrier(otp6) -> ["-proto_dist", "inet6_tcp"];
-carrier(release) -> ["-proto_dist", "distnode"];
-carrier(Ebin) -> ["-proto_dist", "distnode", "-pa", Ebin].
+carrier(ours6) -> ["-proto_dist", protocol("distnode6"), "-pa", os:getenv("EBIN")];
+carrier(otp) -> ["-proto_dist", protocol("inet")];
+carrier(otp6) -> ["-proto_dist", protocol("inet6")];
+carrier(release) -> ["-proto_dist", protocol("distnode")];
+carrier(Ebin) -> ["-proto_dist", protocol("distnode"), "-pa", Ebin].
+
+protocol(Name) ->
+    case {is_tls(), lists:prefix("inet", Name)} of
+        {true, _} -> Name ++ "_tls";
+        {false, true} -> Name ++ "_tcp";
+        {false, false} -> Name
+    end.
+
+%% Are nodes started over TLS?
+is_tls() -> os:getenv("TLS", "") =/= "".
+
+%% The modules of TLS are in no boot script but a release's.
+tls(Erl, Kind, Arguments) ->
+    Root = case Erl of [_Chroot, Below, "/usr/bin/erl"] -> Below; _ -> "" end,
+    Lib = Root ++ code:lib_dir(),
+    Paths = [["-pa", filename:join([code:lib_dir(), Folder, "ebin"])]
+             || App <- ["ssl", "public_key", "asn1", "crypto"], Kind =/= release, Folder <- filelib:wildcard(App ++ "-[0-9]*", Lib)],
+    Options = [["-ssl_dist_optfile", test_certificates:options("node")]
+               || not lists:member("-ssl_dist_optfile", Arguments), not lists:member("-ssl_dist_opt", Arguments)],
+    lists:append(Paths ++ Options).
 
 cookie(Arguments) -> case lists:member("-setcookie", Arguments) of true -> []; false -> ["-setcookie", "test"] end.
 
