@@ -20,7 +20,7 @@ messages() -> {ssl, ssl_closed, ssl_error}.
 await(Acceptor, Accepted, Allowed, Wait) ->
     Raw = distnode_tcp:await(Acceptor, Accepted, Allowed, Wait),
     {ok, {Ip, _}} = inet:peername(Raw),
-    case ssl:handshake(Raw, [{active, false}, {packet, packet()} | server_options(Ip, Allowed)], Wait) of
+    case ssl:handshake(Raw, frames() ++ server_options(Ip, Allowed), Wait) of
         {ok, Socket} -> Socket;
         {error, {options, _}} = Error ->
             error_logger:error_msg("** distnode: TLS connections can't be accepted: ~ts **~n", [ssl:format_error(Error)]),
@@ -31,7 +31,10 @@ await(Acceptor, Accepted, Allowed, Wait) ->
 connect(Driver, Ip, Port, Host, Wait) ->
     Own = application:get_env(kernel, inet_dist_connect_options, []) ++ client_options(),
     Name = [{server_name_indication, Host} || not proplists:is_defined(server_name_indication, Own)],
-    ssl:connect(Ip, Port, [binary, Driver:family(), {active, false}, {packet, packet()}, {nodelay, true} | Name ++ Own], Wait).
+    ssl:connect(Ip, Port, [binary, Driver:family(), {nodelay, true} | frames() ++ Name ++ Own], Wait).
+
+%% No frame of the handshake is longer. What follows is not read by ssl in frames.
+frames() -> [{active, false}, {packet, packet()}, {packet_size, 65535}].
 
 %% Where there is an allow list, a certificate has to be of the host in the peer's name. A peer that need not show one may have none.
 is_certified(Socket, Host) ->

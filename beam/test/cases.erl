@@ -73,7 +73,7 @@ common(Mapper) ->
      {"strangers", fun() -> strangers(Mapper) end},
      {"impostor", fun() -> impostor(Mapper) end},
      {"numbers_run_out", fun() -> numbers_run_out(Mapper) end},
-     {"orders_swept", fun() -> order_sweeps:some(Mapper) end},
+     {"orders_swept", fun() -> with_tls("", fun() -> order_sweeps:some(Mapper) end) end},
      {"embedded_release", fun embedded_release/0},
      {"killed_core", fun killed_core/0},
      {"unfit_library", fun unfit_library/0},
@@ -732,7 +732,7 @@ numbers_run_out(Mapper) ->
                  true = length([no || false <- Answers]) =< 2 * Times,
                  [begin
                       ok = other_side:say_name(Socket, ?FLAGS, <<"before@127.0.0.1">>),
-                      {error, closed} = gen_tcp:recv(Socket, 0, 5000)
+                      {error, closed} = other_side:recv(Socket, 5000)
                   end || Socket <- Before],
                  agreed([B]),
                  true = test_nodes:wait(fun() -> connect(B, A) end, 5000),
@@ -781,6 +781,7 @@ flags(Name) ->
     [{atom_to_list(Key), case Value of [_ | _] -> Value; _ -> atom_to_list(Value) end} || {Key, Value} <- test_certificates:client(Name)].
 
 %% Connections without TLS at a port for TLS: some say nothing, some a name as over TCP. None has an end of the node, and peers connect.
+%% One with TLS says a length that no frame of the handshake has.
 plain_strangers(Mapper) ->
     with([{"a", ours, ?QUIET}, {"b", ours, ?QUIET}, {"o", otp, ?QUIET}],
          fun([A, B, O]) ->
@@ -788,6 +789,10 @@ plain_strangers(Mapper) ->
                  Silent = [with_tls("", fun() -> other_side:connect(Port) end) || _ <- lists:seq(1, 50)],
                  Named = [with_tls("", fun() -> stranger(Port, integer_to_binary(I)) end) || I <- lists:seq(1, 50)],
                  [{error, _} = other_side:recv(Socket, 5000) || Socket <- Named],
+                 Long = other_side:connect(Port),
+                 ok = ssl:setopts(Long, [{packet, raw}]),
+                 ok = other_side:send(Long, <<65536:32>>),
+                 {error, closed} = other_side:recv(Long, 5000),
                  #{open := 0} = c(A, distnode_core, table, []),
                  [begin true = connect(X, Y), both_up(X, Y) end || {X, Y} <- [{B, A}, {A, O}]],
                  [other_side:close(Socket) || Socket <- Silent ++ Named],

@@ -85,7 +85,7 @@ start_bare(Erl, Short, Kind, Arguments, HostKind) ->
     Name = Short ++ "@" ++ Host,
     Command = Erl ++ ["-noinput", "-pa", os:getenv("TESTS"), "-start_epmd", "false",
                "-kernel", "inet_dist_use_interface", Interface] ++ carrier(Kind) ++ [Word || Word <- [Flag, Name], Flag =/= none] ++
-        cookie(Arguments) ++ lists:append([tls(Erl, Kind, Arguments) || is_tls()]) ++ Arguments,
+        cookie(Arguments) ++ tls(Arguments) ++ Arguments,
     opened(Name, Short, Command, []).
 
 opened(Name, Short, Command, Environment) ->
@@ -124,15 +124,11 @@ protocol(Name) ->
 %% Are nodes started over TLS?
 is_tls() -> os:getenv("TLS", "") =/= "".
 
-%% The modules of TLS are in no boot script but a release's.
-tls(Erl, Kind, Arguments) ->
-    Root = case Erl of [_Chroot, Below, "/usr/bin/erl"] -> Below; _ -> "" end,
-    Lib = Root ++ code:lib_dir(),
-    Paths = [["-pa", filename:join([code:lib_dir(), Folder, "ebin"])]
-             || App <- ["ssl", "public_key", "asn1", "crypto"], Kind =/= release, Folder <- filelib:wildcard(App ++ "-[0-9]*", Lib)],
-    Options = [["-ssl_dist_optfile", test_certificates:options("node")]
-               || not lists:member("-ssl_dist_optfile", Arguments), not lists:member("-ssl_dist_opt", Arguments)],
-    lists:append(Paths ++ Options).
+tls(Arguments) ->
+    case is_tls() andalso not lists:any(fun(Word) -> lists:prefix("-ssl_dist_opt", Word) end, Arguments) of
+        true -> ["-ssl_dist_optfile", test_certificates:options("node")];
+        false -> []
+    end.
 
 cookie(Arguments) -> case lists:member("-setcookie", Arguments) of true -> []; false -> ["-setcookie", "test"] end.
 

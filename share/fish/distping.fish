@@ -16,6 +16,7 @@ complete -c distping -l address -x -a '(__fish_print_hostnames)' -d 'the host to
 complete -c distping -l seconds -x -d 'the most that a connect, a lookup and the talk may take each'
 complete -c distping -l listen -x -d 'take one connection at this port'
 complete -c distping -l nodes -r -F -d 'a file of further nodes, one a line'
+complete -c distping -l capture -r -F -d 'read a capture of packets, and report each handshake in it'
 complete -c distping -l watch -x -d 'probe again every so many seconds, and print what changes'
 complete -c distping -l count -x -d 'end a watch after so many rounds'
 complete -c distping -l all-pairs -d 'print each pair of more than two nodes'

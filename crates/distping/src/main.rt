@@ -4,6 +4,7 @@
 //! together: it decides which nodes are dialled, several at once or again and again, and prints what can be said of them.
 #![tactic(auto)]
 
+mod capturing;
 mod common;
 mod comparing;
 mod gathering;
@@ -14,15 +15,19 @@ mod reply;
 mod together;
 mod watching;
 
+use capturing::read_capture;
 use common::Context;
 use comparing::compare;
 use dist_cluster::first_of;
 use dist_names::NodeName;
 use dist_program::{HostError, Resolving, lookup_host, mapper_port, words_of};
+use dist_secret::Cookie;
 use distping_json::caller_object;
 use distping_links::{draw_challenge, setup_of, take_connection};
 use distping_report::{Caller, LineSink, Listed, Listen};
-use distping_words::{Fault, Instead, Refusal, Wanted, cookie_of, read_roster, wanted_of};
+use distping_words::{
+    Choices, CookieSource, Fault, Instead, Refusal, Wanted, cookie_of, read_roster, wanted_of,
+};
 use gathering::gather;
 use std::net::SocketAddr;
 use std::process::ExitCode;
@@ -36,6 +41,7 @@ const HELP: &str =
                 [--all-pairs] [--json]
        distping --listen PORT --name NAME [--cookie FILE | --no-cookie] [--cookie-unsafe] [--flags FLAG,..|HEX]
                 [--address HOST] [--seconds N] [--json]
+       distping --capture FILE [--cookie FILE] [--cookie-unsafe] [--epmd-port N] [--json]
        distping --help | --version
 
 Dials a live Erlang node at each address of its host until it is found, reports what happens, step by step, and ends with one verdict, its cause and its remedy.
@@ -54,10 +60,11 @@ Of several nodes it also reports what can be reported of each two of them: of mo
   --seconds N     the most that the look-up of the host, a connect, a lookup of the node and the talk may take each (8), at all
                   addresses of the host together; with --listen also the wait for a connection (without end)
   --listen PORT   takes one connection as the node NAME would, and reports what the other side says
+  --capture FILE  reads a capture of packets (pcap or pcapng; - is standard input), and reports each handshake in it
   --watch SECONDS probes all nodes again every so many seconds, and reports what changes
   --count N       with --watch: ends after so many rounds, and reports how long the answers took
   --all-pairs     reports of each pair of more than two nodes
-  --json          an object of JSON for each node, each pair and each connection taken, in place of the lines
+  --json          an object of JSON for each node, each pair, each connection taken and each one of a capture, in place of the lines
   --help, --version
 
 Status: 0 up, 1 a fault here, 2 a bad command line, 3 the host's name, 4 the port mapper, 5 the registration,
@@ -101,8 +108,11 @@ fn follow<'x, R: Resolving + Sync>(
     wanted: &mut Wanted<'_>,
 ) -> Result<u8, Refusal> {
     read_names(rt, wanted)?;
-    let read = cookie_of(rt, &wanted.choices)?;
+    let read = cookie_read(rt, &wanted.choices)?;
     let cookie = read.as_ref();
+    if let Some(path) = wanted.choices.capture {
+        return Ok(read_capture(rt, path, &wanted.choices, cookie)?);
+    }
     let context = Context {
         rt,
         resolver,
@@ -115,6 +125,14 @@ fn follow<'x, R: Resolving + Sync>(
         _ => check_nodes(&context)?,
     };
     Ok(status)
+}
+
+// The cookie that is tried, or compared with the digests of a capture: for those it has to be named.
+fn cookie_read(rt: &HostRuntime, choices: &Choices<'_>) -> Result<Option<Cookie>, Refusal> {
+    match choices.cookie {
+        CookieSource::Home if choices.capture.is_some() => Ok(None),
+        _ => cookie_of(rt, choices),
+    }
 }
 
 // Adds the names in the file of names to those of the command line, if there is such a file.

@@ -77,8 +77,8 @@ impl<'p> LineSink<'p> {
         }
     }
 
-    // Prints a line of these pieces, unless steps are left out.
-    fn put(self, pieces: &[LinePiece<'_>]) -> Result<(), Fault> {
+    /// Prints a line of these pieces, unless steps are left out.
+    pub fn put(self, pieces: &[LinePiece<'_>]) -> Result<(), Fault> {
         if self.quiet {
             Ok(())
         } else {

@@ -20,6 +20,7 @@ fault_status fault.OneNodeAlone = 2
 fault_status fault.TooManyNodes = 2
 fault_status fault.CountAlone = 2
 fault_status fault.ListenAlone = 2
+fault_status fault.CaptureAlone = 2
 fault_status other = 1
 
 -- the same for all that ends the program early
@@ -41,8 +42,8 @@ GivesName bytes (Err fault.BadName) = IsNodeName bytes → ⊥
 GivesName bytes (Err fault.NoMemory) = Unit {0}
 GivesName bytes (Err other) = ⊥
 
--- what is asked for can be done: who listens has a name, and who dials has a target, or a file that may name some
+-- what is asked for can be done: who listens has a name, and reads no capture; who dials has a target, or a file that may name some
 abbrev pub Fits : Wanted → Type 0
 Fits w =
-    (is_some w.choices.listen ≡ true → is_some w.name ≡ true)
-    × (is_some w.choices.listen ≡ false → is_some w.choices.roster ≡ false → 0 < length w.targets.items)
+    (is_some w.choices.listen ≡ true → (is_some w.name ≡ true) × (is_some w.choices.capture ≡ false))
+    × (is_some w.choices.listen ≡ false → is_some w.choices.capture ≡ false → is_some w.choices.roster ≡ false → 0 < length w.targets.items)

@@ -56,7 +56,7 @@ pub enum CookieSource<'a> {
 /// What is dialled, and how.
 #[derive(Drop)]
 pub struct Wanted<'a> {
-    /// The targets. There is at least one, unless the program listens or a file names more.
+    /// The targets. There is at least one, unless the program listens or reads a capture, or a file names more.
     pub targets: Vec<Target>,
     /// The name that the probe gives itself, if one is given.
     pub name: Option<NodeName>,
@@ -93,6 +93,8 @@ pub struct Choices<'a> {
     pub all_pairs: bool,
     /// How often the nodes are probed to see what changes, if they are watched.
     pub watch: Option<Rhythm>,
+    /// The capture that is read, instead of dialling.
+    pub capture: Option<&'a str>,
 }
 
 /// How often nodes are probed that are watched.
@@ -149,7 +151,7 @@ const PROGRAM: &str = "distping";
 const SWITCHES: [&str; 4] = ["no-cookie", "json", "cookie-unsafe", "all-pairs"];
 
 // The options that take a text.
-const VALUES: [&str; 5] = ["name", "cookie", "flags", "address", "nodes"];
+const VALUES: [&str; 6] = ["name", "cookie", "flags", "address", "nodes", "capture"];
 
 // The options that take a number.
 const VALUES_IN_DIGITS: [&str; 6] = ["epmd-port", "port", "listen", "seconds", "watch", "count"];
@@ -338,6 +340,7 @@ fn choices_in<'a>(
         roster: matches.get_str("nodes"),
         all_pairs: matches.get_flag("all-pairs"),
         watch: rhythm_in(watch, count)?,
+        capture: matches.get_str("capture"),
     })
 }
 
@@ -353,7 +356,11 @@ impl Wanted<'_> {
     {
         let choices = &self.choices;
         let has_targets = !self.targets.is_empty() || choices.roster.is_some();
-        if choices.listen.is_some() {
+        if choices.capture.is_some() {
+            if has_targets || choices.listen.is_some() || choices.watch.is_some() {
+                return Some(Fault::CaptureAlone);
+            }
+        } else if choices.listen.is_some() {
             if has_targets || choices.watch.is_some() || self.name.is_none() {
                 return Some(Fault::ListenAlone);
             }

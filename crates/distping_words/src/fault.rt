@@ -48,6 +48,14 @@ pub enum Fault {
     NoListenAddress,
     /// `--listen` needs a name to listen as, and takes no nodes.
     ListenAlone,
+    /// `--capture` takes no nodes, and goes with no other way to find nodes.
+    CaptureAlone,
+    /// The capture could not be opened.
+    CaptureClosed,
+    /// The capture could not be read.
+    CaptureUnread,
+    /// The file is no capture, or one whose form is not known.
+    NoCapture,
     /// The output could not be written.
     WriteFailed,
     /// The system gave no random bytes.
@@ -78,6 +86,10 @@ impl fmt::Display for Fault {
             Fault::NotStored => "OpenFailed: the cookie's file is a pipe, a socket or a device",
             Fault::NoListenAddress => "ListenFailed: the host of --address has no address",
             Fault::ListenAlone => "--listen goes with --name, and with no NODE",
+            Fault::CaptureAlone => "--capture goes with no NODE, and not with --listen or --watch",
+            Fault::CaptureClosed => "OpenFailed: the file of --capture",
+            Fault::CaptureUnread => "ReadFailed: the file of --capture",
+            Fault::NoCapture => "Malformed: the file of --capture is no pcap and no pcapng",
             Fault::WriteFailed => "WriteFailed",
             Fault::NoRandomBytes => "ReadFailed: no random bytes",
             Fault::NoMemory => "NoMemory",
@@ -134,7 +146,8 @@ impl Fault {
             | Fault::OneNodeAlone
             | Fault::TooManyNodes
             | Fault::CountAlone
-            | Fault::ListenAlone => 2,
+            | Fault::ListenAlone
+            | Fault::CaptureAlone => 2,
             _ => 1,
         }
     }

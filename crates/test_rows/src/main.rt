@@ -1,6 +1,6 @@
-//! Plays rows of bytes: names, cookies and their digests, frames, packets, handshake messages, command lines, and verdicts of a watch;
-//! over streams in memory the registry and a client of the port mapper, and a probe that talks with a node; and scripts, with what they
-//! print. The rows are files in the folder in which the program runs.
+//! Plays rows of bytes: names, cookies and their digests, frames, packets, handshake messages, command lines, verdicts of a watch,
+//! captures, and the streams that their segments make; over streams in memory the registry and a client of the port mapper, and a probe
+//! that talks with a node; and scripts, with what they print. The rows are files in the folder in which the program runs.
 //!
 //! What the rows expect is typed from the ERTS User's Guide (EPMD Protocol, Distribution Protocol), from captured handshakes, from
 //! other programs (digests) and from the rules of `docs/PROTOCOL.md`. Each file is played with its bytes in one piece and then byte by
@@ -8,6 +8,8 @@
 #![tactic(auto)]
 
 mod asked;
+mod capture_pages;
+mod captures;
 mod changes;
 mod cookies;
 mod digits;
@@ -29,7 +31,7 @@ use std::process::ExitCode;
 use std::{fs, io};
 
 /// The files of rows, and their subjects.
-const FILES: [(&str, Subject); 16] = [
+const FILES: [(&str, Subject); 18] = [
     ("node_names", Subject::Names),
     ("cookies", Subject::Cookies),
     ("digests", Subject::Cookies),
@@ -46,6 +48,8 @@ const FILES: [(&str, Subject); 16] = [
     ("other_talks", Subject::Talks),
     ("orders", Subject::Orders),
     ("changes", Subject::Changes),
+    ("captures", Subject::Captures),
+    ("streams", Subject::Streams),
 ];
 
 /// Prints how many rows each file has, or the first row with another result.
@@ -55,7 +59,7 @@ fn main(rt: HostRuntime) -> ExitCode {
             return ExitCode::FAILURE;
         }
     }
-    match scripts::play_files(&rt) {
+    match scripts::play_files(&rt).and_then(|_| capture_pages::play_pages(&rt)) {
         Ok(()) => ExitCode::SUCCESS,
         Err(_) => ExitCode::FAILURE,
     }

@@ -1,6 +1,7 @@
 //! Files of rows. A line that begins with `#` is a comment; any other is `CASE => WANTED`, or just a case if nothing is reported.
 
 use crate::asked::put_asked;
+use crate::captures::{put_capture, put_stream};
 use crate::changes::put_changes;
 use crate::cookies::put_cookie;
 use crate::digits::{bytes_in, word};
@@ -26,6 +27,8 @@ pub enum Subject {
     Talks,
     Orders,
     Changes,
+    Captures,
+    Streams,
 }
 
 /// How many rows a file has.
@@ -109,6 +112,8 @@ fn put_answer(
         Subject::Talks => put_talk(alloc, printed, case, pieces),
         Subject::Orders => put_order(alloc, printed, case),
         Subject::Changes => put_changes(alloc, printed, case),
+        Subject::Captures => put_capture(alloc, printed, case, pieces),
+        Subject::Streams => put_stream(alloc, printed, case),
     }
 }
 

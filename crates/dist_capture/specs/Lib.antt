@@ -1,0 +1,9 @@
+pub mod Parts
+pub mod Link
+pub mod Network
+pub mod Tcp
+pub mod Streams
+pub mod Arrivals
+pub mod Formats
+pub mod Counting
+pub mod Reading

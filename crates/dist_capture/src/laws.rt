@@ -1,0 +1,19 @@
+//! Laws of captures and of streams.
+
+ghost use Rattle.std.specs.Prelude.{◌≡◌, ℕ, ◌<◌, ◌^◌, List, take};
+ghost use Rattle.dist_capture.specs.Tcp.{Said};
+ghost use Rattle.dist_capture.specs.Reading.{Reading, Reads, IsRead, Was, unread, with_bytes};
+ghost use Rattle.dist_capture.specs.Arrivals.{Event, ArePieces, IsFirstGap, opening, after_all, delivered};
+
+/// In whatever pieces a capture comes, what is returned are the segments of the units of the whole capture, and no others.
+pub fn any_pieces()
+    ensures whole { (r : Reading) (stream : List ℕ) (segments : List (ℕ × Said)) → Was r stream segments → Reads (with_bytes unread stream) segments r }
+    ensures only { (r one other : Reading) (xs ys : List (ℕ × Said)) → Reads r xs one → IsRead one → Reads r ys other → IsRead other → xs ≡ ys }
+{}
+
+/// Any order and repetition of the segments of one text gives that text up to its first gap, wherever its sequence numbers begin.
+pub fn any_order()
+    ensures { (first most : ℕ) (text : List ℕ) (events : List Event) (gap : ℕ) → first < 2 ^ 32
+        → ArePieces first text (opening first most) events → IsFirstGap events gap
+        → delivered (after_all first text (opening first most) events) ≡ take gap text }
+{}

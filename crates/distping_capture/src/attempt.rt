@@ -1,0 +1,149 @@
+//! What is concluded of one attempt to connect.
+
+use crate::connection::CapturedConnection;
+use crate::cookie_check::{CookieCheck, Digests, check_cookie};
+use crate::facts::Facts;
+use crate::judging::judge;
+use crate::outcome::{AttemptOutcome, Leaving, PATIENCE, outcome_of};
+use crate::replay::{Replay, ReplayEnd};
+use crate::said::CapturedMessage;
+use dist_capture::Endpoint;
+use dist_cluster::USUAL;
+use dist_frames::write_short;
+use dist_messages::Side;
+use dist_names::short_part;
+use dist_probe::ProbeVerdict;
+use dist_secret::Cookie;
+use dist_stream::Limited;
+use std::alloc::{AllocError, Global};
+
+// The most reads of a judgement: three for each of three messages, and one that finds nothing.
+const READS: usize = 10;
+
+// The bytes that the accepting side sent: the frames of its messages, and what stands behind them.
+fn accepted_bytes(
+    alloc: Global,
+    said: &[CapturedMessage],
+    rest: &[u8],
+) -> Result<Vec<u8>, AllocError> {
+    let mut bytes = Vec::new(alloc);
+    for message in said {
+        if message.side == Side::Acceptor {
+            match write_short(alloc, message.body.as_slice()) {
+                Ok(frame) => bytes.extend_from_slice(&frame)?,
+                Err(_) => return Err(AllocError),
+            }
+        }
+    }
+    bytes.extend_from_slice(rest)?;
+    Ok(bytes)
+}
+
+// What stands behind the last byte of the accepting side: its end, if it ended the connection and no byte is missing.
+fn ending_of(connection: &CapturedConnection) -> ReplayEnd {
+    match connection.close {
+        Some(close) if close.side == Side::Acceptor && !has_gap(connection) => {
+            if close.is_reset {
+                ReplayEnd::Reset
+            } else {
+                ReplayEnd::Closed
+            }
+        }
+        _ => ReplayEnd::Open,
+    }
+}
+
+/// One attempt, as far as others have to do with it.
+#[derive(Clone, Copy)]
+pub struct DialAttempt<'a> {
+    /// What was said.
+    pub facts: &'a Facts<'a>,
+    /// Where the side that dialled has its port.
+    pub dialler: Endpoint,
+    /// Where the other side has its port.
+    pub acceptor: Endpoint,
+    /// When it began, in nanoseconds since 1970.
+    pub began: u64,
+    /// When its latest message was there.
+    pub until: u64,
+    /// What it came to.
+    pub outcome: AttemptOutcome,
+}
+
+// Whether bytes of a handshake are missing in the capture.
+fn has_gap(connection: &CapturedConnection) -> bool {
+    connection.has_gap(Side::Dialler) || connection.has_gap(Side::Acceptor)
+}
+
+// Whether the side whose turn it is was silent for too long when the connection ended, or at this time if its end is not in the capture.
+fn is_overdue(connection: &CapturedConnection, now: u64) -> bool {
+    let waited = connection
+        .end_or(now)
+        .saturating_sub(connection.latest_message());
+    !has_gap(connection) && waited >= PATIENCE
+}
+
+// How the connection was left.
+fn leaving_of(connection: &CapturedConnection, facts: &Facts<'_>, now: u64) -> Leaving {
+    let is_probe = short_part(facts.name(Side::Dialler)) == USUAL;
+    Leaving {
+        closer: match connection.close {
+            Some(close) if !has_gap(connection) => Some(close.side),
+            _ => None,
+        },
+        is_overdue: is_overdue(connection, now),
+        is_challenged: facts.challenge.is_some(),
+        is_probe,
+    }
+}
+
+// What an attempt came to of which the beginning or the challenge is missing: only an acknowledgement says something.
+fn late_outcome(facts: &Facts<'_>) -> AttemptOutcome {
+    match facts.ack {
+        Some(_) => AttemptOutcome::Verdict(ProbeVerdict::Up),
+        None => AttemptOutcome::Unfinished,
+    }
+}
+
+/// What the attempt of this connection came to, as it stands at this time.
+pub fn conclude(
+    alloc: Global,
+    connection: &CapturedConnection,
+    facts: &Facts<'_>,
+    cookie: Option<&Cookie>,
+    now: u64,
+) -> Result<AttemptOutcome, AllocError> {
+    if facts.wants_name() {
+        return Ok(AttemptOutcome::Dynamic);
+    }
+    if connection.is_late || (facts.reply.is_some() && facts.challenge.is_none()) {
+        return Ok(late_outcome(facts));
+    }
+    let bytes = accepted_bytes(alloc, &connection.said, connection.bytes(Side::Acceptor))?;
+    let mut replay = Replay::new(&bytes, ending_of(connection));
+    let mut limited = Limited {
+        stream: &mut replay,
+        left: READS,
+    };
+    let standing = judge(alloc, &mut limited, &facts.part(cookie));
+    Ok(outcome_of(standing, &leaving_of(connection, facts, now)))
+}
+
+/// Which sides showed this cookie, if the handshake got as far as a reply.
+pub fn check_of_attempt(
+    facts: &Facts<'_>,
+    outcome: AttemptOutcome,
+    cookie: Option<&Cookie>,
+) -> Option<CookieCheck> {
+    let cookie = cookie?;
+    let challenge = facts.challenge?;
+    let (fresh, reply) = facts.reply?;
+    let digests = Digests {
+        challenge,
+        reply,
+        fresh,
+        ack: facts.ack,
+        is_refused: matches!(outcome, AttemptOutcome::Verdict(ProbeVerdict::WrongCookie)),
+    };
+    Some(check_cookie(cookie, &digests))
+}

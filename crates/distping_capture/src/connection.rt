@@ -1,0 +1,428 @@
+//! One connection of TCP, as far as a capture shows it.
+
+use crate::facts::Facts;
+use crate::look::{Look, look_at};
+use crate::said::{CapturedMessage, other_side};
+use dist_capture::{Endpoint, Segment, SegmentStream};
+use dist_epmd::{Answer, Asked, Request, decode_answer, decode_request};
+use dist_frames::first_body;
+use dist_messages::Side;
+use dist_names::ByteString;
+use std::alloc::{AllocError, Global};
+use std::mem;
+
+// The most bytes that are kept behind a gap, of each side. Our own choice: a handshake has some hundred.
+const MOST_WAITING: usize = 65_536;
+
+// The most messages that are kept of a handshake, which has at most seven. Our own choice.
+const MOST_MESSAGES: usize = 16;
+
+/// What a connection carries.
+#[derive(Clone, Copy, Debug, PartialEq, Eq)]
+pub enum Traffic {
+    /// Not known yet.
+    Unknown,
+    /// A handshake of Erlang's distribution, and then packets.
+    Handshake,
+    /// A request to a port mapper, and its answer.
+    Mapper,
+    /// TLS.
+    Tls,
+    /// Anything else.
+    Other,
+}
+
+/// The first end of a connection.
+#[derive(Clone, Copy)]
+pub struct Close {
+    /// Who closed or reset it.
+    pub side: Side,
+    /// Whether it was reset.
+    pub is_reset: bool,
+    /// When, in nanoseconds since 1970.
+    pub at: u64,
+}
+
+// What one side sends.
+#[derive(Drop)]
+struct Flow {
+    // Its bytes, once one was captured, as long as they are read.
+    stream: Option<SegmentStream>,
+    // Whether bytes of it were cut off, or came too far behind a gap to be kept.
+    has_lost: bool,
+    // Whether it closed its direction.
+    has_closed: bool,
+}
+
+/// One connection.
+#[derive(Drop)]
+pub struct CapturedConnection {
+    /// Where the side that dialled has its port.
+    pub dialler: Endpoint,
+    /// Where the other side has its port.
+    pub acceptor: Endpoint,
+    /// When its first segment was captured, in nanoseconds since 1970.
+    pub began: u64,
+    /// When its latest segment was captured.
+    pub latest: u64,
+    /// What it carries.
+    pub content: Traffic,
+    /// Whether its first segment (SYN) was captured, so that it is known who dialled.
+    pub has_opening: bool,
+    /// Whether the name that begins a handshake is missing.
+    pub is_late: bool,
+    /// The messages of the handshake, in the order in which they were whole.
+    pub said: Vec<CapturedMessage>,
+    /// When the handshake was over.
+    pub up_at: Option<u64>,
+    /// How it ended.
+    pub close: Option<Close>,
+    /// The request to a port mapper.
+    pub request: Option<Request>,
+    /// Whether the port mapper answered it.
+    pub is_answered: bool,
+    from_dialler: Flow,
+    from_acceptor: Flow,
+}
+
+/// What a segment led to.
+#[derive(Drop)]
+pub enum Advance {
+    /// Nothing that is printed at once.
+    Nothing,
+    /// The handshake was over.
+    CameUp,
+    /// The port mapper answered the request.
+    Answered(Answer),
+}
+
+// A side that sent nothing yet.
+fn new_half() -> Flow {
+    Flow {
+        stream: None,
+        has_lost: false,
+        has_closed: false,
+    }
+}
+
+// Who dialled: whoever sends the first segment without an acknowledgement, or does not have the port mapper's port; else whoever is seen
+// first.
+fn is_from_dialler(segment: &Segment, mapper_port: u16) -> bool {
+    if segment.is_syn {
+        !segment.is_ack
+    } else {
+        segment.from.port != mapper_port
+    }
+}
+
+// Which question a request is, where its answer can be told to be whole.
+fn question_of(request: &Request) -> Option<Asked> {
+    match request {
+        Request::Alive(_) => Some(Asked::Alive),
+        Request::PortPlease(_) => Some(Asked::Port),
+        Request::Names => None,
+    }
+}
+
+impl CapturedConnection {
+    /// The connection of this segment, which was not taken yet.
+    pub fn new(alloc: Global, segment: &Segment, mapper_port: u16) -> CapturedConnection {
+        let (dialler, acceptor) = if is_from_dialler(segment, mapper_port) {
+            (segment.from, segment.to)
+        } else {
+            (segment.to, segment.from)
+        };
+        let content = if acceptor.port == mapper_port {
+            Traffic::Mapper
+        } else {
+            Traffic::Unknown
+        };
+        CapturedConnection {
+            dialler,
+            acceptor,
+            began: segment.time,
+            latest: segment.time,
+            content,
+            has_opening: segment.is_syn,
+            is_late: false,
+            said: Vec::new(alloc),
+            up_at: None,
+            close: None,
+            request: None,
+            is_answered: false,
+            from_dialler: new_half(),
+            from_acceptor: new_half(),
+        }
+    }
+
+    /// Which side sent a segment. `None` if it is of another connection.
+    pub fn sender(&self, segment: &Segment) -> Option<Side> {
+        if segment.from == self.dialler && segment.to == self.acceptor {
+            Some(Side::Dialler)
+        } else if segment.from == self.acceptor && segment.to == self.dialler {
+            Some(Side::Acceptor)
+        } else {
+            None
+        }
+    }
+
+    /// Whether both sides closed it, or one reset it.
+    pub fn is_over(&self) -> bool {
+        self.from_dialler.has_closed && self.from_acceptor.has_closed
+    }
+
+    /// Whether this segment begins a new connection between the same two ports.
+    pub fn is_before(&self, segment: &Segment) -> bool {
+        segment.is_syn && !segment.is_ack && self.close.is_some()
+    }
+
+    /// When it ended; this time if its end is not in the capture.
+    pub fn end_or(&self, now: u64) -> u64 {
+        match self.close {
+            Some(close) => close.at,
+            None => now,
+        }
+    }
+
+    /// When its latest message was there, or its first segment if there is none.
+    pub fn latest_message(&self) -> u64 {
+        match self.said.last() {
+            Some(message) => message.at,
+            None => self.began,
+        }
+    }
+
+    // What a side sends.
+    fn half(&self, side: Side) -> &Flow {
+        match side {
+            Side::Dialler => &self.from_dialler,
+            Side::Acceptor => &self.from_acceptor,
+        }
+    }
+
+    // The same, to be changed.
+    fn half_mut(&mut self, side: Side) -> &mut Flow {
+        match side {
+            Side::Dialler => &mut self.from_dialler,
+            Side::Acceptor => &mut self.from_acceptor,
+        }
+    }
+
+    /// The bytes of a side that follow those that were read, as far as none is missing.
+    pub fn bytes(&self, side: Side) -> &[u8] {
+        match &self.half(side).stream {
+            Some(stream) => stream.ready(),
+            None => b"",
+        }
+    }
+
+    /// Whether bytes of a side are missing.
+    pub fn has_gap(&self, side: Side) -> bool {
+        let half = self.half(side);
+        match &half.stream {
+            Some(stream) => half.has_lost || stream.gap().is_some(),
+            None => half.has_lost,
+        }
+    }
+
+    // Whether its bytes are still read.
+    fn is_read(&self) -> bool {
+        match self.content {
+            Traffic::Unknown | Traffic::Mapper => true,
+            Traffic::Handshake => self.up_at.is_none(),
+            Traffic::Tls | Traffic::Other => false,
+        }
+    }
+
+    // Reads no more of it.
+    fn forget_bytes(&mut self) {
+        self.from_dialler.stream = None;
+        self.from_acceptor.stream = None;
+    }
+
+    // Takes the bytes of a segment.
+    fn feed(&mut self, alloc: Global, side: Side, segment: &Segment) -> Result<(), AllocError> {
+        let first = segment.sequence.wrapping_add(u32::from(segment.is_syn));
+        let half = self.half_mut(side);
+        if half.stream.is_none() && (segment.is_syn || !segment.payload.is_empty()) {
+            half.stream = Some(SegmentStream::new(alloc, first, MOST_WAITING));
+        }
+        if let Some(stream) = &mut half.stream {
+            let is_kept = stream.take(first, &segment.payload)?;
+            half.has_lost = half.has_lost || !is_kept || segment.missing > 0;
+        }
+        Ok(())
+    }
+
+    // Drops bytes of a side that were read.
+    fn consume(&mut self, side: Side, count: usize) {
+        if let Some(stream) = &mut self.half_mut(side).stream {
+            stream.consume(count);
+        }
+    }
+
+    // The side that was taken for the one that dialled is the other one.
+    fn swap_sides(&mut self) {
+        mem::swap(&mut self.dialler, &mut self.acceptor);
+        mem::swap(&mut self.from_dialler, &mut self.from_acceptor);
+        if let Some(close) = self.close {
+            self.close = Some(Close {
+                side: other_side(close.side),
+                ..close
+            });
+        }
+    }
+
+    // It carries a handshake, whose name may be missing.
+    fn begin_handshake(&mut self, is_late: bool, is_swapped: bool) {
+        self.content = Traffic::Handshake;
+        self.is_late = is_late;
+        if is_swapped {
+            self.swap_sides();
+        }
+    }
+
+    // Finds out what it carries, if enough was captured for that.
+    fn recognize(&mut self, alloc: Global) {
+        let looks = (
+            look_at(alloc, self.bytes(Side::Dialler)),
+            look_at(alloc, self.bytes(Side::Acceptor)),
+        );
+        match looks {
+            (Look::Name, _) => self.begin_handshake(false, false),
+            (_, Look::Name) if !self.has_opening => self.begin_handshake(false, true),
+            (Look::Dialler, _) | (Look::Open, Look::Acceptor) => self.begin_handshake(true, false),
+            (Look::Acceptor, _) | (Look::Open, Look::Dialler) if !self.has_opening => {
+                self.begin_handshake(true, true)
+            }
+            (Look::Tls, _) => self.content = Traffic::Tls,
+            (Look::Open, Look::Open) => {}
+            _ => self.content = Traffic::Other,
+        }
+    }
+
+    // Whether a side sent the last message of its part of a handshake: a reply, an acknowledgement. Packets follow.
+    fn is_done(&self, side: Side) -> bool {
+        let last = match side {
+            Side::Dialler => b'r',
+            Side::Acceptor => b'a',
+        };
+        self.said.iter().any(|it| it.side == side
+            && it.body.as_slice().first().copied() == Some(last))
+    }
+
+    // Reads the messages of a side that are whole.
+    fn read_messages(&mut self, alloc: Global, side: Side, at: u64) -> Result<(), AllocError> {
+        for _ in 0..MOST_MESSAGES {
+            if self.said.len() >= MOST_MESSAGES || self.is_done(side) {
+                self.consume(side, usize::MAX);
+                return Ok(());
+            }
+            let Some(body) = first_body(self.bytes(side)) else {
+                return Ok(());
+            };
+            let body = ByteString::from_slice(alloc, body)?;
+            self.consume(side, body.len().saturating_add(2));
+            self.said.push(CapturedMessage { at, side, body })?;
+        }
+        Ok(())
+    }
+
+    // Reads what is whole of a handshake.
+    fn read_handshake(&mut self, alloc: Global, at: u64) -> Result<Advance, AllocError> {
+        self.read_messages(alloc, Side::Dialler, at)?;
+        self.read_messages(alloc, Side::Acceptor, at)?;
+        if Facts::of(&self.said).ack.is_none() {
+            return Ok(Advance::Nothing);
+        }
+        self.up_at = Some(at);
+        self.forget_bytes();
+        Ok(Advance::CameUp)
+    }
+
+    // Reads a request to a port mapper, if it is whole. A request that is none ends the reading.
+    fn read_request(&mut self, alloc: Global) {
+        if self.request.is_some() {
+            return;
+        }
+        if let Some(body) = first_body(self.bytes(Side::Dialler)) {
+            match decode_request(alloc, body) {
+                Ok(request) => self.request = Some(request),
+                Err(_) => self.content = Traffic::Other,
+            }
+        }
+    }
+
+    // Reads the answer to the request, if it is whole.
+    fn read_answer(&mut self, alloc: Global) -> Advance {
+        if self.is_answered {
+            return Advance::Nothing;
+        }
+        let Some(request) = &self.request else {
+            return Advance::Nothing;
+        };
+        let Some(asked) = question_of(request) else {
+            return Advance::Nothing;
+        };
+        match decode_answer(alloc, asked, self.bytes(Side::Acceptor)) {
+            Ok(answer) => {
+                self.is_answered = true;
+                Advance::Answered(answer)
+            }
+            Err(_) => Advance::Nothing,
+        }
+    }
+
+    // Reads what the connection carries.
+    fn read(&mut self, alloc: Global, at: u64) -> Result<Advance, AllocError> {
+        if self.content == Traffic::Unknown {
+            self.recognize(alloc);
+        }
+        match self.content {
+            Traffic::Handshake => self.read_handshake(alloc, at),
+            Traffic::Mapper => {
+                self.read_request(alloc);
+                Ok(self.read_answer(alloc))
+            }
+            Traffic::Tls | Traffic::Other => {
+                self.forget_bytes();
+                Ok(Advance::Nothing)
+            }
+            Traffic::Unknown => Ok(Advance::Nothing),
+        }
+    }
+
+    // Notes that a side closed or reset the connection, if a segment says so. The first end counts; a reset ends both directions.
+    fn note_close(&mut self, side: Side, segment: &Segment) {
+        if !segment.is_fin && !segment.is_reset {
+            return;
+        }
+        self.half_mut(side).has_closed = true;
+        if segment.is_reset {
+            self.half_mut(other_side(side)).has_closed = true;
+        }
+        if self.close.is_none() {
+            self.close = Some(Close {
+                side,
+                is_reset: segment.is_reset,
+                at: segment.time,
+            });
+        }
+    }
+
+    /// Takes a segment of this connection that this side sent.
+    pub fn take(
+        &mut self,
+        alloc: Global,
+        side: Side,
+        segment: &Segment,
+    ) -> Result<Advance, AllocError> {
+        self.latest = segment.time;
+        self.note_close(side, segment);
+        if !self.is_read() {
+            return Ok(Advance::Nothing);
+        }
+        self.feed(alloc, side, segment)?;
+        self.read(alloc, segment.time)
+    }
+}

@@ -1,0 +1,25 @@
+//! What a capture shows of Erlang's distribution: what was said on each connection, how it ended, and what that means.
+//!
+//! It reads no file and has no clock: segments of TCP go in, lines of text come out. The verdict on an attempt is that of the live
+//! probe upon the same bytes.
+#![tactic(auto)]
+
+mod attempt;
+mod connection;
+mod cookie_check;
+mod facts;
+mod finder;
+mod judging;
+mod laws;
+mod lines;
+mod look;
+mod object;
+mod outcome;
+mod register;
+mod replay;
+mod said;
+
+pub use finder::Finder;
+pub use judging::{DiallerPart, Standing, judge};
+pub use laws::as_the_live_probe;
+pub use outcome::AttemptOutcome;

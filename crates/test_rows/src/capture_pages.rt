@@ -1,0 +1,76 @@
+//! Captures, and the page that each has. A file is a row: `COOKIE BYTES`, where the bytes are those of a capture that `bench/captures/make`
+//! made, and then the page, with the exit status in its last line.
+//!
+//! The pages were written by hand from the packets, as `tshark` shows them, the flags of `dist.hrl` of OTP 25 and the sentences of the
+//! verdicts.
+
+use dist_capture::Capture;
+use dist_secret::Cookie;
+use distping_capture::Finder;
+use distping_report::{LineSink, Output, Page};
+use std::alloc::Global;
+use std::{fs, io};
+
+/// The rows.
+const ROWS: [&str; 10] = [
+    "up",
+    "wrong_cookie",
+    "wrong_cookie_of_acceptor",
+    "crossing",
+    "version_5",
+    "killed",
+    "cut",
+    "gap",
+    "late",
+    "tls",
+];
+
+// The port of the port mapper in the captures.
+const MAPPER_PORT: u16 = 4389;
+
+/// Prints how many captures have their page. The first page that is another one is an error, and is printed.
+pub fn play_pages(rt: &HostRuntime) -> io::Result<()> {
+    for name in ROWS {
+        let file = format!(in rt.alloc(); "capture_pages/{name}")?;
+        let row = fs::read_to_string(rt, &file)?;
+        let (head, wanted) = row.split_once('\n').unwrap_or(("", ""));
+        let came = page_of_row(rt.alloc(), head).unwrap_or(String::new(rt.alloc()));
+        if came.as_str() != wanted {
+            println!(rt; "{came}came of the row {name}")?;
+            return Err(io::Error::from(io::ErrorKind::InvalidData));
+        }
+    }
+    println!(rt; "capture_pages: {} rows", ROWS.len())
+}
+
+// The page of a row. `None`: it is no capture, or memory was refused.
+fn page_of_row(alloc: Global, head: &str) -> Option<String> {
+    let (cookie, digits) = head.split_once(' ')?;
+    let cookie = Cookie::from_bytes(alloc, cookie.as_bytes()).ok()?;
+    let bytes = hex::decode(alloc, digits).ok()?;
+    let page = Page::new(alloc);
+    let status = put_page(alloc, &page, &cookie, &bytes)?;
+    let text = page.into_text();
+    format!(in alloc; "{text}status {status}\n").ok()
+}
+
+// Puts the page of a capture on a page, and returns the exit status. The capture comes in pieces.
+fn put_page(alloc: Global, page: &Page, cookie: &Cookie, bytes: &[u8]) -> Option<u8> {
+    let lines = LineSink {
+        alloc,
+        out: Output::Page(page),
+        quiet: false,
+    };
+    let mut finder = Finder::new(lines, Some(cookie), MAPPER_PORT);
+    let mut capture = Capture::new(alloc);
+    for piece in bytes.chunks(100) {
+        capture.feed(piece).ok()?;
+        for _ in 0..piece.len() {
+            match capture.next().ok()? {
+                Some(segment) => finder.take(&segment).ok()?,
+                None => break,
+            }
+        }
+    }
+    finder.finish().ok()
+}
