@@ -323,9 +323,9 @@ int main(int argc, char **argv) {
     int epmd = getenv("ERL_EPMD_PORT") ? atoi(getenv("ERL_EPMD_PORT")) : 4369;
     for (int i = 0; i < MOST_LINKS; i++) links[i].fd = -1;
     int port = 0, listener = listening(argv[1], &port), mapper = connected_here(epmd);
-    /* flags as an Erlang node of OTP 25 announces them, but for DFLAG_PUBLISHED; each open end has a place in the table */
+    /* flags as OTP 29 requires them, and those required that OTP 25 requires; each open end has a place in the table */
     uint32_t creation = registered(mapper, argv[1], port);
-    dn_setup setup = {.flags = 0x403070f94, .creation = creation, .most_open_ends = MOST_LINKS};
+    dn_setup setup = {.flags = 0x403070f94, .required = 0x1070f94, .creation = creation, .most_open_ends = MOST_LINKS};
     uint32_t code = dn_node_new(&node, (const uint8_t *)argv[1], strlen(argv[1]), cookie, cookie_len, &setup);
     if (code) stop("no node", code);
     printf("ready\n"), fflush(stdout);

@@ -85,7 +85,7 @@ class Joined:
         result, creation = dn.alive_answer(self.registration.recv(6, socket.MSG_WAITALL))
         if result:
             raise SystemExit("the port mapper refuses the name")
-        self.node = dn.Node(name, cookie, HIDDEN_FLAGS, creation, most_open_ends=MOST_OPEN)
+        self.node = dn.Node(name, cookie, HIDDEN_FLAGS, creation, required=dn.MANDATORY_25, most_open_ends=MOST_OPEN)
         self.selector.register(self.listener, selectors.EVENT_READ, None)
 
     def link(self, stream: socket.socket, end: int) -> Link:

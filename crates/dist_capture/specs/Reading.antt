@@ -1,5 +1,6 @@
 -- A reader of a capture, to which the file comes in pieces.
-use Rattle.std.specs.Prelude.{◌≡◌, ℕ, ◌⊎◌, List, [], ◌∷◌, ◌++◌, length, take, drop, Option, Some, None, option_to_list, Result, Ok, Err, nat_lt, if◌then◌else◌}
+use Rattle.std.specs.Prelude.{◌≡◌, ℕ, ◌⊎◌, Bool, true, false, ◌||◌, List, [], ◌∷◌, ◌++◌, length, take, drop, Option, Some, None}
+use Rattle.std.specs.Prelude.{option_to_list, Result, Ok, Err, nat_lt, if◌then◌else◌}
 use Rattle.dist_capture.specs.declared.fault.CaptureFault.{CaptureFault}
 use Rattle.dist_capture.specs.declared.fault.CaptureFault.TheVariants as fault
 use Rattle.dist_capture.specs.declared.format.Format.{Format}
@@ -26,6 +27,14 @@ pub record Reading : Type 0 where
 -- the reader when more bytes have come
 abbrev pub with_bytes : Reading → List ℕ → Reading
 with_bytes r bytes = record { format = r.format; interfaces = r.interfaces; pending = r.pending ++ bytes; counts = r.counts }
+
+-- nothing was read, or bytes came that are no whole unit
+abbrev pub is_unknown : Format → Bool
+is_unknown Unknown = true
+is_unknown other = false
+
+abbrev pub is_cut_off : Reading → Bool
+is_cut_off r = is_unknown r.format || nat_lt 0 (length r.pending)
 
 -- how many bytes the next unit has, where it is whole
 abbrev pub whole : Reading → Result (Option ℕ) CaptureFault

@@ -1,7 +1,7 @@
 //! The reader of captures.
 
 ghost use Rattle.std.specs.Prelude.{◌≡◌, [], ◌+◌, ◌<◌, ◌≤◌, length, take, option_map, IfOk, IfErr, OnOk, OnErr, IfSome, Ok, Some};
-ghost use Rattle.dist_capture.specs.Reading.{Reading, unread, with_bytes, whole, timed, noted, with_packet, Reads, Gives, EndsAt, FailsAt, view_of};
+ghost use Rattle.dist_capture.specs.Reading.{Reading, unread, with_bytes, is_cut_off, whole, timed, noted, with_packet, Reads, Gives, EndsAt, FailsAt, view_of};
 ghost use Rattle.dist_capture.specs.Tcp.{view_of as said_of, segment_of};
 ghost use Rattle.dist_capture.specs.Parts.{part};
 
@@ -82,6 +82,13 @@ impl Capture {
         ensures err { OnErr result (self.new ≡ self.old) }
     {
         self.bytes.extend(bytes)
+    }
+
+    /// Whether a capture that ends here is cut off: inside a packet or a block, or before its header was whole.
+    pub fn is_cut_off(&self) -> bool
+        ensures { result ≡ is_cut_off self.now }
+    {
+        matches!(self.format, Format::Unknown) || self.bytes.len() > 0
     }
 
     // How many bytes the next unit has, where it is whole.

@@ -3,7 +3,7 @@
 use std::net::IpAddr;
 
 /// One end of a TCP connection.
-#[derive(Clone, Copy, PartialEq, Eq)]
+#[derive(Clone, Copy, PartialEq, Eq, PartialOrd, Ord, Hash)]
 pub struct Endpoint {
     pub address: IpAddr,
     pub port: u16,

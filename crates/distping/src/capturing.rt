@@ -3,6 +3,7 @@
 use dist_capture::{Capture, CaptureFault};
 use dist_secret::Cookie;
 use distping_capture::Finder;
+use distping_report::LinePiece::Text;
 use distping_report::LineSink;
 use distping_words::{Choices, Fault};
 use std::alloc::Global;
@@ -25,8 +26,12 @@ fn take_segments(capture: &mut Capture, finder: &mut Finder<'_>) -> Result<(), F
     Ok(())
 }
 
-// Takes all segments of a capture. Each is taken as soon as it is read.
-fn take_all<F: Read + Drop>(alloc: Global, file: F, finder: &mut Finder<'_>) -> Result<(), Fault> {
+// Takes all segments of a capture. Each is taken as soon as it is read. Returns whether the capture is cut off.
+fn take_all<F: Read + Drop>(
+    alloc: Global,
+    file: F,
+    finder: &mut Finder<'_>,
+) -> Result<bool, Fault> {
     let mut file = file;
     let mut capture = Capture::new(alloc);
     let mut room = vec![in alloc; 0u8; PIECE]?;
@@ -37,7 +42,7 @@ fn take_all<F: Read + Drop>(alloc: Global, file: F, finder: &mut Finder<'_>) -> 
             Err(_) => return Err(Fault::CaptureUnread),
         };
         if count == 0 {
-            return Ok(());
+            break;
         }
         match room.get(..count) {
             Some(piece) => capture.feed(piece)?,
@@ -45,7 +50,7 @@ fn take_all<F: Read + Drop>(alloc: Global, file: F, finder: &mut Finder<'_>) -> 
         }
         take_segments(&mut capture, finder)?;
     }
-    Ok(())
+    Ok(capture.is_cut_off())
 }
 
 /// Reads the capture at this path (`-` is standard input), prints what it shows, and returns the exit status: the first that is not 0 of
@@ -67,6 +72,8 @@ pub fn read_capture(
         }
     };
     let status = finder.finish()?;
-    taken?;
+    if taken? {
+        lines.put(&[Text("!  cut off   the capture ends inside a packet, or before its first")])?;
+    }
     Ok(status)
 }

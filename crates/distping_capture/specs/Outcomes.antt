@@ -1,5 +1,5 @@
 -- WHAT AN ATTEMPT CAME TO: the verdict of the live probe on the accepting side's bytes, or, where the dialling side was due, what that did.
-use Rattle.std.specs.Prelude.{ℕ, Bool, ◌&&◌, not, List, codes, Option, Some, None, if◌then◌else◌}
+use Rattle.std.specs.Prelude.{ℕ, Bool, true, false, ◌&&◌, not, List, codes, Option, Some, None, if◌then◌else◌}
 use Rattle.dist_messages.specs.declared.message.Side.{Side}
 use Rattle.dist_messages.specs.declared.message.Side.TheVariants.{Dialler, Acceptor}
 use Rattle.dist_probe.specs.declared.verdict.ProbeVerdict.TheVariants as verdict
@@ -53,3 +53,8 @@ outcome_status (outcome.Taken t) = taken_status t
 outcome_status (outcome.Withdrawn side) = 7
 outcome_status outcome.Dynamic = 0
 outcome_status outcome.Unfinished = 0
+
+-- the two nodes came up
+abbrev pub is_outcome_up : AttemptOutcome → Bool
+is_outcome_up (outcome.Verdict verdict.Up) = true
+is_outcome_up other = false

@@ -1,6 +1,6 @@
 //! What is concluded of one attempt to connect.
 
-use crate::connection::CapturedConnection;
+use crate::connection::{CapturedConnection, Traffic};
 use crate::cookie_check::{CookieCheck, Digests, check_cookie};
 use crate::facts::Facts;
 use crate::judging::judge;
@@ -12,7 +12,7 @@ use dist_cluster::USUAL;
 use dist_frames::write_short;
 use dist_messages::Side;
 use dist_names::short_part;
-use dist_probe::ProbeVerdict;
+use dist_probe::{ProbeVerdict, mapper_verdict, port_verdict};
 use dist_secret::Cookie;
 use dist_stream::Limited;
 use std::alloc::{AllocError, Global};
@@ -97,14 +97,6 @@ fn leaving_of(connection: &CapturedConnection, facts: &Facts<'_>, now: u64) -> L
     }
 }
 
-// What an attempt came to of which the beginning or the challenge is missing: only an acknowledgement says something.
-fn late_outcome(facts: &Facts<'_>) -> AttemptOutcome {
-    match facts.ack {
-        Some(_) => AttemptOutcome::Verdict(ProbeVerdict::Up),
-        None => AttemptOutcome::Unfinished,
-    }
-}
-
 /// What the attempt of this connection came to, as it stands at this time.
 pub fn conclude(
     alloc: Global,
@@ -113,11 +105,21 @@ pub fn conclude(
     cookie: Option<&Cookie>,
     now: u64,
 ) -> Result<AttemptOutcome, AllocError> {
+    if let Some(unreached) = connection.connect_fault(now) {
+        return Ok(AttemptOutcome::Verdict(match connection.content {
+            Traffic::Mapper => mapper_verdict(unreached),
+            _ => port_verdict(unreached),
+        }));
+    }
     if facts.wants_name() {
         return Ok(AttemptOutcome::Dynamic);
     }
+    // If the beginning or the challenge is missing, only an acknowledgement says something.
     if connection.is_late || (facts.reply.is_some() && facts.challenge.is_none()) {
-        return Ok(late_outcome(facts));
+        return Ok(match facts.ack {
+            Some(_) => AttemptOutcome::Verdict(ProbeVerdict::Up),
+            None => AttemptOutcome::Unfinished,
+        });
     }
     let bytes = accepted_bytes(alloc, &connection.said, connection.bytes(Side::Acceptor))?;
     let mut replay = Replay::new(&bytes, ending_of(connection));

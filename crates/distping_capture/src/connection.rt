@@ -2,17 +2,27 @@
 
 use crate::facts::Facts;
 use crate::look::{Look, look_at};
+use crate::outcome::PATIENCE;
 use crate::said::{CapturedMessage, other_side};
 use dist_capture::{Endpoint, Segment, SegmentStream};
 use dist_epmd::{Answer, Asked, Request, decode_answer, decode_request};
 use dist_frames::first_body;
 use dist_messages::Side;
 use dist_names::ByteString;
+use dist_probe::Unreached;
 use std::alloc::{AllocError, Global};
 use std::mem;
 
 // The most bytes that are kept behind a gap, of each side. Our own choice: a handshake has some hundred.
 const MOST_WAITING: usize = 65_536;
+
+// The most bytes of a side that are in order and not read yet, before no more of it are kept. Our own choice: a frame has fewer, and so
+// has what a port mapper answers to a lookup.
+const MOST_UNREAD: usize = 131_072;
+
+// How long a side of a connection that is up sends nothing before it counts as silent, in nanoseconds. A node of which nothing came for
+// 45 to 75 seconds is down: three to five quarters of `net_ticktime`, which is 60 seconds; so 45. Source: Kernel Reference Manual, kernel.
+const MOST_SILENT: u64 = 45_000_000_000;
 
 // The most messages that are kept of a handshake, which has at most seven. Our own choice.
 const MOST_MESSAGES: usize = 16;
@@ -52,6 +62,8 @@ struct Flow {
     has_lost: bool,
     // Whether it closed its direction.
     has_closed: bool,
+    // When its latest bytes were captured; before them, when its connection's first segment was.
+    latest: u64,
 }
 
 /// One connection.
@@ -69,6 +81,8 @@ pub struct CapturedConnection {
     pub content: Traffic,
     /// Whether its first segment (SYN) was captured, so that it is known who dialled.
     pub has_opening: bool,
+    // Whether any other segment was, those apart that repeat the first or reset the connection.
+    is_made: bool,
     /// Whether the name that begins a handshake is missing.
     pub is_late: bool,
     /// The messages of the handshake, in the order in which they were whole.
@@ -97,11 +111,12 @@ pub enum Advance {
 }
 
 // A side that sent nothing yet.
-fn new_half() -> Flow {
+fn new_half(at: u64) -> Flow {
     Flow {
         stream: None,
         has_lost: false,
         has_closed: false,
+        latest: at,
     }
 }
 
@@ -115,7 +130,7 @@ fn is_from_dialler(segment: &Segment, mapper_port: u16) -> bool {
     }
 }
 
-// Which question a request is, where its answer can be told to be whole.
+// Which question a request is, if it is seen of its answer when that is whole.
 fn question_of(request: &Request) -> Option<Asked> {
     match request {
         Request::Alive(_) => Some(Asked::Alive),
@@ -144,25 +159,15 @@ impl CapturedConnection {
             latest: segment.time,
             content,
             has_opening: segment.is_syn,
+            is_made: false,
             is_late: false,
             said: Vec::new(alloc),
             up_at: None,
             close: None,
             request: None,
             is_answered: false,
-            from_dialler: new_half(),
-            from_acceptor: new_half(),
-        }
-    }
-
-    /// Which side sent a segment. `None` if it is of another connection.
-    pub fn sender(&self, segment: &Segment) -> Option<Side> {
-        if segment.from == self.dialler && segment.to == self.acceptor {
-            Some(Side::Dialler)
-        } else if segment.from == self.acceptor && segment.to == self.dialler {
-            Some(Side::Acceptor)
-        } else {
-            None
+            from_dialler: new_half(segment.time),
+            from_acceptor: new_half(segment.time),
         }
     }
 
@@ -181,6 +186,27 @@ impl CapturedConnection {
         match self.close {
             Some(close) => close.at,
             None => now,
+        }
+    }
+
+    /// Why it was never made: its first segment was answered by a reset, or by nothing until this time. `None` if it was made, or if
+    /// that is not in the capture.
+    pub fn connect_fault(&self, now: u64) -> Option<Unreached> {
+        if self.is_made || !self.has_opening {
+            return None;
+        }
+        match self.close {
+            Some(close) if close.side == Side::Acceptor => Some(Unreached::Refused),
+            None if now.saturating_sub(self.began) >= PATIENCE => Some(Unreached::NoAnswer),
+            _ => None,
+        }
+    }
+
+    /// Whether a side had fallen silent when it ended.
+    pub fn was_silent(&self, side: Side) -> bool {
+        match self.close {
+            Some(close) => close.at.saturating_sub(self.half(side).latest) >= MOST_SILENT,
+            None => false,
         }
     }
 
@@ -228,16 +254,11 @@ impl CapturedConnection {
     // Whether its bytes are still read.
     fn is_read(&self) -> bool {
         match self.content {
-            Traffic::Unknown | Traffic::Mapper => true,
+            Traffic::Unknown => true,
+            Traffic::Mapper => !self.is_answered && !matches!(&self.request, Some(Request::Names)),
             Traffic::Handshake => self.up_at.is_none(),
             Traffic::Tls | Traffic::Other => false,
         }
-    }
-
-    // Reads no more of it.
-    fn forget_bytes(&mut self) {
-        self.from_dialler.stream = None;
-        self.from_acceptor.stream = None;
     }
 
     // Takes the bytes of a segment.
@@ -248,7 +269,8 @@ impl CapturedConnection {
             half.stream = Some(SegmentStream::new(alloc, first, MOST_WAITING));
         }
         if let Some(stream) = &mut half.stream {
-            let is_kept = stream.take(first, &segment.payload)?;
+            let has_room = stream.ready().len() < MOST_UNREAD;
+            let is_kept = has_room && stream.take(first, &segment.payload)?;
             half.has_lost = half.has_lost || !is_kept || segment.missing > 0;
         }
         Ok(())
@@ -336,7 +358,6 @@ impl CapturedConnection {
             return Ok(Advance::Nothing);
         }
         self.up_at = Some(at);
-        self.forget_bytes();
         Ok(Advance::CameUp)
     }
 
@@ -384,11 +405,16 @@ impl CapturedConnection {
                 self.read_request(alloc);
                 Ok(self.read_answer(alloc))
             }
-            Traffic::Tls | Traffic::Other => {
-                self.forget_bytes();
-                Ok(Advance::Nothing)
-            }
-            Traffic::Unknown => Ok(Advance::Nothing),
+            Traffic::Unknown | Traffic::Tls | Traffic::Other => Ok(Advance::Nothing),
+        }
+    }
+
+    // Notes that the connection was made, and that a side sent bytes, if a segment shows it.
+    fn note_sign(&mut self, side: Side, segment: &Segment) {
+        let is_opening = segment.is_syn && !segment.is_ack;
+        self.is_made = self.is_made || !(is_opening || segment.is_reset);
+        if !segment.payload.is_empty() || segment.missing > 0 {
+            self.half_mut(side).latest = segment.time;
         }
     }
 
@@ -410,19 +436,25 @@ impl CapturedConnection {
         }
     }
 
-    /// Takes a segment of this connection that this side sent.
-    pub fn take(
-        &mut self,
-        alloc: Global,
-        side: Side,
-        segment: &Segment,
-    ) -> Result<Advance, AllocError> {
+    /// Takes a segment of this connection.
+    pub fn take(&mut self, alloc: Global, segment: &Segment) -> Result<Advance, AllocError> {
+        let side = if segment.from == self.dialler {
+            Side::Dialler
+        } else {
+            Side::Acceptor
+        };
         self.latest = segment.time;
+        self.note_sign(side, segment);
         self.note_close(side, segment);
         if !self.is_read() {
             return Ok(Advance::Nothing);
         }
         self.feed(alloc, side, segment)?;
-        self.read(alloc, segment.time)
+        let advance = self.read(alloc, segment.time)?;
+        if !self.is_read() {
+            self.from_dialler.stream = None;
+            self.from_acceptor.stream = None;
+        }
+        Ok(advance)
     }
 }

@@ -6,18 +6,20 @@ use crate::facts::Facts;
 use crate::lines::{put_answer, put_attempt, put_end, put_heading, put_mapper_end};
 use crate::object::attempt_object;
 use crate::register::Register;
-use dist_capture::Segment;
-use dist_messages::Side;
+use dist_capture::{Endpoint, Segment};
 use dist_secret::Cookie;
 use distping_report::LinePiece::Text;
 use distping_report::LineSink;
 use distping_words::Fault;
-use std::mem;
+use std::collections::HashMap;
 
 // The most connections that are open at once; the one that was quiet for longest is given up for another. Our own choice.
 const MOST_OPEN: usize = 1024;
 
 /// Finds what was said, segment by segment, and prints it.
+///
+/// No clause says which lines it prints: of them it is proved alone that printing is safe and ends. What they say of an attempt comes
+/// from `judge`, `outcome_of` and `check_cookie`, whose clauses pin it.
 #[derive(Drop)]
 pub struct Finder<'x> {
     // Where lines are printed; if they are left out, objects are.
@@ -26,10 +28,20 @@ pub struct Finder<'x> {
     cookie: Option<&'x Cookie>,
     // The port of port mappers.
     mapper_port: u16,
-    open: Vec<CapturedConnection>,
+    // The connections that are open, by their two ends, the lesser first.
+    open: HashMap<(Endpoint, Endpoint), CapturedConnection>,
     register: Register,
     // The time of the latest segment.
     now: u64,
+}
+
+// The ends of a segment's connection, the lesser first.
+fn ends_of(segment: &Segment) -> (Endpoint, Endpoint) {
+    if segment.from <= segment.to {
+        (segment.from, segment.to)
+    } else {
+        (segment.to, segment.from)
+    }
 }
 
 impl<'x> Finder<'x> {
@@ -39,62 +51,61 @@ impl<'x> Finder<'x> {
             lines,
             cookie,
             mapper_port,
-            open: Vec::new(lines.alloc),
+            open: HashMap::new(lines.alloc),
             register: Register::new(lines.alloc),
             now: 0,
         }
     }
 
-    // Gives up the connection that was quiet for longest, if there are too many.
-    fn make_room(&mut self) -> Result<(), Fault> {
-        if self.open.len() < MOST_OPEN {
-            return Ok(());
-        }
-        let (mut quietest, mut latest) = (0, u64::MAX);
-        for (at, connection) in self.open.iter().enumerate() {
-            if connection.latest < latest {
-                quietest = at;
+    // Gives up the connection that was quiet for longest.
+    fn give_up(&mut self) -> Result<(), Fault> {
+        let (mut quietest, mut latest) = (None, 0);
+        for (ends, connection) in self.open.iter() {
+            if quietest.is_none() || connection.latest < latest {
+                quietest = Some(*ends);
                 latest = connection.latest;
             }
         }
-        if quietest < self.open.len() {
-            let connection = self.open.swap_remove(quietest);
+        if let Some(ends) = quietest
+            && let Some(connection) = self.open.remove(&ends)
+        {
             self.end(&connection)?;
         }
         Ok(())
     }
 
-    // Takes the connection of a segment out of those that are open, or makes it, with the side that sent the segment. One that ended
-    // before a new one between the same two ports began is printed.
-    fn take_out(&mut self, segment: &Segment) -> Result<(CapturedConnection, Side), Fault> {
-        let found = self.open.iter().position(|it| it.sender(segment).is_some());
-        if let Some(at) = found {
-            let connection = self.open.swap_remove(at);
-            match connection.sender(segment) {
-                Some(side) if !connection.is_before(segment) => return Ok((connection, side)),
-                _ => self.end(&connection)?,
+    // Takes the connection of a segment out of those that are open, or makes it. One that ended before a new one between the same two ports
+    // began is printed.
+    fn take_out(&mut self, segment: &Segment) -> Result<CapturedConnection, Fault> {
+        if let Some(connection) = self.open.remove(&ends_of(segment)) {
+            if !connection.is_before(segment) {
+                return Ok(connection);
             }
+            self.end(&connection)?;
         }
-        self.make_room()?;
-        let connection = CapturedConnection::new(self.lines.alloc, segment, self.mapper_port);
-        let side = connection.sender(segment).unwrap_or(Side::Dialler);
-        Ok((connection, side))
+        if self.open.len() >= MOST_OPEN {
+            self.give_up()?;
+        }
+        let alloc = self.lines.alloc;
+        Ok(CapturedConnection::new(alloc, segment, self.mapper_port))
     }
 
     /// Takes the next segment of the capture.
     pub fn take(&mut self, segment: &Segment) -> Result<(), Fault> {
         self.now = segment.time;
-        let (connection, side) = self.take_out(segment)?;
-        let mut connection = connection;
-        match connection.take(self.lines.alloc, side, segment)? {
+        let mut connection = self.take_out(segment)?;
+        match connection.take(self.lines.alloc, segment)? {
             Advance::Nothing => {}
             Advance::CameUp => self.put_attempt(&connection)?,
-            Advance::Answered(answer) => put_answer(self.lines, &connection, &answer)?,
+            Advance::Answered(answer) => {
+                put_answer(self.lines, &connection, &answer)?;
+                self.register.listeners.note_answer(&connection, &answer)?;
+            }
         }
         if connection.is_over() {
             return self.end(&connection);
         }
-        self.open.push(connection)?;
+        self.open.insert(ends_of(segment), connection)?;
         Ok(())
     }
 
@@ -132,7 +143,10 @@ impl<'x> Finder<'x> {
     // Prints what there is to say of an attempt at the end of its connection.
     fn end_attempt(&mut self, connection: &CapturedConnection) -> Result<(), Fault> {
         match connection.up_at {
-            Some(up_at) => put_end(self.lines, connection, up_at, self.now)?,
+            Some(up_at) => {
+                put_end(self.lines, connection, up_at, self.now)?;
+                self.register.note_end(&Facts::of(&connection.said));
+            }
             None => self.put_attempt(connection)?,
         }
         if self.lines.quiet {
@@ -143,8 +157,13 @@ impl<'x> Finder<'x> {
 
     // Prints what there is to say of a connection at its end.
     fn end(&mut self, connection: &CapturedConnection) -> Result<(), Fault> {
+        let is_unreached = connection.connect_fault(self.now).is_some();
+        let listener = self.register.listeners.listener(connection.acceptor);
+        let is_node = listener.is_some();
         match connection.content {
             Traffic::Handshake => self.end_attempt(connection),
+            Traffic::Mapper if is_unreached => self.end_attempt(connection),
+            Traffic::Unknown if is_unreached && is_node => self.end_attempt(connection),
             Traffic::Mapper => put_mapper_end(self.lines, connection),
             Traffic::Tls => {
                 put_heading(self.lines, connection)?;
@@ -156,12 +175,11 @@ impl<'x> Finder<'x> {
         }
     }
 
-    /// Ends the capture: prints what is open, then the summary by pair. Returns the exit status: the first that is not 0 of the attempts
-    /// that are whole.
+    /// Ends the capture: prints what is open, the longest quiet first, then the summary by pair. Returns the exit status: the first that
+    /// is not 0 of the attempts that are whole.
     pub fn finish(&mut self) -> Result<u8, Fault> {
-        let open = mem::replace(&mut self.open, Vec::new(self.lines.alloc));
-        for connection in open {
-            self.end(&connection)?;
+        for _ in 0..self.open.len() {
+            self.give_up()?;
         }
         self.register.finish(self.lines)
     }

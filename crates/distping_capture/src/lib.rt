@@ -12,6 +12,7 @@ mod finder;
 mod judging;
 mod laws;
 mod lines;
+mod listeners;
 mod look;
 mod object;
 mod outcome;

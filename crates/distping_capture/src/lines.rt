@@ -15,8 +15,8 @@ use distping_report::{LineSink, utc_text};
 use distping_words::Fault;
 use std::alloc::{AllocError, Global};
 
-// How long a side may take for a message before a line says so, in nanoseconds: half of the time after which a node gives up. Our own
-// choice.
+// How long a side may take for a message, or from its lookup to its dial, before a line says so, in nanoseconds: half of the time after
+// which a node gives up. Our own choice.
 const SLOW: u64 = 3_500_000_000;
 
 // A span of time in seconds, as `12.000345`.
@@ -118,15 +118,24 @@ fn put_content(lines: LineSink<'_>, view: MessageView<'_>) -> Result<(), Fault> 
     }
 }
 
-// Prints that a side took long for a message.
-fn put_slow(lines: LineSink<'_>, side: Side, waited: u64) -> Result<(), Fault> {
+/// Prints that a side took long, if it did. `what` stands behind the number.
+pub fn put_slow(
+    lines: LineSink<'_>,
+    side: Side,
+    waited: u64,
+    what: &'static str,
+) -> Result<(), Fault> {
+    if waited < SLOW {
+        return Ok(());
+    }
     let seconds = seconds_text(lines.alloc, waited)?;
     lines.put(&[
         Text("!  slow      "),
         Text(side_word(side)),
         Text(" took "),
         Escaped(&seconds),
-        Text(" seconds; a node gives up after 7 (net_setuptime)"),
+        Text(what),
+        Text("; a node gives up after 7 (net_setuptime)"),
     ])
 }
 
@@ -138,9 +147,7 @@ fn put_message(
     message: &CapturedMessage,
 ) -> Result<(), Fault> {
     let waited = message.at.saturating_sub(before);
-    if waited >= SLOW {
-        put_slow(lines, message.side, waited)?;
-    }
+    put_slow(lines, message.side, waited, " seconds")?;
     let time = seconds_text(lines.alloc, message.at.saturating_sub(began))?;
     match read_in_place(message.side, message.body.as_slice()) {
         Ok(view) => {
@@ -217,6 +224,17 @@ pub fn put_attempt(
     }
 }
 
+// Who had fallen silent when a connection ended that was up.
+fn silence_text(connection: &CapturedConnection) -> &'static str {
+    let is_dialler = connection.was_silent(Side::Dialler);
+    match (is_dialler, connection.was_silent(Side::Acceptor)) {
+        (false, false) => "",
+        (true, false) => ": for 45 seconds or longer no byte had come from the dialler",
+        (false, true) => ": for 45 seconds or longer no byte had come from the acceptor",
+        (true, true) => ": for 45 seconds or longer no byte had come from either side",
+    }
+}
+
 /// Prints how a connection ended that came up. `now` is the time of the last segment of the capture.
 pub fn put_end(
     lines: LineSink<'_>,
@@ -237,6 +255,7 @@ pub fn put_end(
         Text(" seconds"),
         Text(how),
         Text(who),
+        Text(silence_text(connection)),
     ])
 }
 

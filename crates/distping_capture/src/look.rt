@@ -56,8 +56,8 @@ fn look_in(alloc: Global, body: &[u8]) -> Look {
     }
 }
 
-/// What these bytes look like, the first that a side sent. TLS is told by the first byte of a record of a handshake and by its version
-/// (RFC 5246, section 6.2.1).
+/// What these bytes look like, the first that a side sent. TLS is recognized by the first byte of a record of a handshake and by its
+/// version (RFC 5246, section 6.2.1).
 pub fn look_at(alloc: Global, bytes: &[u8]) -> Look {
     match bytes {
         [0x16, 0x03, ..] => Look::Tls,

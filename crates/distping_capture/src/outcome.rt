@@ -1,7 +1,7 @@
 //! What an attempt to connect came to.
 
 ghost use Rattle.std.specs.Prelude.{◌≡◌};
-ghost use Rattle.distping_capture.specs.Outcomes.{left_by, outcome_of, outcome_status, outcome_word, upon_dialler};
+ghost use Rattle.distping_capture.specs.Outcomes.{is_outcome_up, left_by, outcome_of, outcome_status, outcome_word, upon_dialler};
 
 use crate::judging::Standing;
 use dist_messages::Side;
@@ -104,7 +104,9 @@ impl AttemptOutcome {
     }
 
     /// Whether the two nodes came up.
-    pub fn is_up(self) -> bool {
+    pub fn is_up(self) -> bool
+        ensures { result ≡ is_outcome_up self }
+    {
         matches!(self, AttemptOutcome::Verdict(ProbeVerdict::Up))
     }
 }

@@ -1,39 +1,34 @@
-//! What several connections show together: how often which pair of nodes came to what, restarts, and dials that cross.
+//! What several connections show together: how often which pair of nodes came to what, restarts, names that two hosts use, dials that
+//! cross, and lookups that lead elsewhere.
 
 use crate::attempt::DialAttempt;
-use crate::facts::NodeDescription;
+use crate::facts::{Facts, NodeDescription};
+use crate::listeners::Listeners;
 use crate::outcome::AttemptOutcome;
 use dist_capture::Endpoint;
 use dist_messages::Side;
 use dist_names::{ByteString, Creation};
 use dist_probe::ProbeVerdict;
-use distping_report::LinePiece::{Name, Number, Text};
+use distping_report::LinePiece::{self, Host, Name, Number, Text};
 use distping_report::LineSink;
 use distping_words::Fault;
 use std::alloc::{AllocError, Global};
+use std::collections::BTreeMap;
 use std::mem;
+use std::net::IpAddr;
 
-// The most nodes, and the most counts of pairs, that are remembered. Our own choice.
-const MOST: usize = 1024;
+/// The most nodes, ports, lookups and counts of pairs that are remembered. Our own choice.
+pub const MOST: usize = 1024;
 
 // The most dials that wait for one that crosses them. Our own choice.
 const MOST_WAITING: usize = 64;
 
-// A node: its latest incarnation, and where it listens, if it was seen there.
-#[derive(Drop)]
+// A node: its latest incarnation, from where it was seen last, and how many of its connections are up.
+#[derive(Clone, Copy)]
 struct Known {
-    name: ByteString,
     creation: Creation,
-    place: Option<Endpoint>,
-}
-
-// How often attempts between two nodes, in either direction, came to this.
-#[derive(Drop)]
-struct Count {
-    first: ByteString,
-    second: ByteString,
-    word: &'static str,
-    count: u32,
+    address: IpAddr,
+    ups: u32,
 }
 
 // A dial that another one may cross: the node that was dialled refused it since it dials itself, or it was given up.
@@ -46,34 +41,52 @@ struct Lesser {
     acceptor: Endpoint,
     began: u64,
     until: u64,
-    word: &'static str,
-    status: u8,
+    outcome: AttemptOutcome,
 }
 
 /// What is remembered of all attempts.
 #[derive(Drop)]
 pub struct Register {
     alloc: Global,
-    nodes: Vec<Known>,
-    counts: Vec<Count>,
+    // By their names.
+    nodes: BTreeMap<Vec<u8>, Known>,
+    /// Who listens where.
+    pub listeners: Listeners,
+    // How many attempts between two nodes, in either direction, came to what: by the two names, the lesser first, status and word.
+    counts: BTreeMap<(Vec<u8>, Vec<u8>, u8, &'static str), u32>,
     waiting: Vec<Lesser>,
     status: u8,
 }
 
-impl Known {
-    // Takes what the node says of itself now. Returns its creation before, if that was another one.
-    fn meet(&mut self, creation: Creation, place: Option<Endpoint>) -> Option<Creation> {
-        let before = self.creation;
-        self.creation = creation;
-        if place.is_some() {
-            self.place = place;
-        }
-        if before == creation {
-            None
-        } else {
-            Some(before)
-        }
+// A node's name; empty if it is not known.
+fn name_piece(name: &[u8]) -> LinePiece<'_> {
+    if name.is_empty() {
+        Text("an unknown node")
+    } else {
+        Name(name)
     }
+}
+
+// Prints that a node restarted, or that another one has its name: while connections of the one before are up, from another host.
+fn put_change(lines: LineSink<'_>, name: &[u8], before: Known, seen: Known) -> Result<(), Fault> {
+    if before.ups > 0 && before.address != seen.address {
+        return lines.put(&[
+            Text("!  two hosts "),
+            Name(name),
+            Text(" is up from "),
+            Host(before.address),
+            Text(", and another node of this name is at "),
+            Host(seen.address),
+        ]);
+    }
+    lines.put(&[
+        Text("!  restart   "),
+        Name(name),
+        Text(" was started again: creation "),
+        Number(seen.creation.0),
+        Text(", before "),
+        Number(before.creation.0),
+    ])
 }
 
 impl Lesser {
@@ -93,41 +106,36 @@ impl Register {
     pub fn new(alloc: Global) -> Register {
         Register {
             alloc,
-            nodes: Vec::new(alloc),
-            counts: Vec::new(alloc),
+            nodes: BTreeMap::new(alloc),
+            listeners: Listeners::new(alloc),
+            counts: BTreeMap::new(alloc),
             waiting: Vec::new(alloc),
             status: 0,
         }
     }
 
-    // Remembers a node, and returns its creation before, if it restarted.
-    fn meet(
-        &mut self,
-        node: &NodeDescription<'_>,
-        creation: Creation,
-        place: Option<Endpoint>,
-    ) -> Result<Option<Creation>, AllocError> {
-        for known in &mut self.nodes {
-            if known.name.as_slice() == node.name {
-                return Ok(known.meet(creation, place));
+    // Remembers a node, and returns what was before, if it was another incarnation.
+    fn meet(&mut self, name: &[u8], seen: Known) -> Result<Option<Known>, AllocError> {
+        if let Some(known) = self.nodes.get_mut(name) {
+            let before = mem::replace(known, seen);
+            if before.creation != seen.creation {
+                return Ok(Some(before));
             }
-        }
-        if self.nodes.len() < MOST {
-            self.nodes.push(Known {
-                name: ByteString::from_slice(self.alloc, node.name)?,
-                creation,
-                place,
-            })?;
+            known.ups = before.ups.saturating_add(seen.ups);
+        } else if self.nodes.len() < MOST {
+            let name = Vec::from_slice(self.alloc, name)?;
+            self.nodes.insert(name, seen)?;
         }
         Ok(None)
     }
 
-    // Remembers a side, and prints that it restarted, if it did.
+    // Remembers a side, and prints that it changed, if it did. `ups` is how many connections came up by this attempt.
     fn note_side(
         &mut self,
         lines: LineSink<'_>,
         node: Option<NodeDescription<'_>>,
-        place: Option<Endpoint>,
+        address: IpAddr,
+        ups: u32,
     ) -> Result<(), Fault> {
         let Some(node) = node else {
             return Ok(());
@@ -135,55 +143,60 @@ impl Register {
         let Some(creation) = node.creation else {
             return Ok(());
         };
-        match self.meet(&node, creation, place)? {
-            Some(before) => lines.put(&[
-                Text("!  restart   "),
-                Name(node.name),
-                Text(" was started again: creation "),
-                Number(creation.0),
-                Text(", before "),
-                Number(before.0),
-            ]),
+        let seen = Known {
+            creation,
+            address,
+            ups,
+        };
+        match self.meet(node.name, seen)? {
+            Some(before) => put_change(lines, node.name, before, seen),
             None => Ok(()),
         }
     }
 
-    // The name of the accepting side: by its challenge, or by an earlier one from the same place. Empty if it is not known.
-    fn acceptor_name<'b>(&'b self, attempt: &DialAttempt<'b>) -> &'b [u8] {
-        let said = attempt.facts.name(Side::Acceptor);
-        if said.is_empty() {
-            for known in &self.nodes {
-                if known.place == Some(attempt.acceptor) {
-                    return known.name.as_slice();
-                }
+    /// Notes that a connection of these two ended that was up.
+    pub fn note_end(&mut self, facts: &Facts<'_>) {
+        for node in [facts.dialler, facts.acceptor] {
+            if let Some(node) = node
+                && let Some(known) = self.nodes.get_mut(node.name)
+                && Some(known.creation) == node.creation
+            {
+                known.ups = known.ups.saturating_sub(1);
             }
         }
-        said
     }
 
-    // Counts what an attempt between these two came to. The lesser name is the first.
-    fn count(&mut self, one: &[u8], other: &[u8], word: &'static str) -> Result<(), AllocError> {
+    // Remembers who listens where an attempt went, and returns the name; empty if it is not known.
+    fn acceptor_name(&mut self, attempt: &DialAttempt<'_>) -> Result<ByteString, AllocError> {
+        let said = attempt.facts.name(Side::Acceptor);
+        match self.listeners.listener(attempt.acceptor) {
+            Some(name) if said.is_empty() => ByteString::from_slice(self.alloc, name),
+            _ => {
+                self.listeners.note(attempt.acceptor, said)?;
+                ByteString::from_slice(self.alloc, said)
+            }
+        }
+    }
+
+    // Counts what an attempt between these two came to.
+    fn count(
+        &mut self,
+        one: &[u8],
+        other: &[u8],
+        outcome: AttemptOutcome,
+    ) -> Result<(), AllocError> {
         let (first, second) = if one <= other {
             (one, other)
         } else {
             (other, one)
         };
-        for row in &mut self.counts {
-            if row.first.as_slice() == first
-                && row.second.as_slice() == second
-                && row.word == word
-            {
-                row.count = row.count.saturating_add(1);
-                return Ok(());
-            }
-        }
-        if self.counts.len() < MOST {
-            self.counts.push(Count {
-                first: ByteString::from_slice(self.alloc, first)?,
-                second: ByteString::from_slice(self.alloc, second)?,
-                word,
-                count: 1,
-            })?;
+        let first = Vec::from_slice(self.alloc, first)?;
+        let second = Vec::from_slice(self.alloc, second)?;
+        let row = (first, second, outcome.status(), outcome.name());
+        if let Some(count) = self.counts.get_mut(&row) {
+            *count = count.saturating_add(1);
+        } else if self.counts.len() < MOST {
+            self.counts.insert(row, 1)?;
         }
         Ok(())
     }
@@ -201,16 +214,16 @@ impl Register {
             acceptor: attempt.acceptor,
             began: attempt.began,
             until: attempt.until,
-            word: attempt.outcome.name(),
-            status: attempt.outcome.status(),
+            outcome: attempt.outcome,
         })?;
         Ok(())
     }
 
     // No dial crossed this one.
     fn give_up(&mut self, lesser: &Lesser) -> Result<(), AllocError> {
-        self.note_status(lesser.status);
-        self.count(lesser.name.as_slice(), lesser.other.as_slice(), lesser.word)
+        self.note_status(lesser.outcome.status());
+        let (name, other) = (lesser.name.as_slice(), lesser.other.as_slice());
+        self.count(name, other, lesser.outcome)
     }
 
     // Notes a status: the first that is not 0 counts.
@@ -233,7 +246,7 @@ impl Register {
         let lesser = self.waiting.remove(at);
         let winner = attempt.facts.name(Side::Dialler);
         let other = attempt.facts.name(Side::Acceptor);
-        self.count(other, winner, lesser.word)?;
+        self.count(other, winner, lesser.outcome)?;
         let text = if other < winner {
             " dialled it at the same time: the dial of the greater name won, as it must"
         } else {
@@ -250,19 +263,40 @@ impl Register {
 
     /// Takes an attempt, and prints what it shows together with earlier ones.
     pub fn take(&mut self, lines: LineSink<'_>, attempt: &DialAttempt<'_>) -> Result<(), Fault> {
-        self.note_side(lines, attempt.facts.dialler, None)?;
-        self.note_side(lines, attempt.facts.acceptor, Some(attempt.acceptor))?;
-        let dialler = attempt.facts.name(Side::Dialler);
-        let acceptor = ByteString::from_slice(self.alloc, self.acceptor_name(attempt))?;
+        let facts = attempt.facts;
+        let ups = u32::from(facts.ack.is_some());
+        self.note_side(lines, facts.dialler, attempt.dialler.address, ups)?;
+        self.note_side(lines, facts.acceptor, attempt.acceptor.address, ups)?;
+        let acceptor = self.acceptor_name(attempt)?;
+        self.listeners
+            .put_lookup(lines, attempt, acceptor.as_slice())?;
         if let AttemptOutcome::Verdict(ProbeVerdict::Busy)
         | AttemptOutcome::Withdrawn(Side::Dialler) = attempt.outcome
         {
             return Ok(self.wait(attempt, acceptor)?);
         }
         self.note_status(attempt.outcome.status());
-        self.count(dialler, acceptor.as_slice(), attempt.outcome.name())?;
+        let dialler = facts.name(Side::Dialler);
+        self.count(dialler, acceptor.as_slice(), attempt.outcome)?;
         if attempt.outcome.is_up() {
             self.put_crossing(lines, attempt)?;
+        }
+        Ok(())
+    }
+
+    // Prints how many attempts between two nodes came to what.
+    fn put_counts(&self, lines: LineSink<'_>) -> Result<(), Fault> {
+        for (row, count) in self.counts.iter() {
+            lines.put(&[
+                Text("   pair      "),
+                name_piece(&row.0),
+                Text(" and "),
+                name_piece(&row.1),
+                Text(": "),
+                Text(row.3),
+                Text(" "),
+                Number(*count),
+            ])?;
         }
         Ok(())
     }
@@ -274,31 +308,7 @@ impl Register {
         for lesser in waiting {
             self.give_up(&lesser)?;
         }
-        for row in &self.counts {
-            row.put(lines)?;
-        }
+        self.put_counts(lines)?;
         Ok(self.status)
-    }
-}
-
-impl Count {
-    // Prints it. A name that is not known is empty, and so the lesser one.
-    fn put(&self, lines: LineSink<'_>) -> Result<(), Fault> {
-        let second = Name(self.second.as_slice());
-        let first = if self.first.is_empty() {
-            Text("an unknown node")
-        } else {
-            Name(self.first.as_slice())
-        };
-        lines.put(&[
-            Text("   pair      "),
-            first,
-            Text(" and "),
-            second,
-            Text(": "),
-            Text(self.word),
-            Text(" "),
-            Number(self.count),
-        ])
     }
 }

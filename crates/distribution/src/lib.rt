@@ -6,8 +6,8 @@
 //! A node is a value, which is given events and returns what is to be written. The program has the socket, the clock and the
 //! random numbers, and hands in what came of them.
 //!
-//! 1. Names, cookie, node. `Release::Otp28.required()` is what OTP 23 to 29 take; without `PUBLISHED` among the flags the node
-//!    is hidden.
+//! 1. Names, cookie, node. `Release::Otp28.required()` is what OTP 23 to 29 take, and they announce what
+//!    `Release::Otp25.required()` requires of them; without `PUBLISHED` among its flags the node is hidden.
 //!
 //! ```text
 //! let setup = Setup {
@@ -15,7 +15,7 @@
 //!     cookies: Cookies::new(alloc, read_cookie(alloc, &mut file)?),
 //!     version: Version::Six,
 //!     flags: Release::Otp28.required(),
-//!     required: Flags(0),
+//!     required: Release::Otp25.required(),
 //!     creation: Creation(drawn),
 //!     allow: None,
 //!     limits: Limits::long_running(),

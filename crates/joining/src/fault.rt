@@ -91,6 +91,8 @@ impl Fault {
                 ": the handshake did not end well: the node did not say its challenge",
             Fault::NotUp(_, Some(Awaited::Ack)) =>
                 ": the handshake did not end well: the node did not acknowledge our digest, as where it has another cookie",
+            Fault::NotUp(Why::WrongFlags, _) =>
+                ": the handshake did not end well: the node lacks a flag that OTP 25 and newer require",
             Fault::NotUp(..) => ": the handshake did not end well",
             Fault::Lost(_) => ": the link is lost",
             _ => "",

@@ -20,7 +20,7 @@ use dist_program::{
     CONNECT_SECONDS, HostError, Resolving, TextError, draw, lookup_host, mapper_port, report,
     words_of,
 };
-use distribution::{Cookies, Creation, Flags, Limits, Release, Setup, Version};
+use distribution::{Cookies, Creation, Limits, Release, Setup, Version};
 use fault::Fault;
 use link::{Keeping, Link};
 use printing::{print, start_printing};
@@ -90,7 +90,7 @@ fn setup_of(rt: &HostRuntime, wanted: &JoinRequest<'_>) -> Result<Setup, Fault> 
         cookies: Cookies::new(alloc, cookie),
         version: Version::Six,
         flags: Release::Otp28.required(),
-        required: Flags(0),
+        required: Release::Otp25.required(),
         creation: Creation(creation),
         allow: None,
         limits: Limits::long_running(),

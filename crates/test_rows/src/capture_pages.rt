@@ -1,8 +1,8 @@
 //! Captures, and the page that each has. A file is a row: `COOKIE BYTES`, where the bytes are those of a capture that `bench/captures/make`
 //! made, and then the page, with the exit status in its last line.
 //!
-//! The pages were written by hand from the packets, as `tshark` shows them, the flags of `dist.hrl` of OTP 25 and the sentences of the
-//! verdicts.
+//! The pages are those that `bench/captures/rows` writes: what was said as `tshark` shows it, with the flags of `dist.hrl`, and what
+//! follows from it as it stands in `bench/captures/wanted`, by hand.
 
 use dist_capture::Capture;
 use dist_secret::Cookie;
@@ -12,17 +12,50 @@ use std::alloc::Global;
 use std::{fs, io};
 
 /// The rows.
-const ROWS: [&str; 10] = [
-    "up",
-    "wrong_cookie",
-    "wrong_cookie_of_acceptor",
+const ROWS: [&str; 43] = [
+    "alive_false",
+    "alive_true",
+    "any_interface",
+    "c_node",
+    "complement_23_23",
+    "cookie_for_one",
     "crossing",
-    "version_5",
-    "killed",
+    "crossing_25_27",
+    "crossing_29_27",
+    "crossing_against_the_rule",
     "cut",
+    "fell_silent",
+    "firewall_seen_by_acceptor",
+    "firewall_seen_by_dialler",
     "gap",
+    "ipv6",
+    "killed",
+    "lacks_flags_23_29",
     "late",
+    "late_reply",
+    "left_29_23",
+    "many",
+    "not_on_list",
+    "other_name",
+    "ours",
+    "pcapng",
+    "probe",
+    "reordered",
+    "restart",
+    "retransmitted",
+    "silent_acceptor",
+    "silent_dialler",
     "tls",
+    "two_hosts_of_one_name",
+    "up",
+    "up_25_27",
+    "up_27_29",
+    "up_29_25",
+    "version_5",
+    "wrong_cookie",
+    "wrong_cookie_25_27",
+    "wrong_cookie_27_29",
+    "wrong_cookie_of_acceptor",
 ];
 
 // The port of the port mapper in the captures.

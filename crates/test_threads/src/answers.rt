@@ -61,12 +61,13 @@ fn answer_before_step(rt: HostRuntime) {
     }
 }
 
-// Node b takes three steps and then ticks: how many it accepts, and how it answers one more, the loss of its end, and a connection.
-fn spend_steps(alloc: Global) -> Option<String> {
+// Node b takes three steps and then this many ticks: how many it accepts, and how it answers one more, the loss of its end, and a
+// connection.
+fn spend_steps(alloc: Global, ticks: u32) -> Option<String> {
     let mut node = node_after(alloc, "b incoming name reply")?;
     let tick = event(alloc, "tick")?;
     let mut taken = 0u32;
-    for _ in 0..1_048_573u32 {
+    for _ in 0..ticks {
         taken = taken.saturating_add(node.step(alloc, &tick, 0).is_ok() as u32);
     }
     let next = do_word(alloc, &mut node, "tick")?;
@@ -77,7 +78,7 @@ fn spend_steps(alloc: Global) -> Option<String> {
 
 #[test]
 fn steps_spent(rt: HostRuntime) {
-    let seen = spend_steps(rt.alloc());
+    let seen = spend_steps(rt.alloc(), 1_048_573);
     let wanted = "1048573 Err(Spent) Ok(()) Err(Spent)";
     assert_eq!(rt; seen.as_deref(), Some(wanted));
 }

@@ -161,15 +161,26 @@ fn driven_calls_go_as_their_rows_say(rt: HostRuntime) {
     assert_eq!(rt; first_wrong(&rt, rt.alloc(), TableKind::Drive, ROWS), None);
 }
 
-/// What a handshake leaves unread of a stream, in hexadecimal digits, if its first read gives this many bytes.
-pub fn rest_of(alloc: Global, read: &str) -> Option<String> {
-    let mut desk = desk_of(alloc, "accepted")?;
+// A stream whose first read gives this many bytes: frames, and packets behind them.
+fn stream_with_packets(alloc: Global, read: &str) -> Option<FaultStream> {
     let mut stream = FaultStream::new(alloc, bytes_of(alloc, "name+reply+packets")?);
     put_sizes(&mut stream.read_sizes, read, 0)?;
+    Some(stream)
+}
+
+/// What a handshake leaves unread of a stream, in hexadecimal digits, if its first read gives this many bytes.
+pub fn rest_of(alloc: Global, read: &str) -> Option<String> {
+    let mut stream = stream_with_packets(alloc, read)?;
+    let mut desk = desk_of(alloc, "accepted")?;
     let mut draws = Rising(CHALLENGE);
-    match handshake(alloc, &mut stream, &mut desk, &mut draws, EndId(0), b"", 9) {
+    let reached = handshake(alloc, &mut stream, &mut desk, &mut draws, EndId(0), b"", 9);
+    digits_left(alloc, &reached)
+}
+
+fn digits_left(alloc: Global, reached: &Reached) -> Option<String> {
+    match reached {
         Reached::Up { record: _, rest } => {
-            let digits = hex::encode(alloc, &rest).ok()?;
+            let digits = hex::encode(alloc, rest).ok()?;
             format!(in alloc; "0x{digits}").ok()
         }
         Reached::Ended(_) => None,

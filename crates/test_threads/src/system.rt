@@ -141,10 +141,12 @@ impl<'a, R: RandomSource> RandomSource for FaultySystem<'a, R> {
     }
 }
 
-// Whether this many are there, or come while it looks. It looks ten million times at most, so that a run also ends if the system has no
-// thread for the other worker.
-fn are_there(count: &AtomicUsize, wanted: usize) -> bool {
-    for _ in 0..10_000_000u32 {
+// How often it is looked at most whether others come, so that a run also ends if the system has no thread for the other worker.
+const LOOKS: u32 = 10_000_000;
+
+// Whether this many are there, or come while it looks.
+fn are_there(count: &AtomicUsize, wanted: usize, looks: u32) -> bool {
+    for _ in 0..looks {
         if count.load(Ordering::SeqCst) >= wanted {
             return true;
         }
@@ -161,7 +163,7 @@ impl<'a, R> Gate for FaultySystem<'a, R> {
         }
         if self.fault == "holds" && is_before {
             next(&self.held);
-            let _ = are_there(&self.held, 2);
+            let _ = are_there(&self.held, 2, LOOKS);
         }
         if self.fault != "overtakes" {
             return true;
@@ -169,9 +171,9 @@ impl<'a, R> Gate for FaultySystem<'a, R> {
         match (worker, is_before) {
             (0, true) => {
                 next(&self.held);
-                are_there(&self.passed, 1)
+                are_there(&self.passed, 1, LOOKS)
             }
-            (1, true) => are_there(&self.held, 1),
+            (1, true) => are_there(&self.held, 1, LOOKS),
             (1, false) => {
                 next(&self.passed);
                 true

@@ -1,0 +1,5 @@
+use Rattle.std.proofs.Common.{rules}
+use Rattle.dist_core.proofs.dialled.send_reply.Goals as goal
+
+pub returns : goal.returns
+returns c = search rules
