@@ -114,7 +114,9 @@ impl<'x> Finder<'x> {
         let facts = Facts::of(&connection.said);
         let outcome = conclude(self.lines.alloc, connection, &facts, self.cookie, self.now)?;
         let check = check_of_attempt(&facts, outcome, self.cookie);
-        put_attempt(self.lines, connection, outcome, check)?;
+        if !self.lines.quiet {
+            put_attempt(self.lines, connection, outcome, check)?;
+        }
         let attempt = DialAttempt {
             facts: &facts,
             dialler: connection.dialler,

@@ -1,0 +1,282 @@
+"""A node and its port mapper that keep every row of share/conformance, but for one fault that is planted. It shares no code with distcheck,
+nor with the other programs: it is written from the ERTS User's Guide, Distribution Protocol.
+
+usage: standin.py COOKIE [FAULT]     prints its node's port and its port mapper's, and serves until its input ends
+
+The faults of the node: noextra (closes where bytes stand behind the name), prefix (compares 8 bytes of a digest), signed (digests a challenge
+as a number with a sign), longreply (takes a reply with bytes behind it), nomap (does not require MAP_TAG), announces (does not announce
+NEW_FLOATS), onepiece (loses what stands behind a message in the same piece), twobytes (goes on with short frames once it is up), notick (a
+tick ends the connection), samechallenge, creation0, saysno (not_allowed behind a wrong digest). Of the port mapper: stale (keeps a name for
+3 seconds), noextramap (forgets the extra), namesport (4369 in front of the names), cutreg (registers what was cut), serial (one client at a
+time), always6 (a creation of 32 bits to whoever knows version 5), staysopen (no end behind a lookup), onewrite (closes a request in pieces).
+"""
+import hashlib
+import os
+import socket
+import struct
+import sys
+import threading
+import time
+
+COOKIE = sys.argv[1].encode()
+FAULT = sys.argv[2] if len(sys.argv) > 2 else ""
+ME, HOST = b"n@127.0.0.1", "127.0.0.1"
+# EXTENDED_REFERENCES, FUN_TAGS, NEW_FUN_TAGS, EXTENDED_PIDS_PORTS, EXPORT_PTR_TAG, BIT_BINARIES, NEW_FLOATS, UTF8_ATOMS, MAP_TAG,
+# BIG_CREATION, HANDSHAKE_23, UNLINK_ID, V4_NC
+REQUIRED = 0x403070F94
+NEW_FLOATS, MAP_TAG, NAME_ME = 1 << 11, 1 << 17, 1 << 33
+ANNOUNCED = REQUIRED & ~(NEW_FLOATS if FAULT == "announces" else 0) | 1
+CREATION = 0 if FAULT == "creation0" else 0x1000007
+# How long a handshake may take, an idle client of the port mapper, and the time between two ticks, in seconds.
+SETUP, IDLE, TICK = 7, 60, 12
+
+
+class Ended(Exception):
+    """A connection that is over, for a reason."""
+
+
+class Connection:
+    def __init__(self, stream):
+        self.stream, self.bytes, self.until = stream, b"", time.monotonic() + SETUP
+        stream.setsockopt(socket.IPPROTO_TCP, socket.TCP_NODELAY, 1)
+
+    def take(self, header):
+        """A frame behind a length of so many bytes."""
+        while len(self.bytes) < header or len(self.bytes) < header + int.from_bytes(self.bytes[:header], "big"):
+            self.stream.settimeout(self.until and max(0.001, self.until - time.monotonic()))
+            try:
+                came = self.stream.recv(65536)
+            except OSError:
+                raise Ended("no read") from None
+            if not came:
+                raise Ended("no more")
+            self.bytes += came
+        end = header + int.from_bytes(self.bytes[:header], "big")
+        body, self.bytes = self.bytes[header:end], self.bytes[end:]
+        if FAULT == "onepiece" and header == 2:
+            self.bytes = b""
+        return body
+
+    def say(self, body):
+        self.stream.sendall(struct.pack(">H", len(body)) + body)
+
+
+# --- the node ---
+def digest(number):
+    return hashlib.md5(COOKIE + b"%d" % number).digest()
+
+
+def their_digest(number):
+    return digest(number - (1 << 32) if FAULT == "signed" and number >> 31 else number)
+
+
+def drawn():
+    return 12345 if FAULT == "samechallenge" else int.from_bytes(os.urandom(4), "big")
+
+
+def is_good(name):
+    return len(name) <= 255 and name.count(b"@") == 1 and all(name.split(b"@")) and all(0x21 <= it <= 0x7E for it in name)
+
+
+def introduction(body):
+    """The flags and the name of a message N or n, whether it is the old one, and what stands behind the name."""
+    if body[:1] == b"N" and len(body) >= 15:
+        flags, _, length = struct.unpack(">QIH", body[1:15])
+        if len(body) >= 15 + length:
+            return flags, body[15 : 15 + length], False, body[15 + length :]
+    if body[:1] == b"n" and len(body) >= 7:
+        return struct.unpack(">I", body[3:7])[0], body[7:], True, b""
+    raise Ended("no name")
+
+
+def lacks(flags, is_old):
+    required = REQUIRED & ~(MAP_TAG if FAULT == "nomap" else 0)
+    return required & (0xFFFFFFFF if is_old else ~0) & ~flags
+
+
+def take_name(it):
+    flags, name, is_old, behind = introduction(it.take(2))
+    if FAULT == "noextra" and behind:
+        raise Ended("bytes behind the name")
+    if flags & NAME_ME or lacks(flags, is_old) or not is_good(name) or name == ME:
+        it.say(b"snot_allowed")
+        raise Ended("refused")
+    return is_old
+
+
+def take_reply(it, challenge):
+    reply = it.take(2)
+    if reply[:1] != b"r" or len(reply) < 21 or len(reply) > 21 and FAULT != "longreply":
+        raise Ended("no reply")
+    compared = 8 if FAULT == "prefix" else 16
+    if reply[5 : 5 + compared] != digest(challenge)[:compared]:
+        if FAULT == "saysno":
+            it.say(b"snot_allowed")
+        raise Ended("another digest")
+    return struct.unpack(">I", reply[1:5])[0]
+
+
+def send_ticks(it):
+    while it.stream.fileno() >= 0:
+        time.sleep(TICK)
+        try:
+            it.stream.sendall(bytes(4))
+        except OSError:
+            return
+
+
+def stay_up(it):
+    """Until a packet comes that is none of the distribution: pass through, or a version of terms, with a tuple behind it."""
+    it.until = None
+    threading.Thread(target=send_ticks, args=(it,), daemon=True).start()
+    while True:
+        packet = it.take(2 if FAULT == "twobytes" else 4)
+        if not packet and FAULT == "notick":
+            raise Ended("a tick")
+        if packet and (packet[0] not in (112, 131) or packet[1:3] != b"\x83h"):
+            raise Ended("no packet")
+
+
+def accept(stream):
+    it = Connection(stream)
+    try:
+        is_old = take_name(it)
+        it.say(b"sok")
+        challenge = drawn()
+        it.say(b"N" + struct.pack(">QIIH", ANNOUNCED, challenge, CREATION, len(ME)) + ME)
+        if is_old:
+            complement = it.take(2)
+            if complement[:1] != b"c" or len(complement) != 9 or not complement[4] & REQUIRED >> 32:
+                raise Ended("no complement")
+        it.say(b"a" + their_digest(take_reply(it, challenge)))
+        stay_up(it)
+    except (Ended, OSError):
+        pass
+    finally:
+        close(stream)
+
+
+def close(stream):
+    try:
+        stream.shutdown(socket.SHUT_RDWR)
+    except OSError:
+        pass
+    stream.close()
+
+
+# --- the port mapper ---
+NAMES, LOCK, TURN = {}, threading.RLock(), threading.Lock()
+CREATIONS = iter(range(100, 1 << 32))
+
+
+def request_of(stream):
+    """A request whose bytes are all, or that was cut, if that is the fault."""
+    came = b""
+    while len(came) < 2 or len(came) < 2 + int.from_bytes(came[:2], "big"):
+        more = stream.recv(65536)
+        if not more:
+            if FAULT == "cutreg" and came[2:3] == b"x" and len(came) > 15:
+                return came[2:]
+            raise Ended("cut")
+        came += more
+        if FAULT == "onewrite" and len(came) < 2 + int.from_bytes(came[:2], "big"):
+            raise Ended("in pieces")
+    length = int.from_bytes(came[:2], "big")
+    if len(came) > 2 + length or length > 4094:
+        raise Ended("too many bytes")
+    return came[2:]
+
+
+def registration_of(request):
+    """The name, and what a lookup answers between its result and the name, and behind it."""
+    port, kind, protocol, highest, lowest, length = struct.unpack(">HBBHHH", request[1:11])
+    name, behind = request[11 : 11 + length], request[11 + length :]
+    extra = behind[2 : 2 + int.from_bytes(behind[:2], "big")]
+    if not name or FAULT != "cutreg" and (len(behind) < 2 or len(extra) != int.from_bytes(behind[:2], "big")):
+        raise Ended("cut inside")
+    return name, (port, kind, protocol, highest, lowest, b"" if FAULT == "noextramap" else extra)
+
+
+def is_free(name):
+    try:
+        return len(name) <= 255 and b"\0" not in name and bool(name.decode()) and name not in NAMES
+    except UnicodeDecodeError:
+        return False
+
+
+def register(stream, request, release):
+    name, entry = registration_of(request)
+    with LOCK:
+        free, creation = is_free(name), next(CREATIONS)
+        if free:
+            NAMES[name] = entry
+    try:
+        if entry[3] >= 6 or FAULT == "always6":
+            stream.sendall(b"v" + struct.pack(">BI", not free, creation if free else 0))
+        else:
+            stream.sendall(b"y" + struct.pack(">BH", not free, creation % 3 + 1 if free else 0))
+        release()
+        if free:
+            stream.settimeout(None)
+            stream.recv(1)
+    finally:
+        if free:
+            time.sleep(3 if FAULT == "stale" else 0)
+            with LOCK:
+                del NAMES[name]
+
+
+def answer(stream, request, port):
+    if request[:1] == b"z":
+        with LOCK:
+            entry = NAMES.get(request[1:])
+        if entry is None:
+            stream.sendall(b"w\1")
+        else:
+            stream.sendall(b"w\0" + struct.pack(">HBBHHH", *entry[:5], len(request) - 1) + request[1:] + struct.pack(">H", len(entry[5])) + entry[5])
+        if FAULT == "staysopen":
+            stream.recv(1)
+    elif request[:1] == b"n":
+        with LOCK:
+            lines = [b"name %s at port %d\n" % (name, entry[0]) for name, entry in NAMES.items()]
+        stream.sendall(struct.pack(">I", 4369 if FAULT == "namesport" else port) + b"".join(lines))
+
+
+def serve_client(stream):
+    held = FAULT == "serial" and TURN.acquire()
+    release = TURN.release if held else lambda: None
+    done = []
+
+    def release_once():
+        if not done:
+            done.append(True)
+            release()
+
+    try:
+        stream.settimeout(8 if held else IDLE)
+        request = request_of(stream)
+        if request[:1] == b"x" and len(request) >= 13:
+            register(stream, request, release_once)
+        else:
+            answer(stream, request, stream.getsockname()[1])
+    except (Ended, OSError):
+        pass
+    finally:
+        release_once()
+        close(stream)
+
+
+def serve(listener, talk):
+    while True:
+        threading.Thread(target=talk, args=(listener.accept()[0],), daemon=True).start()
+
+
+def main():
+    listeners = [socket.create_server((HOST, 0), backlog=128) for _ in range(2)]
+    for listener, talk in zip(listeners, (accept, serve_client)):
+        threading.Thread(target=serve, args=(listener, talk), daemon=True).start()
+    print(*[it.getsockname()[1] for it in listeners], flush=True)
+    sys.stdin.read()
+
+
+main()

@@ -1,0 +1,250 @@
+-- THE JUDGEMENT: what it means that this came.
+use Rattle.std.specs.Prelude.{ℕ, ◌+◌, ◌==◌, Bool, true, false, not, ◌&&◌, ◌||◌, nat_le, nat_lt, if◌then◌else◌}
+use Rattle.std.specs.Prelude.{List, [], ◌∷◌, length, drop, map, Option, Some, None, is_some, option_map, unwrap_or, Result, Ok, Err}
+use Rattle.std.specs.List.{list_any, list_all, ends_with}
+use Rattle.std.specs.Int.{Width, w16, w32}
+use Rattle.dist_names.specs.Fields.{number_at}
+use Rattle.dist_names.specs.Flags.{has_all}
+use Rattle.dist_names.specs.Order.{same_name}
+use Rattle.dist_names.specs.declared.flags.Flags.{Flags}
+use Rattle.dist_frames.specs.Stream.{first_body}
+use Rattle.dist_secret.specs.Digest.{digest_of}
+use Rattle.dist_messages.specs.declared.message.Message.{Message}
+use Rattle.dist_messages.specs.declared.message.Message.TheVariants as message
+use Rattle.dist_messages.specs.declared.message.Side.TheVariants.{Acceptor}
+use Rattle.dist_messages.specs.declared.message_error.MessageError.{MessageError}
+use Rattle.dist_messages.specs.Canonical.{canonical}
+use Rattle.dist_messages.specs.Reading.{read}
+use Rattle.dist_conformance.specs.Texts.{lines_of}
+use Rattle.dist_conformance.specs.Words.{begins_with}
+use Rattle.dist_conformance.specs.declared.patterns.CreationRange.{CreationRange}
+use Rattle.dist_conformance.specs.declared.patterns.ChallengeCheck.{ChallengeCheck}
+use Rattle.dist_conformance.specs.declared.patterns.ChallengeCheck.TheVariants as check
+use Rattle.dist_conformance.specs.declared.patterns.NamesCheck.{NamesCheck}
+use Rattle.dist_conformance.specs.declared.patterns.NamesCheck.TheVariants as names
+use Rattle.dist_conformance.specs.declared.patterns.Pattern.{Pattern}
+use Rattle.dist_conformance.specs.declared.patterns.Pattern.TheVariants as pattern
+use Rattle.dist_conformance.specs.declared.steps.Demand.{Demand}
+use Rattle.dist_conformance.specs.declared.say.Learned.{Learned}
+use Rattle.dist_conformance.specs.declared.outcomes.Passage.{Passage}
+use Rattle.dist_conformance.specs.declared.outcomes.Deviation.{Deviation}
+use Rattle.dist_conformance.specs.declared.outcomes.Deviation.TheVariants as deviation
+use Rattle.dist_conformance.specs.declared.outcomes.PatternOutcome.{PatternOutcome}
+use Rattle.dist_conformance.specs.declared.outcomes.PatternOutcome.TheVariants as outcome
+use Rattle.dist_conformance.specs.declared.outcomes.Observed.{Observed}
+use Rattle.dist_conformance.specs.declared.judging.Judgement.{Judgement}
+use Rattle.dist_conformance.specs.declared.judging.Judgement.TheVariants as judgement
+
+-- what is judged: what came, whether the connection ended, times in milliseconds, what was learned before, the cookie
+pub record Observation : Type 0 where
+  pub came : List ℕ
+  pub ended : Bool
+  pub elapsed : ℕ
+  pub limit : ℕ
+  pub learned : List Learned
+  pub cookie : List ℕ
+
+abbrev pub observation_of : Observed → Observation
+observation_of o = record { came = o.came.now; ended = o.ended; elapsed = o.elapsed; limit = o.limit; learned = o.learned.now; cookie = o.cookie.now }
+
+-- ---- what a single pattern makes of bytes
+
+-- so many bytes match, and nothing is learned from them
+abbrev pub passes : ℕ → PatternOutcome
+passes n = outcome.Matches (record { count = n; challenge = None })
+
+-- what is awaited has not come whole
+abbrev pub part_outcome : Bool → PatternOutcome
+part_outcome ended = if ended then outcome.Fails deviation.Closed else outcome.Open
+
+-- the connection has been open for so long, with so many bytes that match
+abbrev pub open_for : ℕ → ℕ → Observation → PatternOutcome
+open_for ms count o =
+    if o.ended then outcome.Fails deviation.Closed else (if nat_le ms o.elapsed then passes count else outcome.Open)
+
+-- nothing came, or this is what it means
+abbrev pub if_nothing : List ℕ → PatternOutcome → PatternOutcome
+if_nothing [] meaning = meaning
+if_nothing (c ∷ cs) meaning = outcome.Fails deviation.Other
+
+-- these bytes stand in front, or all that came is a beginning of them
+abbrev pub by_bytes : List ℕ → List ℕ → Bool → PatternOutcome
+by_bytes wanted came ended =
+    if begins_with wanted came then passes (length wanted) else (if begins_with came wanted then part_outcome ended else outcome.Fails deviation.Other)
+
+-- so many bytes match where this holds
+abbrev pub passes_if : Bool → ℕ → PatternOutcome
+passes_if true n = passes n
+passes_if false n = outcome.Fails deviation.Other
+
+-- this is what the first body means, once it is whole
+abbrev pub by_body : (List ℕ → PatternOutcome) → Option (List ℕ) → Bool → PatternOutcome
+by_body says None ended = part_outcome ended
+by_body says (Some body) ended = says body
+
+-- ---- creations and challenges
+
+abbrev pub is_in : CreationRange → ℕ → Bool
+is_in range n = nat_le range.lowest n && nat_le n range.highest
+
+abbrev pub is_fresh : ℕ → List Learned → Bool
+is_fresh n learned = list_all (λ (l : Learned). not (unwrap_or (option_map (λ m. m == n) l.challenge) false)) learned
+
+-- what a challenge of version 6 says
+pub record ChallengeSaid : Type 0 where
+  pub flags : ℕ
+  pub challenge : ℕ
+  pub creation : ℕ
+  pub name : List ℕ
+
+abbrev pub challenge_in : Result Message MessageError → Option ChallengeSaid
+challenge_in (Ok (message.NewChallenge flags challenge creation name)) =
+    Some (record { flags = flags.0; challenge = challenge; creation = creation.0; name = name })
+challenge_in other = None
+
+abbrev pub challenge_passes : ChallengeCheck → ChallengeSaid → List Learned → Bool
+challenge_passes check.Any c learned = true
+challenge_passes (check.Name name) c learned = same_name c.name name
+challenge_passes check.Fresh c learned = is_fresh c.challenge learned
+challenge_passes (check.Creation range) c learned = is_in range c.creation
+challenge_passes (check.Has flags) c learned = has_all c.flags flags.0
+
+-- a challenge, where the body is one
+abbrev pub by_challenge : ChallengeCheck → List Learned → ℕ → Option ChallengeSaid → PatternOutcome
+by_challenge which learned len None = outcome.Fails deviation.Other
+by_challenge which learned len (Some c) =
+    if challenge_passes which c learned then outcome.Matches (record { count = 2 + len; challenge = Some c.challenge })
+    else outcome.Fails deviation.Field
+
+-- ---- answers of a port mapper
+
+-- the answer to a registration: its first byte, its result, and a creation of this width
+pub record AnswerSaid : Type 0 where
+  pub tag : ℕ
+  pub code : ℕ
+  pub creation : ℕ
+
+abbrev pub answer_in : Width → List ℕ → Option AnswerSaid
+answer_in w (tag ∷ code ∷ rest) = option_map (λ n. record { tag = tag; code = code; creation = n.0 }) (number_at w rest)
+answer_in w other = None
+
+-- it has this first byte, result 0, and a creation that is so
+abbrev pub by_answer : ℕ → ℕ → CreationRange → Bool → Option AnswerSaid → PatternOutcome
+by_answer tag count range ended None = part_outcome ended
+by_answer tag count range ended (Some a) =
+    if a.tag == tag && a.code == 0 then (if is_in range a.creation then passes count else outcome.Fails deviation.Field)
+    else outcome.Fails deviation.Other
+
+-- this first byte, a result that is not 0, and so many bytes more
+abbrev pub refusal : ℕ → ℕ → Bool → List ℕ → PatternOutcome
+refusal tag more ended (first ∷ code ∷ rest) =
+    if nat_lt (length rest) more then part_outcome ended else passes_if (first == tag && not (code == 0)) (2 + more)
+refusal tag more ended other = part_outcome ended
+
+-- all lines of the answer to a question for names end in a line feed
+abbrev pub are_lines : List ℕ → Bool
+are_lines text = length text == 0 || ends_with ◌==◌ text (10 ∷ [])
+
+-- a line is this one, or begins so
+abbrev pub is_line : Bool → List ℕ → List ℕ → Bool
+is_line is_whole wanted line = if is_whole then same_name line wanted else begins_with wanted line
+
+-- one of the lines is
+abbrev pub has_line : Bool → List ℕ → List ℕ → Bool
+has_line is_whole wanted text = list_any (is_line is_whole wanted) (lines_of text)
+
+abbrev pub names_pass : NamesCheck → ℕ → List ℕ → Bool
+names_pass names.Any port text = true
+names_pass (names.Port n) port text = port == n
+names_pass (names.Has line) port text = has_line true line text
+names_pass (names.Lacks front) port text = not (has_line false front text)
+
+-- the whole answer to a question for names
+abbrev pub by_names : NamesCheck → ℕ → Option (ℕ × List ℕ) → PatternOutcome
+by_names which count None = outcome.Fails deviation.Closed
+by_names which count (Some answer) =
+    if are_lines answer.1 && names_pass which answer.0 answer.1 then passes count else outcome.Fails deviation.Field
+
+-- ---- patterns
+
+-- what a pattern makes of the body of a frame
+abbrev pub body_outcome : Pattern → Observation → List ℕ → PatternOutcome
+body_outcome (pattern.Frame front) o body = passes_if (begins_with front body) (2 + length body)
+body_outcome (pattern.Challenge which) o body = by_challenge which o.learned (length body) (challenge_in (read Acceptor body))
+body_outcome (pattern.Ack challenge) o body = passes_if (same_name body (canonical (message.Ack (digest_of o.cookie challenge)))) (2 + length body)
+body_outcome other o body = outcome.Open
+
+-- WHAT A PATTERN MAKES OF WHAT CAME, from here on
+abbrev pub outcome_of : Pattern → Observation → List ℕ → PatternOutcome
+outcome_of pattern.End o came = if_nothing came (if o.ended then passes 0 else outcome.Open)
+outcome_of (pattern.Silence ms) o came = if_nothing came (open_for ms 0 o)
+outcome_of (pattern.Open ms) o came = open_for ms (length came) o
+outcome_of (pattern.Bytes wanted) o came = by_bytes wanted came o.ended
+outcome_of (pattern.RegisteredX range) o came = by_answer 0x76 6 range o.ended (answer_in w32 came)
+outcome_of (pattern.RegisteredY range) o came = by_answer 0x79 4 range o.ended (answer_in w16 came)
+outcome_of (pattern.Denied tag more) o came = refusal tag more o.ended came
+outcome_of (pattern.Names which) o came = if o.ended then by_names which (length came) (number_at w32 came) else outcome.Open
+outcome_of framed o came = by_body (body_outcome framed o) (first_body w16 came) o.ended
+
+-- what was newly learned, or what was learned before
+abbrev pub or_else : Option ℕ → Option ℕ → Option ℕ
+or_else (Some n) before = Some n
+or_else None before = before
+
+-- one passage, and one behind it
+abbrev pub joined : Passage → Passage → Passage
+joined p q = record { count = p.count + q.count; challenge = or_else q.challenge p.challenge }
+
+-- what comes behind a pattern that matches
+abbrev pub behind_match : PatternOutcome → (Passage → PatternOutcome) → PatternOutcome
+behind_match (outcome.Matches p) behind = behind p
+behind_match (outcome.Fails why) behind = outcome.Fails why
+behind_match outcome.Open behind = outcome.Open
+
+-- PATTERNS ONE BEHIND THE OTHER, behind a passage that matched
+abbrev pub sequence_of : Observation → Passage → List Pattern → PatternOutcome
+sequence_of o p [] = outcome.Matches p
+sequence_of o p (first ∷ others) = behind_match (outcome_of first o (drop p.count o.came)) (λ q. sequence_of o (joined p q) others)
+
+-- nothing has matched yet
+abbrev pub no_passage : Passage
+no_passage = record { count = 0; challenge = None }
+
+-- what each alternative makes of what came
+abbrev pub outcomes_of : Observation → List (List Pattern) → List PatternOutcome
+outcomes_of o alternatives = map (λ patterns. sequence_of o no_passage patterns) alternatives
+
+-- ---- alternatives
+
+abbrev pub first_passage : List PatternOutcome → Option Passage
+first_passage [] = None
+first_passage (outcome.Matches p ∷ others) = Some p
+first_passage (other ∷ others) = first_passage others
+
+abbrev pub is_open : PatternOutcome → Bool
+is_open outcome.Open = true
+is_open other = false
+
+abbrev pub first_failure : List PatternOutcome → Deviation
+first_failure [] = deviation.Silent
+first_failure (outcome.Fails why ∷ others) = why
+first_failure (other ∷ others) = first_failure others
+
+-- one of them can still match, and there is time
+abbrev pub may_match : Observation → List PatternOutcome → Bool
+may_match o outcomes = nat_lt o.elapsed o.limit && list_any is_open outcomes
+
+-- no wanted alternative matches, nor can one that is still awaited
+abbrev pub by_loose : Observation → Deviation → List PatternOutcome → Option Passage → Judgement
+by_loose o why loose (Some p) = judgement.Loose p
+by_loose o why loose None = if may_match o loose then judgement.More else judgement.Deviates why
+
+abbrev pub by_wanted : Observation → List PatternOutcome → List PatternOutcome → Option Passage → Judgement
+by_wanted o wanted loose (Some p) = judgement.Kept p
+by_wanted o wanted loose None =
+    if may_match o wanted then judgement.More else by_loose o (first_failure wanted) loose (first_passage loose)
+
+-- THE JUDGEMENT: the first wanted alternative that matches; none yet, while one can still match; then the same of the loose ones
+abbrev pub judgement_of : Demand → Observation → Judgement
+judgement_of demand o =
+    let wanted = outcomes_of o demand.wanted in by_wanted o wanted (outcomes_of o demand.loose) (first_passage wanted)

@@ -1,0 +1,16 @@
+pub mod Faults
+pub mod Texts
+pub mod Words
+pub mod Terms
+pub mod Lists
+pub mod Fields
+pub mod Saying
+pub mod Messages
+pub mod Patterns
+pub mod Steps
+pub mod Rows
+pub mod Sections
+pub mod Judging
+pub mod Outcomes
+pub mod Verdicts
+pub mod Later

@@ -1,0 +1,98 @@
+-- The steps of a talk, as a row writes them.
+use Rattle.std.specs.Prelude.{ℕ, if◌then◌else◌, List, [], ◌∷◌, length, drop, codes, map, Option, Some, None, option_map, unwrap_or}
+use Rattle.dist_conformance.specs.declared.steps.Action.{Action}
+use Rattle.dist_conformance.specs.declared.steps.Action.TheVariants as action
+use Rattle.dist_conformance.specs.declared.steps.TalkStep.{TalkStep}
+use Rattle.dist_conformance.specs.declared.steps.Saying.{Saying}
+use Rattle.dist_conformance.specs.declared.steps.SaidPart.{SaidPart}
+use Rattle.dist_conformance.specs.declared.actions.ActionWord.{ActionWord}
+use Rattle.dist_conformance.specs.declared.actions.ActionWord.TheVariants as kind
+use Rattle.dist_conformance.specs.declared.actions.SayingTerms.{SayingTerms}
+use Rattle.dist_conformance.specs.Texts.{parts_of, words_of}
+use Rattle.dist_conformance.specs.Terms.{Terms, expanded}
+use Rattle.dist_conformance.specs.Lists.{all_in, good}
+use Rattle.dist_conformance.specs.Words.{◌>>=◌, Read, field, whole, meaning_in, begins_with}
+use Rattle.dist_conformance.specs.Fields.{number_in}
+use Rattle.dist_conformance.specs.Messages.{part_in}
+use Rattle.dist_conformance.specs.Patterns.{demand_in}
+
+-- ---- say
+
+-- where messages are cut, if they are
+abbrev pub cut_in : List (List ℕ) → Read (Option ℕ)
+cut_in words = field (codes "cut=") (λ word. option_map Some (number_in 4294967295 word)) None words
+
+-- how a saying is written
+abbrev pub saying_terms : List (List ℕ) → Read SayingTerms
+saying_terms words =
+    cut_in words >>= (λ cut.
+    field (codes "pieces=") (number_in 4294967295) 0 cut.1 >>= (λ pieces.
+    field (codes "pause=") (number_in 4294967295) 0 pieces.1 >>= (λ pause.
+    Some (record { cut = cut.0; pieces = pieces.0; pause = pause.0 }, pause.1))))
+
+-- the messages, with plus signs between them
+abbrev pub parts_said : Terms → List ℕ → Option (List SaidPart)
+parts_said t text = good (all_in (map (part_in t) (parts_of 43 text)))
+
+-- these messages, written so
+abbrev pub saying_of : Terms → List ℕ → SayingTerms → Option Saying
+saying_of t text how = option_map (λ parts. record { parts = parts; cut = how.cut; pieces = how.pieces; pause = how.pause }) (parts_said t text)
+
+-- messages, and how they are written where a comma stands before it
+abbrev pub saying_of_parts : Terms → List (List ℕ) → Option Saying
+saying_of_parts t (text ∷ []) = saying_of t text (record { cut = None; pieces = 0; pause = 0 })
+saying_of_parts t (text ∷ how ∷ []) = whole (saying_terms (words_of how)) >>= (λ terms. saying_of t text terms)
+saying_of_parts t other = None
+
+abbrev pub saying_in : Terms → List ℕ → Option Saying
+saying_in t text = saying_of_parts t (parts_of 44 text)
+
+-- ---- actions
+
+abbrev pub action_words : List (List ℕ × ActionWord)
+action_words =
+    (codes "dial", kind.Dial) ∷ (codes "ask", kind.Ask) ∷ (codes "half", kind.Half) ∷ (codes "close", kind.Close) ∷ (codes "reset", kind.Reset)
+    ∷ (codes "wait ", kind.Wait) ∷ (codes "say ", kind.Say) ∷ (codes "hear ", kind.Hear) ∷ (codes "want ", kind.Want) ∷ (codes "tell ", kind.Tell) ∷ []
+
+-- the first row of a table with whose word a text begins, and what stands behind that
+abbrev pub keyed_in : {K : Type 0} → List (List ℕ × K) → List ℕ → Option (K × List ℕ)
+keyed_in [] text = None
+keyed_in (row ∷ rows) text = if begins_with row.0 text then Some (row.1, drop (length row.0) text) else keyed_in rows text
+
+-- this, where nothing is left
+abbrev pub if_none : List ℕ → Action → Option Action
+if_none [] a = Some a
+if_none (c ∷ cs) a = None
+
+-- what stands behind the word of an action
+abbrev pub behind_word : Terms → ActionWord → List ℕ → Option Action
+behind_word t kind.Dial text = if_none text action.Dial
+behind_word t kind.Ask text = if_none text action.Ask
+behind_word t kind.Half text = if_none text action.Half
+behind_word t kind.Close text = if_none text action.Close
+behind_word t kind.Reset text = if_none text action.Reset
+behind_word t kind.Wait text = option_map (λ n. action.Wait n) (number_in 4294967295 text)
+behind_word t kind.Say text = option_map (λ s. action.Say s) (saying_in t text)
+behind_word t kind.Hear text = option_map (λ d. action.Hear d) (demand_in t text)
+behind_word t kind.Want text = option_map (λ d. action.Want d) (demand_in t text)
+behind_word t kind.Tell text = option_map (λ n. action.Tell n) (number_in 4294967295 text)
+
+unfoldable pub action_in : Terms → List ℕ → Option Action
+action_in t text = keyed_in action_words text >>= (λ k. behind_word t k.0 k.1)
+
+-- ---- steps
+
+abbrev pub conn_words : List (List ℕ × ℕ)
+conn_words = (codes "b: ", 1) ∷ (codes "c: ", 2) ∷ (codes "d: ", 3) ∷ (codes "e: ", 4) ∷ []
+
+-- the connection that a step names, b to e, or a; and what stands behind that
+unfoldable pub conn_in : List ℕ → ℕ × List ℕ
+conn_in text = unwrap_or (keyed_in conn_words text) (0, text)
+
+-- this text, for one talk, as a step
+abbrev pub step_of : Terms → List ℕ → Option TalkStep
+step_of t text = let conn = conn_in text in option_map (λ a. record { conn = conn.0; text = text; action = a }) (action_in t conn.1)
+
+-- A STEP: a line that two spaces begin
+abbrev pub step_in : Terms → List ℕ → Option TalkStep
+step_in t line = expanded t (drop 2 line) >>= (λ text. step_of t text)

@@ -1,0 +1,77 @@
+//! The digests of replies, right ones and wrong ones.
+
+ghost use Rattle.std.specs.Prelude.{◌≡◌, ◌<◌, ◌++◌};
+ghost use Rattle.md5.specs.Md5.{md5};
+ghost use Rattle.dist_conformance.specs.Saying.{digest_said, with_bit};
+
+use dist_secret::{Cookie, digest};
+use itoa::Buffer;
+use md5::{Digest, Md5};
+
+/// Which digest a reply has. All but the first are wrong.
+#[derive(Clone, Copy, Debug, PartialEq, Eq)]
+pub enum ReplyDigest {
+    /// `right`: of the cookie, and then the challenge in decimal digits.
+    Right,
+    /// `wrong`: of another cookie, which has an `x` more.
+    Wrong,
+    /// `newline`: of the cookie with a line feed behind it, as a file may have it.
+    Newline,
+    /// `nocookie`: of the digits alone.
+    NoCookie,
+    /// `swapped`: of the digits, and then the cookie.
+    Swapped,
+    /// `raw`: of the cookie, and then the challenge in 4 bytes.
+    Raw,
+    /// `other`: of the challenge with its last bit changed.
+    Other,
+    /// `earlier`: of the first challenge that came in this talk, on any connection.
+    Earlier,
+    /// `flip`: the right one with the last bit of its first byte changed.
+    FlipFirst,
+    /// `flipend`: the right one with the first bit of its last byte changed.
+    FlipLast,
+    /// `zero`: 16 zeros.
+    Zero,
+}
+
+// MD5 of three pieces.
+fn md5_of(first: &[u8], second: &[u8], third: &[u8]) -> [u8; 16]
+    ensures { result ≡ md5 (first.now ++ second.now ++ third.now) }
+{
+    let mut hasher = Md5::new();
+    hasher.update(first);
+    hasher.update(second);
+    hasher.update(third);
+    hasher.finalize()
+}
+
+// The digest with these bits of one byte changed.
+fn with_bit(mut digest: [u8; 16], place: usize, bit: u8) -> [u8; 16]
+    requires { place < 16 }
+    ensures { result ≡ with_bit digest place bit }
+{
+    digest[place] ^= bit;
+    digest
+}
+
+/// The digest of a reply to this challenge. `earlier` is the first challenge of the talk.
+pub fn digest_to_say(kind: ReplyDigest, cookie: &Cookie, challenge: u32, earlier: u32) -> [u8; 16]
+    ensures { result ≡ digest_said kind cookie.now challenge earlier }
+{
+    let mut buffer = Buffer::new();
+    let digits = buffer.format(challenge).as_bytes();
+    match kind {
+        ReplyDigest::Right => digest(cookie, challenge),
+        ReplyDigest::Wrong => md5_of(cookie.bytes(), b"x", digits),
+        ReplyDigest::Newline => md5_of(cookie.bytes(), b"\n", digits),
+        ReplyDigest::NoCookie => md5_of(b"", b"", digits),
+        ReplyDigest::Swapped => md5_of(b"", digits, cookie.bytes()),
+        ReplyDigest::Raw => md5_of(b"", cookie.bytes(), &challenge.to_be_bytes()),
+        ReplyDigest::Other => digest(cookie, challenge ^ 1),
+        ReplyDigest::Earlier => digest(cookie, earlier),
+        ReplyDigest::FlipFirst => with_bit(digest(cookie, challenge), 0, 1),
+        ReplyDigest::FlipLast => with_bit(digest(cookie, challenge), 15, 128),
+        ReplyDigest::Zero => [0; 16],
+    }
+}

@@ -1,0 +1,130 @@
+//! What is said in a step.
+
+ghost use Rattle.std.specs.Prelude.{◌≡◌, ◌++◌, option_map, IfOk, OnOk};
+ghost use Rattle.dist_messages.specs.declared.message.Message.TheVariants as message;
+ghost use Rattle.dist_messages.specs.Canonical.{canonical};
+ghost use Rattle.dist_conformance.specs.Saying.{edited, frame_said, last_challenge, first_challenge, part_said, cut_at, bytes_said};
+
+use crate::digests::digest_to_say;
+use crate::steps::{ReplyTerms, SaidPart, Saying};
+use dist_messages::put_reply;
+use dist_secret::Cookie;
+use std::alloc::{AllocError, Global};
+
+/// What was learned from what the node said on a connection. Who plays a talk keeps one behind each demand that was kept, in order.
+#[derive(Clone, Copy)]
+pub struct Learned {
+    /// The connection.
+    pub conn: u8,
+    /// The node's challenge, where it said one.
+    pub challenge: Option<u32>,
+}
+
+// The challenge that came last on this connection, or 0.
+fn last_challenge(conn: u8, learned: &[Learned]) -> u32
+    ensures { result ≡ last_challenge conn 0 learned.now }
+{
+    let mut challenge = 0;
+    for one in learned {
+        if one.conn == conn {
+            challenge = one.challenge.unwrap_or(challenge);
+        }
+    }
+    challenge
+}
+
+// The challenge that came first, or 0.
+fn first_challenge(learned: &[Learned]) -> u32
+    ensures { result ≡ first_challenge learned.now }
+{
+    for one in learned {
+        if let Some(challenge) = one.challenge {
+            return challenge;
+        }
+    }
+    0
+}
+
+/// Appends the frame of a body without so many of its last bytes, and with these behind it.
+pub fn put_frame(
+    bytes: &mut Vec<u8>,
+    body: &[u8],
+    less: usize,
+    extra: &[u8],
+) -> Result<(), AllocError>
+    ensures { OnOk result (bytes.new.items ≡ bytes.old.items ++ frame_said (edited body.now less extra.now)) }
+{
+    let kept = &body[..body.len().saturating_sub(less)];
+    let len = ((kept.len() + extra.len()) % 65536) as u16;
+    bytes.extend_from_slice(&len.to_be_bytes())?;
+    bytes.extend_from_slice(kept)?;
+    bytes.extend_from_slice(extra)
+}
+
+fn put_reply_said(
+    alloc: Global,
+    bytes: &mut Vec<u8>,
+    reply: &ReplyTerms,
+    digest: [u8; 16],
+) -> Result<(), AllocError>
+    ensures { let body = canonical (message.Reply reply.now.challenge digest) in
+        OnOk result (bytes.new.items ≡ bytes.old.items ++ frame_said (edited body reply.now.less reply.now.extra)) }
+{
+    let mut body = Vec::new(alloc);
+    put_reply(&mut body, reply.challenge, &digest)?;
+    put_frame(bytes, &body, reply.less, reply.extra.as_slice())
+}
+
+// Appends one message.
+fn put_part(
+    alloc: Global,
+    bytes: &mut Vec<u8>,
+    part: &SaidPart,
+    conn: u8,
+    learned: &[Learned],
+    cookie: &Cookie,
+) -> Result<(), AllocError>
+    ensures { OnOk result (bytes.new.items ≡ bytes.old.items ++ part_said conn learned.now cookie.now part.now) }
+{
+    match part {
+        SaidPart::Bytes(said) => bytes.extend_from_slice(said.as_slice()),
+        SaidPart::Reply(reply) => {
+            let challenge = last_challenge(conn, learned);
+            let digest = digest_to_say(reply.digest, cookie, challenge, first_challenge(learned));
+            put_reply_said(alloc, bytes, reply, digest)
+        }
+    }
+}
+
+// So many of the bytes, where there are more than that.
+fn cut_at(cut: Option<u32>, mut bytes: Vec<u8>) -> Option<Vec<u8>>
+    ensures { option_map (λ b. b.items) result ≡ cut_at cut bytes.items }
+{
+    let Some(most) = cut else {
+        return Some(bytes);
+    };
+    if bytes.len() <= most as usize {
+        return None;
+    }
+    bytes.truncate(most as usize);
+    Some(bytes)
+}
+
+/// The bytes of a step `say` on this connection, by the cookie of the node under test and what was learned in this talk.
+///
+/// `None`: the step cuts them behind so many bytes, and there are no more than that; the talk cannot be played.
+pub fn bytes_to_say(
+    alloc: Global,
+    saying: &Saying,
+    conn: u8,
+    learned: &[Learned],
+    cookie: &Cookie,
+) -> Result<Option<Vec<u8>>, AllocError>
+    ensures { IfOk result (λ said. option_map (λ bytes. bytes.items) said ≡ bytes_said saying.now conn learned.now cookie.now) }
+{
+    let mut bytes = Vec::new(alloc);
+    for part in saying.parts.as_slice() {
+        put_part(alloc, &mut bytes, part, conn, learned, cookie)?;
+    }
+    Ok(cut_at(saying.cut, bytes))
+}

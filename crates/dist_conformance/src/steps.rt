@@ -1,0 +1,104 @@
+//! The steps of a talk.
+
+use crate::digests::ReplyDigest;
+use crate::lists::SuiteList;
+use crate::patterns::Pattern;
+use dist_names::ByteString;
+
+/// What a reply says, but for what the node says before it.
+#[derive(Drop)]
+pub struct ReplyTerms {
+    /// Our challenge.
+    pub challenge: u32,
+    /// Which digest it has.
+    pub digest: ReplyDigest,
+    /// How many of its last bytes are left out.
+    pub less: usize,
+    /// What stands behind it in its frame.
+    pub extra: ByteString,
+}
+
+/// One message of a step `say`. In rows it is one of the words in the first column, and fields in this order, each of which may be left out.
+///
+/// | Word | Fields | Says |
+/// |---|---|---|
+/// | `name` | `flags=` `creation=` `name=` or `namehex=` `less=` `extra=` | a name of version 6 |
+/// | `oldname` | the same without a creation | a name of version 5 |
+/// | `complement` | `flags=` `creation=` `less=` `extra=` | what an old name left out |
+/// | `reply` | `challenge=` `digest=` `less=` `extra=` | a reply to the challenge that came last on the connection |
+/// | `tick` | | a tick |
+/// | `alive2` | `port=` `type=` `protocol=` `high=` `low=` `name=` or `namehex=` `extra=` | a registration |
+/// | `lookup` | `name=` or `namehex=` | a lookup |
+/// | `names` | | a question for all names |
+/// | `frame` | BYTES | these bytes as the body of a frame |
+/// | `raw` | BYTES | these bytes |
+///
+/// Usual are the talk's own name, the flags 403070f94 of releases from OTP 26 on, creation 77, challenge 123456789, the right digest,
+/// port 9009, type 77, protocol 0, versions 6 and 5. Flags are `0x` and digits, or `FLAG` and `-FLAG`: the usual ones with or without this
+/// one. BYTES are hexadecimal digits; `HEX*N` has the last byte N times. `less=` leaves out the last bytes of a body, and `extra=`
+/// puts bytes behind it, so that a row can ask for a fault; the frame's length counts what is there.
+#[derive(Drop)]
+pub enum SaidPart {
+    /// These bytes, whatever the node says.
+    Bytes(ByteString),
+    /// A reply.
+    Reply(ReplyTerms),
+}
+
+/// A step `say MESSAGE + MESSAGE.., cut=N pieces=N pause=MS`: what is written on a connection, and how.
+#[derive(Drop)]
+pub struct Saying {
+    /// The messages, one behind the other.
+    pub parts: SuiteList<SaidPart>,
+    /// Only so many bytes of them are written.
+    pub cut: Option<u32>,
+    /// How many bytes a single write has; 0: all in one.
+    pub pieces: u32,
+    /// How many milliseconds lie between two writes.
+    pub pause: u32,
+}
+
+/// What has to come: `ALTERNATIVE | ALTERNATIVE.. / LOOSE | LOOSE..`, each of them `PATTERN, PATTERN..`, one behind the other.
+#[derive(Drop)]
+pub struct Demand {
+    /// One of these.
+    pub wanted: SuiteList<SuiteList<Pattern>>,
+    /// Or one of these, which are harmless and not to the letter.
+    pub loose: SuiteList<SuiteList<Pattern>>,
+}
+
+/// What is done in a step.
+#[derive(Drop)]
+pub enum Action {
+    /// `dial`: a connection to the node.
+    Dial,
+    /// `ask`: a connection to the port mapper.
+    Ask,
+    /// `half`: our writing ends.
+    Half,
+    /// `close`: the connection is closed.
+    Close,
+    /// `reset`: the connection is reset.
+    Reset,
+    /// `wait MS`: nothing is done for so many milliseconds.
+    Wait(u32),
+    /// `say`.
+    Say(Saying),
+    /// `hear`: what is on the way to what the row demands. Where it does not come, the talk is blocked.
+    Hear(Demand),
+    /// `want`: what the row demands.
+    Want(Demand),
+    /// `tell MS`: whatever comes within so many milliseconds is reported.
+    Tell(u32),
+}
+
+/// A step of a talk: in rows `CONNECTION: ACTION`, and without a connection it is `a`.
+#[derive(Drop)]
+pub struct TalkStep {
+    /// The connection: 0 to 4 are `a` to `e`.
+    pub conn: u8,
+    /// The step as it stands in the row, for this talk.
+    pub text: ByteString,
+    /// What is done.
+    pub action: Action,
+}

@@ -1,0 +1,212 @@
+//! The program: plays a conformance suite against a live Erlang node, a port mapper, or both, and reports where they deviate from the
+//! distribution protocol.
+//!
+//! Other crates read the rows, make what is said, and judge what comes. This one finds the node, connects, writes and listens, plays
+//! several talks at once, and prints.
+#![tactic(auto)]
+
+mod command;
+mod cookie;
+mod explaining;
+mod fault;
+mod objects;
+mod output;
+mod playing;
+mod queue;
+mod reaching;
+mod report;
+mod results;
+mod running;
+mod suite;
+mod talk_link;
+mod transcript;
+mod waiting;
+
+use command::{CheckOrder, PrintedInstead, order_of};
+use cookie::cookie_of;
+use dist_conformance::{SuiteNames, status};
+use dist_names::escape;
+use dist_program::{Resolving, mapper_port, report, words_of};
+use dist_secret::Cookie;
+use explaining::{explanation_of, list_of};
+use fault::Fault;
+use objects::objects_of;
+use output::print;
+use playing::Setting;
+use queue::queue_of;
+use reaching::{find_mapper, find_node};
+use report::report_of;
+use results::{results_of, rows_of};
+use running::{PlayedTalk, run_talks};
+use std::fmt::Write;
+use std::process::ExitCode;
+use suite::{SuiteFile, read_suite};
+
+/// The help.
+const HELP: &str =
+    "usage: distcheck NODE [--cookie FILE] [--cookie-unsafe] [--epmd-port N] [--port N] [--mapper HOST:PORT]
+                 [--quick] [--harsh] [--strict] [--only ID,..] [--tag WORD] [--rows FOLDER] [--json]
+       distcheck --mapper HOST:PORT [the same]
+       distcheck --list | --explain ID [--rows FOLDER]
+       distcheck --help | --version
+
+Plays a conformance suite against a live Erlang node, a port mapper, or both: dials it some hundred times, says what the distribution
+protocol allows and what it forbids, and reports each row whose answer is not what the protocol wants.
+
+  NODE               the node to check, NAME@HOST
+  --cookie FILE      the file of the cookie ($HOME/.erlang.cookie)
+  --cookie-file FILE the same
+  --cookie-unsafe    take a cookie's file that others than its owner can read
+  --epmd-port N      the port of the node's port mapper (ERL_EPMD_PORT, else 4369)
+  --port N           the node's port: the port mapper is not asked
+  --mapper HOST:PORT the port mapper to check; names are registered there, and garbage is sent
+  --quick            leave out slow rows
+  --harsh            play rows too that can end a fragile node
+  --strict           every level counts, and so does what is loose
+  --only ID,..       play these rows alone: their ids, those of talks, or numbers of sections
+  --tag WORD         a word in the names that this run gives itself, for two runs at once
+  --rows FOLDER      the folder of the rows (share/distcheck beside the program's)
+  --json             a JSON object for each talk, and one for all, in place of the lines
+  --list             print the rows
+  --explain ID       print all that is known of a row
+  --help, --version
+
+Status: 0 no must deviates, 1 one does, 2 a bad command line, cookie or row, 3 the node or port mapper is not reached, or is gone, 4 a fault
+here.
+";
+
+/// The version of the program, and of what it speaks.
+const VERSION: &str = "distcheck 0.2.0, distribution handshake of version 6\n";
+
+// What stands for the node's name in rows where no node is checked, and for its host.
+const NOBODY: &[u8] = b"?@127.0.0.1";
+
+const LOOPBACK: &str = "127.0.0.1";
+
+fn main(rt: HostRuntime) -> ExitCode {
+    ExitCode::from(match perform(&rt, &rt) {
+        Ok(status) => status,
+        Err(fault) => report(&mut rt.stderr(), "distcheck", &fault, fault.status()),
+    })
+}
+
+// Does what the command line asks for. `resolver` is the same runtime, for calls that may wait for a thread.
+fn perform<R: Resolving + Sync>(rt: &HostRuntime, resolver: &R) -> Result<u8, Fault> {
+    let words = words_of(rt)?;
+    let mapper_port = mapper_port(rt)?;
+    match order_of(rt.alloc(), &words, mapper_port) {
+        Ok(order) => follow(rt, resolver, &order),
+        Err(PrintedInstead::Text(text)) => {
+            print(rt, text)?;
+            Ok(0)
+        }
+        Err(PrintedInstead::Fault(fault)) => Err(fault),
+    }
+}
+
+// Reads the rows, and prints some of them, or checks a node, a port mapper, or both.
+fn follow<R: Resolving + Sync>(
+    rt: &HostRuntime,
+    resolver: &R,
+    order: &CheckOrder<'_>,
+) -> Result<u8, Fault> {
+    let alloc = rt.alloc();
+    let port = format!(in alloc; "{}", order.mapper.map_or(0, |(_, port)| port))?;
+    let suite = read_suite(rt, order, &names_of(order, port.as_bytes()))?;
+    if let Some(id) = order.explain {
+        print(rt, &explanation_of(alloc, &suite, id)?)?;
+        Ok(0)
+    } else if order.list {
+        print(rt, &list_of(alloc, &suite)?)?;
+        Ok(0)
+    } else {
+        check(rt, resolver, order, &suite)
+    }
+}
+
+// What the names in the rows stand for. `port` is that of the port mapper.
+fn names_of<'a>(order: &'a CheckOrder<'_>, port: &'a [u8]) -> SuiteNames<'a> {
+    let (node, host) = match &order.node {
+        Some((node, host)) => (node.bytes(), *host),
+        None => (NOBODY, LOOPBACK),
+    };
+    SuiteNames {
+        node,
+        host: host.as_bytes(),
+        tag: order.tag.as_bytes(),
+        mapper: port,
+    }
+}
+
+// The cookie; where no node is checked, none is used.
+fn cookie_for(rt: &HostRuntime, order: &CheckOrder<'_>) -> Result<Cookie, Fault> {
+    if order.node.is_some() {
+        return cookie_of(rt, order);
+    }
+    match Cookie::from_bytes(rt.alloc(), b"none") {
+        Ok(cookie) => Ok(cookie),
+        Err(_) => Err(Fault::NoMemory),
+    }
+}
+
+// Checks a node, a port mapper, or both.
+fn check<R: Resolving + Sync>(
+    rt: &HostRuntime,
+    resolver: &R,
+    order: &CheckOrder<'_>,
+    suite: &[SuiteFile],
+) -> Result<u8, Fault> {
+    let cookie = cookie_for(rt, order)?;
+    let setting = Setting {
+        rt,
+        node: find_node(rt, resolver, order)?,
+        mapper: find_mapper(rt, resolver, order)?,
+        cookie: &cookie,
+    };
+    let queue = queue_of(suite, order, &setting)?;
+    if queue.is_empty() {
+        return Err(Fault::NoRow);
+    }
+    put_heading(&setting, order, queue.len())?;
+    let played = run_talks(resolver, &setting, &queue)?;
+    put_report(rt, order, &played)
+}
+
+// Prints how many talks are played with whom, unless objects are printed.
+fn put_heading(setting: &Setting<'_>, order: &CheckOrder<'_>, talks: usize) -> Result<(), Fault> {
+    if order.json {
+        return Ok(());
+    }
+    let mut text = format!(in setting.rt.alloc(); "distcheck 0.2.0: {talks} talks")?;
+    if let Some(place) = &setting.node {
+        write!(text, "; node at {place}")?;
+    }
+    if let Some(place) = &setting.mapper {
+        write!(text, "; port mapper at {place}")?;
+    }
+    text.push_str("\n")?;
+    print(setting.rt, &text)
+}
+
+// Prints what became of all talks, and returns the exit status. Where nobody listens any more, that is a fault, with the first talk that met
+// it.
+fn put_report(
+    rt: &HostRuntime,
+    order: &CheckOrder<'_>,
+    played: &[PlayedTalk<'_>],
+) -> Result<u8, Fault> {
+    let alloc = rt.alloc();
+    let rows = rows_of(alloc, played)?;
+    let results = results_of(alloc, &rows)?;
+    let exit = status(&results, order.strict);
+    let text = if order.json {
+        objects_of(alloc, played, &rows, exit)?
+    } else {
+        report_of(alloc, &rows, &results, order.strict)?
+    };
+    print(rt, &text)?;
+    match played.iter().find(|talk| talk.record.is_refused) {
+        Some(talk) => Err(Fault::Gone(escape(alloc, talk.queued.talk.id.as_slice())?)),
+        None => Ok(exit),
+    }
+}

@@ -1,0 +1,317 @@
+//! Plays one talk: connects, says, and has what comes judged.
+
+ghost use Rattle.std.specs.Prelude.{◌≡◌};
+ghost use Rattle.distcheck.specs.Deciding.{verdict_at};
+
+use crate::fault::Fault;
+use crate::talk_link::TalkLink;
+use crate::transcript::{Speaker, TranscriptLine, digits_of};
+use crate::waiting::{await_judgement, listen_for, milliseconds_since, now, write_pieces};
+use dist_conformance::{
+    Action, Demand, Judgement, Learned, Level, Passage, RowTalk, Saying, SuiteRow, TalkStep,
+    TalkVerdict, bytes_to_say,
+};
+use dist_secret::Cookie;
+use std::alloc::Global;
+use std::io::{self, ErrorKind};
+use std::net::SocketAddr;
+use std::thread::sleep;
+use std::time::{Duration, Instant};
+
+/// How often a connect is tried that fails, and how many milliseconds after another: a node that is busy, or was just started anew, gets a second.
+const CONNECTS: u32 = 5;
+
+const PAUSE: u64 = 200;
+
+/// Where talks are played.
+#[derive(Clone, Copy)]
+pub struct Setting<'a> {
+    /// The runtime, for sockets and the clock.
+    pub rt: &'a HostRuntime,
+    /// The node's address, if a node is checked.
+    pub node: Option<SocketAddr>,
+    /// The port mapper's address, if one is checked.
+    pub mapper: Option<SocketAddr>,
+    /// The cookie.
+    pub cookie: &'a Cookie,
+}
+
+/// What became of a talk.
+#[derive(Drop)]
+pub struct TalkRecord<'a> {
+    /// The verdict.
+    pub verdict: TalkVerdict,
+    /// The step that decided: the last that was made, as the row has it.
+    pub wanted: &'a [u8],
+    /// In words, what came and is not what was wanted, or why the talk was not tried.
+    pub why: String,
+    /// How many milliseconds it took.
+    pub took: u32,
+    /// Whether nobody listens where it connects.
+    pub is_refused: bool,
+    /// What was said and what came.
+    pub transcript: Vec<TranscriptLine>,
+}
+
+// The verdict that ends a talk before its last step, if one does.
+type Halt = Option<TalkVerdict>;
+
+// A talk that is being played.
+#[derive(Drop)]
+struct TalkPlay<'a> {
+    setting: Setting<'a>,
+    alloc: Global,
+    start: Instant,
+    // How many milliseconds a demand waits.
+    limit: u32,
+    links: Vec<TalkLink>,
+    learned: Vec<Learned>,
+    record: TalkRecord<'a>,
+}
+
+impl<'a> TalkPlay<'a> {
+    // A talk of which nothing is played yet.
+    fn begin(setting: &Setting<'a>, limit: u32) -> Result<TalkPlay<'a>, Fault> {
+        let alloc = setting.rt.alloc();
+        let record = TalkRecord {
+            verdict: TalkVerdict::Kept,
+            wanted: b"",
+            why: String::new(alloc),
+            took: 0,
+            is_refused: false,
+            transcript: Vec::new(alloc),
+        };
+        Ok(TalkPlay {
+            setting: *setting,
+            alloc,
+            start: now(setting.rt)?,
+            limit,
+            links: Vec::new(alloc),
+            learned: Vec::new(alloc),
+            record,
+        })
+    }
+
+    // Adds a line to the transcript.
+    fn note(
+        &mut self,
+        conn: u8,
+        who: Speaker,
+        bytes: &[u8],
+        act: &'static str,
+    ) -> Result<(), Fault> {
+        let line = TranscriptLine {
+            at: milliseconds_since(self.setting.rt, self.start)?,
+            conn,
+            who,
+            hex: digits_of(self.alloc, bytes)?,
+            act,
+        };
+        Ok(self.record.transcript.push(line)?)
+    }
+
+    // Ends the talk by this verdict, for this reason.
+    fn halt(&mut self, verdict: TalkVerdict, why: &str) -> Result<Halt, Fault> {
+        self.record.why.push_str(why)?;
+        Ok(Some(verdict))
+    }
+
+    // Takes a connection out of the list: there is at most one of each letter.
+    fn take_link(&mut self, conn: u8) -> Option<TalkLink> {
+        let at = self.links.iter().position(|link| link.conn == conn)?;
+        Some(self.links.swap_remove(at))
+    }
+
+    // Takes an error of a connect: it is a fault of this machine, or noted.
+    fn note_refusal(&mut self, error: &io::Error) -> Result<(), Fault> {
+        if matches!(error.raw_os_error(), Some(23 | 24)) {
+            return Err(Fault::NoDescriptors);
+        }
+        self.record.is_refused = error.kind() == ErrorKind::ConnectionRefused;
+        Ok(())
+    }
+
+    // Connects.
+    fn connect(&mut self, conn: u8, address: Option<SocketAddr>) -> Result<Halt, Fault> {
+        let Some(address) = address else {
+            return self.halt(TalkVerdict::Skipped, "nobody to connect to");
+        };
+        for _ in 0..CONNECTS {
+            match TalkLink::open(self.setting.rt, self.alloc, conn, &address) {
+                Ok(link) => {
+                    self.record.is_refused = false;
+                    self.links.push(link)?;
+                    self.note(conn, Speaker::Us, b"", "connects")?;
+                    return Ok(None);
+                }
+                Err(error) => self.note_refusal(&error)?,
+            }
+            sleep(self.setting.rt, Duration::from_millis(PAUSE));
+        }
+        self.halt(TalkVerdict::Blocked, "no connection was taken")
+    }
+
+    // Says something.
+    fn say(&mut self, link: &mut TalkLink, saying: &Saying) -> Result<Halt, Fault> {
+        let conn = link.conn;
+        let said = bytes_to_say(self.alloc, saying, conn, &self.learned, self.setting.cookie)?;
+        let Some(bytes) = said else {
+            return self.halt(
+                TalkVerdict::Skipped,
+                "the message has no more bytes than that",
+            );
+        };
+        self.note(conn, Speaker::Us, &bytes, "")?;
+        if !write_pieces(self.setting.rt, link, &bytes, saying) {
+            self.note(conn, Speaker::Us, b"", "cannot write")?;
+        }
+        Ok(None)
+    }
+
+    // Lets what was awaited through, and keeps what was learned from it.
+    fn pass(&mut self, link: &mut TalkLink, passage: &Passage) -> Result<Halt, Fault> {
+        let count = passage.count.min(link.came.len());
+        self.note(link.conn, Speaker::Peer, &link.came[..count], link.ending())?;
+        let _ = link.came.drain(..count);
+        self.learned.push(Learned {
+            conn: link.conn,
+            challenge: passage.challenge,
+        })?;
+        Ok(None)
+    }
+
+    // Awaits what is demanded. Where it does not come the talk ends by this verdict.
+    fn hear(
+        &mut self,
+        link: &mut TalkLink,
+        demand: &Demand,
+        verdict: TalkVerdict,
+    ) -> Result<Halt, Fault> {
+        match await_judgement(&self.setting, link, demand, self.limit, &self.learned)? {
+            Judgement::Kept(passage) => self.pass(link, &passage),
+            Judgement::Loose(passage) => {
+                self.record.verdict = TalkVerdict::Loose;
+                self.pass(link, &passage)
+            }
+            Judgement::Deviates(deviation) => {
+                self.note(link.conn, Speaker::Peer, &link.came, link.ending())?;
+                let came = link.description(self.alloc)?;
+                let why = format!(in self.alloc; "{}: {came}", deviation.name())?;
+                self.halt(verdict, &why)
+            }
+            Judgement::More => self.halt(verdict, "no judgement"),
+        }
+    }
+
+    // Takes whatever comes within this many milliseconds.
+    fn tell(&mut self, link: &mut TalkLink, time: u32) -> Result<Halt, Fault> {
+        listen_for(self.setting.rt, link, time)?;
+        self.note(link.conn, Speaker::Peer, &link.came, link.ending())?;
+        if !self.record.why.is_empty() {
+            self.record.why.push_str("; ")?;
+        }
+        self.record.why.push_str(&link.description(self.alloc)?)?;
+        link.came.clear();
+        self.record.verdict = TalkVerdict::Noted;
+        Ok(None)
+    }
+
+    // Ends the writing on a connection, or the connection.
+    fn leave(&mut self, link: &TalkLink, action: &Action) -> Result<Halt, Fault> {
+        let act = match action {
+            Action::Half => {
+                link.half();
+                "ends its writing"
+            }
+            Action::Reset => {
+                link.reset();
+                "resets"
+            }
+            _ => "closes",
+        };
+        self.note(link.conn, Speaker::Us, b"", act)?;
+        Ok(None)
+    }
+
+    // Makes a step on a connection that is open.
+    fn act_on(&mut self, link: &mut TalkLink, action: &Action) -> Result<Halt, Fault> {
+        match action {
+            Action::Say(saying) => self.say(link, saying),
+            Action::Hear(demand) => self.hear(link, demand, TalkVerdict::Blocked),
+            Action::Want(demand) => self.hear(link, demand, TalkVerdict::Deviates),
+            Action::Tell(time) => self.tell(link, *time),
+            _ => self.leave(link, action),
+        }
+    }
+
+    // Makes a step on the connection of this letter, which stays in the list unless it ends.
+    fn use_link(&mut self, step: &'a TalkStep) -> Result<Halt, Fault> {
+        let Some(mut link) = self.take_link(step.conn) else {
+            return self.halt(TalkVerdict::Blocked, "the connection is not open");
+        };
+        let halt = self.act_on(&mut link, &step.action)?;
+        if !matches!(step.action, Action::Close | Action::Reset) {
+            self.links.push(link)?;
+        }
+        Ok(halt)
+    }
+
+    // Makes a step.
+    fn take_step(&mut self, step: &'a TalkStep) -> Result<Halt, Fault> {
+        self.record.wanted = step.text.as_slice();
+        match &step.action {
+            Action::Dial => self.connect(step.conn, self.setting.node),
+            Action::Ask => self.connect(step.conn, self.setting.mapper),
+            Action::Wait(time) => {
+                sleep(self.setting.rt, Duration::from_millis(u64::from(*time)));
+                Ok(None)
+            }
+            _ => self.use_link(step),
+        }
+    }
+
+    // Makes all steps, and returns the verdict.
+    fn take_steps(&mut self, steps: &'a [TalkStep]) -> Result<TalkVerdict, Fault> {
+        for step in steps {
+            if let Some(verdict) = self.take_step(step)? {
+                return Ok(verdict);
+            }
+        }
+        Ok(self.record.verdict)
+    }
+
+    // What became of the talk, by this verdict.
+    fn into_record(self, verdict: TalkVerdict) -> Result<TalkRecord<'a>, Fault> {
+        let TalkPlay {
+            setting,
+            start,
+            mut record,
+            ..
+        } = self;
+        record.verdict = verdict;
+        record.took = milliseconds_since(setting.rt, start)?;
+        Ok(record)
+    }
+}
+
+// The verdict that counts: at level may nothing deviates, and at any other nothing is only noted.
+fn verdict_at(level: Level, verdict: TalkVerdict) -> TalkVerdict
+    ensures { result ≡ verdict_at level verdict }
+{
+    match (level, verdict) {
+        (Level::May, TalkVerdict::Deviates) => TalkVerdict::Noted,
+        (Level::Must | Level::Should | Level::Otp, TalkVerdict::Noted) => TalkVerdict::Kept,
+        (_, verdict) => verdict,
+    }
+}
+
+/// Plays a talk of a row, and returns what became of it.
+pub fn play<'a>(
+    setting: &Setting<'a>,
+    row: &SuiteRow,
+    talk: &'a RowTalk,
+) -> Result<TalkRecord<'a>, Fault> {
+    let mut play = TalkPlay::begin(setting, row.marks.limit)?;
+    let verdict = play.take_steps(talk.steps.as_slice())?;
+    play.into_record(verdict_at(row.level, verdict))
+}

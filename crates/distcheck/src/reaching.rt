@@ -1,0 +1,109 @@
+//! Finds the node, and the port mapper that is checked.
+
+use crate::command::CheckOrder;
+use crate::fault::Fault;
+use dist_epmd_calls::{LookupError, lookup};
+use dist_names::NodeName;
+use dist_program::{CONNECT_SECONDS, Resolving, at_port, deadline_in, lookup_host};
+use dist_stream::connect_by;
+use std::net::SocketAddr;
+use std::time::{Duration, Instant};
+
+/// The most reads and writes of a lookup, if its time is not over before.
+const TURNS: usize = 4096;
+
+// When a connect or a lookup that begins now has to be done.
+fn deadline(rt: &HostRuntime) -> Result<Instant, Fault> {
+    deadline_in(rt, CONNECT_SECONDS).map_err(|_| Fault::NoTime)
+}
+
+// The addresses of a host.
+fn addresses_of<R: Resolving>(
+    rt: &HostRuntime,
+    resolver: &R,
+    host: &str,
+) -> Result<Vec<SocketAddr>, Fault> {
+    let limit = Duration::from_secs(u64::from(CONNECT_SECONDS));
+    Ok(lookup_host(resolver, *rt, host, limit)?)
+}
+
+// Whether somebody takes connections there.
+fn is_open(rt: &HostRuntime, place: &SocketAddr) -> Result<bool, Fault> {
+    let until = deadline(rt)?;
+    Ok(connect_by(rt, place, until).is_ok())
+}
+
+// The port of the node: the given one, or else that which the port mapper at this address has for it.
+fn port_at(
+    rt: &HostRuntime,
+    order: &CheckOrder<'_>,
+    node: &NodeName,
+    address: &SocketAddr,
+) -> Result<u16, Fault> {
+    if let Some(port) = order.port {
+        return Ok(port);
+    }
+    let until = deadline(rt)?;
+    let Ok(mut stream) = connect_by(rt, &at_port(address, order.mapper_port), until) else {
+        return Err(Fault::NoMapper);
+    };
+    match lookup(rt.alloc(), &mut stream, node.short(), TURNS) {
+        Ok(info) => Ok(info.port),
+        Err(LookupError::NoMemory) => Err(Fault::NoMemory),
+        Err(error) => Err(Fault::NotFound(error)),
+    }
+}
+
+// The place of the node at this address of its host.
+fn place_at(
+    rt: &HostRuntime,
+    order: &CheckOrder<'_>,
+    node: &NodeName,
+    address: &SocketAddr,
+) -> Result<SocketAddr, Fault> {
+    let place = at_port(address, port_at(rt, order, node, address)?);
+    if is_open(rt, &place)? {
+        Ok(place)
+    } else {
+        Err(Fault::NoNode)
+    }
+}
+
+/// Where the node listens, if one is checked: at the first address of its host at which it is found. The fault is that of the last address.
+pub fn find_node<R: Resolving>(
+    rt: &HostRuntime,
+    resolver: &R,
+    order: &CheckOrder<'_>,
+) -> Result<Option<SocketAddr>, Fault> {
+    let Some((node, host)) = &order.node else {
+        return Ok(None);
+    };
+    let mut last = Fault::NoNode;
+    let addresses = addresses_of(rt, resolver, host)?;
+    for address in &addresses {
+        match place_at(rt, order, node, address) {
+            Ok(place) => return Ok(Some(place)),
+            Err(fault) => last = fault,
+        }
+    }
+    Err(last)
+}
+
+/// Where the port mapper listens, if one is checked: at the first address of its host at which somebody takes connections.
+pub fn find_mapper<R: Resolving>(
+    rt: &HostRuntime,
+    resolver: &R,
+    order: &CheckOrder<'_>,
+) -> Result<Option<SocketAddr>, Fault> {
+    let Some((host, port)) = order.mapper else {
+        return Ok(None);
+    };
+    let addresses = addresses_of(rt, resolver, host)?;
+    for address in &addresses {
+        let place = at_port(address, port);
+        if is_open(rt, &place)? {
+            return Ok(Some(place));
+        }
+    }
+    Err(Fault::NoMapper)
+}

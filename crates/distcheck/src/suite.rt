@@ -1,0 +1,115 @@
+//! The rows: they are read from the files of a folder, in the order of their names.
+
+use crate::command::CheckOrder;
+use crate::fault::Fault;
+use dist_conformance::{RowError, Section, SuiteNames, read_section};
+use dist_names::escape;
+use std::alloc::{AllocError, Global};
+use std::path::AsPath;
+use std::{env, fs, io};
+
+/// A file of rows.
+#[derive(Drop)]
+pub struct SuiteFile {
+    /// Its text.
+    pub text: String,
+    /// What it has.
+    pub section: Section,
+}
+
+// The folder of the rows beside that of the program: PREFIX/bin/distcheck has them in PREFIX/share/distcheck.
+const BESIDE: &str = "share/distcheck";
+
+// How the name of a file of rows ends.
+const ENDING: &str = ".rows";
+
+// The refusal of a folder or a file that could not be read.
+fn unread(alloc: Global, path: &str) -> Fault {
+    match escape(alloc, path.as_bytes()) {
+        Ok(name) => Fault::RowsUnread(name),
+        Err(AllocError) => Fault::NoMemory,
+    }
+}
+
+// The refusal of a bad line of this file.
+fn bad_line(alloc: Global, name: &str, error: RowError) -> Fault {
+    match format!(in alloc; "{name}: {error}") {
+        Ok(sentence) if !matches!(error, RowError::NoMemory) => Fault::BadWord(sentence),
+        _ => Fault::NoMemory,
+    }
+}
+
+// The folder that has the folder of a file.
+fn prefix_of(file: &str) -> Option<&str> {
+    let (folder, _) = file.rsplit_once('/')?;
+    let (prefix, _) = folder.rsplit_once('/')?;
+    Some(prefix)
+}
+
+// The folder of the rows: that of the command line, or that beside the program's.
+fn folder_of(rt: &HostRuntime, order: &CheckOrder<'_>) -> Result<String, Fault> {
+    let alloc = rt.alloc();
+    if let Some(folder) = order.rows {
+        return Ok(folder.to_owned(alloc)?);
+    }
+    let Ok(program) = env::current_exe(rt) else {
+        return Err(unread(alloc, BESIDE));
+    };
+    match prefix_of(program.path_text()) {
+        Some(prefix) => Ok(format!(in alloc; "{prefix}/{BESIDE}")?),
+        None => Err(unread(alloc, BESIDE)),
+    }
+}
+
+// The names of the files of rows in this folder, in their order.
+fn names_in(rt: &HostRuntime, folder: &str) -> io::Result<Vec<String>> {
+    let alloc = rt.alloc();
+    let mut names = Vec::new(alloc);
+    for entry in fs::read_dir(rt, folder)? {
+        let entry = entry?;
+        if entry.file_name().ends_with(ENDING) {
+            names.push(entry.file_name().to_owned(alloc)?)?;
+        }
+    }
+    names.sort()?;
+    Ok(names)
+}
+
+// Reads a file of rows.
+fn read_file(
+    rt: &HostRuntime,
+    folder: &str,
+    name: &str,
+    names: &SuiteNames<'_>,
+) -> Result<SuiteFile, Fault> {
+    let alloc = rt.alloc();
+    let path = format!(in alloc; "{folder}/{name}")?;
+    let Ok(text) = fs::read_to_string(rt, path.as_str()) else {
+        return Err(unread(alloc, &path));
+    };
+    match read_section(alloc, text.as_bytes(), names) {
+        Ok(section) => Ok(SuiteFile { text, section }),
+        Err(error) => Err(bad_line(alloc, &escape(alloc, path.as_bytes())?, error)),
+    }
+}
+
+/// All files of rows of the folder, in the order of their names.
+pub fn read_suite(
+    rt: &HostRuntime,
+    order: &CheckOrder<'_>,
+    names: &SuiteNames<'_>,
+) -> Result<Vec<SuiteFile>, Fault> {
+    let alloc = rt.alloc();
+    let folder = folder_of(rt, order)?;
+    let Ok(files) = names_in(rt, &folder) else {
+        return Err(unread(alloc, &folder));
+    };
+    let mut suite = Vec::new(alloc);
+    for name in &files {
+        suite.push(read_file(rt, &folder, name, names)?)?;
+    }
+    if suite.is_empty() {
+        return Err(unread(alloc, &folder));
+    }
+    Ok(suite)
+}
