@@ -12,15 +12,20 @@
  * An end that came up stays up until gone(): a frame that would close it is held, and lost() leaves it as it is.
  *
  * Where a recording was asked for, each call that changes a node is written with its answer before the lock is released: so nothing that
- * it said is sent before it stands there, and a process that is killed leaves all that others can know of it. */
+ * it said is sent before it stands there, and a process that is killed leaves all that others can know of it.
+ *
+ * Where the module is loaded anew, its library takes the nodes over from the one before, if both are of one version and layout
+ * (upgrade). A call that runs in the library before goes on there: the node's lock is in its resource, so no two calls meet. */
 #define _GNU_SOURCE
 #include <distnode.h>
 #include <erl_nif.h>
 #include <fcntl.h>
+#include <stdatomic.h>
 #include <string.h>
 #include <sys/random.h>
 #include <sys/uio.h>
 #include <time.h>
+#include <unistd.h>
 
 /* owner: the process that made the node. changes: how often a cookie or the allow list was changed. */
 typedef struct {
@@ -29,6 +34,20 @@ typedef struct {
     ErlNifPid owner;
     ErlNifUInt64 changes;
 } kept;
+
+/* Goes up with each change of `kept`, of `shared`, or of what the library has behind a dn_node, that comes without a new version. */
+#ifndef DISTNODE_LAYOUT
+#define DISTNODE_LAYOUT 1
+#endif
+#define VERSION (DN_VERSION_MAJOR * 1000000 + DN_VERSION_MINOR * 1000 + DN_VERSION_PATCH)
+
+/* The private data, which a library hands on to the one that is loaded in its place. Version and layout come first in every version, since
+ * others read them. users: how many libraries have this. recording: the file of the recording, or -1. */
+typedef struct {
+    uint32_t version, layout;
+    atomic_uint users;
+    int recording;
+} shared;
 
 static ErlNifResourceType *kept_type;
 static ERL_NIF_TERM a_ok, a_error, a_none, a_unknown, a_made, a_step, a_arrived, a_ready, a_held, a_other, a_changed;
@@ -148,16 +167,15 @@ static ERL_NIF_TERM own_step_term(ErlNifEnv *env, kept *k, ERL_NIF_TERM node, ui
 
 /* ---- a recording of the calls */
 
-/* The file, where one was asked for. */
-static int recording = -1;
-
-/* Appends {Nanoseconds, Caller, Call, Arguments, Answer} behind its length, by one write. The nanoseconds are those since this machine
- * was started: by them the recordings of several emulators are put in one order. What can't be written is missing there. */
+/* Where a recording was asked for, appends {Nanoseconds, Caller, Call, Arguments, Answer} behind its length, by one write. The nanoseconds
+ * are those since this machine was started: by them the recordings of several emulators are put in one order. What can't be written is
+ * missing there. */
 static void record(ErlNifEnv *env, const char *call, int argc, const ERL_NIF_TERM argv[], ERL_NIF_TERM answer) {
     struct timespec now = {0, 0};
+    int file = ((shared *)enif_priv_data(env))->recording;
     ErlNifPid self;
     ErlNifBinary bytes;
-    if (!enif_self(env, &self)) return;
+    if (file < 0 || !enif_self(env, &self)) return;
     (void)clock_gettime(CLOCK_MONOTONIC, &now);
     ERL_NIF_TERM line = enif_make_tuple5(env, enif_make_uint64(env, (ErlNifUInt64)now.tv_sec * 1000000000 + (ErlNifUInt64)now.tv_nsec),
                                          enif_make_pid(env, &self), enif_make_atom(env, call),
@@ -165,30 +183,31 @@ static void record(ErlNifEnv *env, const char *call, int argc, const ERL_NIF_TER
     if (!enif_term_to_binary(env, line, &bytes)) return;
     uint8_t size[4] = {(uint8_t)(bytes.size >> 24), (uint8_t)(bytes.size >> 16), (uint8_t)(bytes.size >> 8), (uint8_t)bytes.size};
     struct iovec parts[2] = {{size, sizeof size}, {bytes.data, bytes.size}};
-    ssize_t written = writev(recording, parts, 2);
+    ssize_t written = writev(file, parts, 2);
     (void)written;
     enif_release_binary(&bytes);
 }
 
 /* Ends each call that changes a node, which has taken its lock. */
 static ERL_NIF_TERM done(ErlNifEnv *env, kept *k, const char *call, int argc, const ERL_NIF_TERM argv[], ERL_NIF_TERM answer) {
-    if (recording >= 0) record(env, call, argc - 1, argv + 1, answer);
+    record(env, call, argc - 1, argv + 1, answer);
     enif_mutex_unlock(k->lock);
     return answer;
 }
 
 /* recording(File): from now on the calls are recorded there, behind what the file has. It has cookies: its owner alone may read it. */
 static ERL_NIF_TERM nif_recording(ErlNifEnv *env, int argc, const ERL_NIF_TERM argv[]) {
+    shared *s = enif_priv_data(env);
     char file[4096];
     (void)argc;
     if (enif_get_string(env, argv[0], file, sizeof file, ERL_NIF_LATIN1) <= 0) return enif_make_badarg(env);
-    if (recording < 0) recording = open(file, O_WRONLY | O_CREAT | O_APPEND | O_CLOEXEC, 0600);
-    return recording >= 0 ? a_ok : a_error;
+    if (s->recording < 0) s->recording = open(file, O_WRONLY | O_CREAT | O_APPEND | O_CLOEXEC, 0600);
+    return s->recording >= 0 ? a_ok : a_error;
 }
 
 /* connection(Own, Other): the caller has a connection with these addresses */
 static ERL_NIF_TERM nif_connection(ErlNifEnv *env, int argc, const ERL_NIF_TERM argv[]) {
-    if (recording >= 0) record(env, "connection", argc, argv, a_ok);
+    record(env, "connection", argc, argv, a_ok);
     return a_ok;
 }
 
@@ -221,7 +240,7 @@ static ERL_NIF_TERM nif_new(ErlNifEnv *env, int argc, const ERL_NIF_TERM argv[])
     uint32_t code = dn_node_new(&k->node, name.data, name.size, cookie.data, cookie.size, &setup);
     ERL_NIF_TERM node = enif_make_resource(env, k);
     enif_release_resource(k);
-    if (recording >= 0) record(env, "new", argc, argv, code_term(env, code));
+    record(env, "new", argc, argv, code_term(env, code));
     return code ? fault(env, code) : enif_make_tuple2(env, a_ok, node);
 }
 
@@ -564,9 +583,16 @@ static ERL_NIF_TERM nif_challenge(ErlNifEnv *env, int argc, const ERL_NIF_TERM a
     return enif_make_uint(env, drawn);
 }
 
-static int load(ErlNifEnv *env, void **priv, ERL_NIF_TERM info) {
-    (void)priv, (void)info;
-    kept_type = enif_open_resource_type(env, NULL, "distnode", kept_drop, ERL_NIF_RT_CREATE, NULL);
+/* ---- the library is loaded, takes another's place, and is let go */
+
+/* Why a library is refused. erlang:load_nif/2 says the number. */
+enum refusal { NOT_OPENED = 1, OTHER_VERSION = 2, OTHER_LAYOUT = 3 };
+
+/* What a library has by itself: from now on the nodes are dropped by it. A file that is loaded again writes what it has already. */
+static int begin(ErlNifEnv *env, ErlNifResourceFlags how) {
+    ErlNifResourceType *type = enif_open_resource_type(env, NULL, "distnode", kept_drop, how, NULL);
+    if (!type) return NOT_OPENED;
+    kept_type = type;
     a_ok = enif_make_atom(env, "ok");
     a_error = enif_make_atom(env, "error");
     a_none = enif_make_atom(env, "none");
@@ -578,7 +604,41 @@ static int load(ErlNifEnv *env, void **priv, ERL_NIF_TERM info) {
     a_held = enif_make_atom(env, "held");
     a_other = enif_make_atom(env, "other");
     a_changed = enif_make_atom(env, "changed");
-    return kept_type ? 0 : 1;
+    return 0;
+}
+
+static int load(ErlNifEnv *env, void **priv, ERL_NIF_TERM info) {
+    (void)info;
+    if (begin(env, ERL_NIF_RT_CREATE)) return NOT_OPENED;
+    shared *s = enif_alloc(sizeof *s);
+    if (!s) return NOT_OPENED;
+    s->version = VERSION;
+    s->layout = DISTNODE_LAYOUT;
+    atomic_init(&s->users, 1);
+    s->recording = -1;
+    *priv = s;
+    return 0;
+}
+
+/* Another library has the nodes. Where that has no private data it is an older one. Who is refused has changed nothing. */
+static int upgrade(ErlNifEnv *env, void **priv, void **old, ERL_NIF_TERM info) {
+    shared *s = *old;
+    (void)info;
+    if (!s || s->version != VERSION) return OTHER_VERSION;
+    if (s->layout != DISTNODE_LAYOUT) return OTHER_LAYOUT;
+    if (begin(env, ERL_NIF_RT_TAKEOVER)) return NOT_OPENED;
+    atomic_fetch_add(&s->users, 1);
+    *priv = s;
+    return 0;
+}
+
+/* The module was purged, or its last node was dropped after that. */
+static void unload(ErlNifEnv *env, void *priv) {
+    shared *s = priv;
+    (void)env;
+    if (atomic_fetch_sub(&s->users, 1) > 1) return;
+    if (s->recording >= 0) (void)close(s->recording);
+    enif_free(s);
 }
 
 static ErlNifFunc functions[] = {
@@ -593,4 +653,4 @@ static ErlNifFunc functions[] = {
     {"connection", 2, nif_connection, 0},
 };
 
-ERL_NIF_INIT(distnode_nif, functions, load, NULL, NULL, NULL)
+ERL_NIF_INIT(distnode_nif, functions, load, NULL, upgrade, unload)

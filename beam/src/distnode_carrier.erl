@@ -33,7 +33,7 @@ accept_loop(Transport, Driver, Kernel, Listen, Begun) ->
         {ok, Socket} ->
             Kernel ! {accept, self(), {Socket, Begun}, Driver:family(), Transport:protocol()},
             hand_over(Driver, Kernel, Socket),
-            accept_loop(Transport, Driver, Kernel, Listen, begun_anew(Driver, Listen, Begun));
+            ?MODULE:accept_loop(Transport, Driver, Kernel, Listen, begun_anew(Driver, Listen, Begun));
         Error -> exit(Error)
     end.
 

@@ -131,14 +131,14 @@ counts() -> gen_server:call(?MODULE, counts, infinity).
 init([]) ->
     process_flag(priority, high),
     case distnode_nif:load() of
-        ok ->
+        {error, Text} ->
+            error_logger:error_msg("** distnode: the library distnode_nif can't be loaded, so there is no distribution: ~ts **~n", [Text]),
+            {stop, {shutdown, no_library}};
+        _ ->
             ok = distnode_recording:start(),
             ?TABLE = ets:new(?TABLE, [named_table, protected, {read_concurrency, true}]),
             true = ets:insert(?TABLE, {begun_anew, 0}),
-            {ok, #st{}};
-        {error, Text} ->
-            error_logger:error_msg("** distnode: the library distnode_nif can't be loaded, so there is no distribution: ~ts **~n", [Text]),
-            {stop, {shutdown, no_library}}
+            {ok, #st{}}
     end.
 
 handle_call({want, #{peer := Peer} = Access}, {Pid, _}, St0) ->

@@ -25,76 +25,102 @@
 %% Loads the library: from beside ebin, else from where the code server knows this application to be. It is called where the
 %% distribution starts. That is before the server of files is there, and in a release before init runs what -on_load names, so
 %% this module has no such function.
--spec load() -> ok | {error, string()}.
+%%
+%% Where the module is loaded anew, this is called again, or the first call of another function does so: the library takes the node over.
+%% One that can't be loaded, or is of another version or layout, is refused, and the node goes on with the library that it has.
+-spec load() -> ok | {refused, string()} | {error, string()}.
 load() ->
-    Near = filename:join([filename:dirname(code:which(?MODULE)), "..", "priv"]),
-    case {load_from(Near), code:priv_dir(distnode)} of
-        {ok, _} -> ok;
-        {{error, {reload, _}}, _} -> ok;
-        {_, Known} when is_list(Known) -> loaded(load_from(Known));
-        {Error, _} -> loaded(Error)
+    %% By its answer the code server has noted where a module comes from that it is about to load.
+    Known = code:priv_dir(distnode),
+    case load_from(filename:join([filename:dirname(code:which(?MODULE)), "..", "priv"])) of
+        {error, {load_failed, _}} when is_list(Known) -> loaded(load_from(Known));
+        Answer -> loaded(Answer)
     end.
 
-loaded({error, {_, Text}}) -> {error, Text};
-loaded(ok) -> ok.
+load_from(Folder) -> load_file(filename:join(Folder, "distnode_nif")).
 
-load_from(Folder) -> erlang:load_nif(filename:join(Folder, "distnode_nif"), 0).
+load_file(File) ->
+    case erlang:load_nif(File, 0) of
+        ok -> persistent_term:put(?MODULE, File);
+        %% Another process has loaded it meanwhile, or a still newer module.
+        {error, {Why, _}} when Why =:= reload; Why =:= old_code -> ok;
+        Error -> Error
+    end.
 
--define(STUB, erlang:nif_error(not_loaded)).
+loaded(ok) -> ok;
+loaded({error, {_, Text}}) -> stay(persistent_term:get(?MODULE, none), Text).
+
+%% The library that the node has is in memory, whatever became of its file.
+stay(none, Text) -> {error, Text};
+stay(File, Text) ->
+    error_logger:error_msg("** distnode: the new library is refused, so ~ts.so stays: ~ts **~n", [File, Text]),
+    case load_file(File) of
+        ok -> {refused, Text};
+        {error, {_, Why}} -> {error, Why}
+    end.
+
+%% The module was loaded anew, and its library was not.
+late(Function, Arguments) ->
+    case load() of
+        {error, Text} -> erlang:nif_error({not_loaded, Text});
+        _ -> apply(?MODULE, Function, Arguments)
+    end.
+
+-define(LATE(Arguments), late(?FUNCTION_NAME, Arguments)).
 
 %% Most ends that the node ever gives out: 0 stands for 4,294,967,295.
 -spec new(peer(), binary(), Flags :: non_neg_integer(), Required :: non_neg_integer(), Creation :: non_neg_integer(),
           MostEnds :: non_neg_integer()) -> {ok, reference()} | {error, atom()}.
-new(_Name, _Cookie, _Flags, _Required, _Creation, _MostEnds) -> ?STUB.
+new(Name, Cookie, Flags, Required, Creation, MostEnds) -> ?LATE([Name, Cookie, Flags, Required, Creation, MostEnds]).
 
 %% Each call is refused from then on, as NotANode.
 -spec drop(reference()) -> ok.
-drop(_Node) -> ?STUB.
+drop(Node) -> ?LATE([Node]).
 
 -spec cookie(reference(), peer(), binary()) -> ok | {error, atom()}.
-cookie(_Node, _Peer, _Cookie) -> ?STUB.
+cookie(Node, Peer, Cookie) -> ?LATE([Node, Peer, Cookie]).
 
 %% The usual cookie is this peer's again: PeerInUse where it has an end.
 -spec no_cookie(reference(), peer()) -> ok | {error, atom()}.
-no_cookie(_Node, _Peer) -> ?STUB.
+no_cookie(Node, Peer) -> ?LATE([Node, Peer]).
 
 -spec usual_cookie(reference(), binary()) -> ok | {error, atom()}.
-usual_cookie(_Node, _Cookie) -> ?STUB.
+usual_cookie(Node, Cookie) -> ?LATE([Node, Cookie]).
 
 -spec allow(reference(), peer()) -> ok | {error, atom()}.
-allow(_Node, _Peer) -> ?STUB.
+allow(Node, Peer) -> ?LATE([Node, Peer]).
 
 -spec disallow(reference(), peer()) -> ok | {error, atom()}.
-disallow(_Node, _Peer) -> ?STUB.
+disallow(Node, Peer) -> ?LATE([Node, Peer]).
 
 %% How often a cookie or the allow list was changed.
 -spec changes(reference()) -> non_neg_integer().
-changes(_Node) -> ?STUB.
+changes(Node) -> ?LATE([Node]).
 
 -spec forget(reference(), id()) -> ok | {error, atom()}.
-forget(_Node, _Below) -> ?STUB.
+forget(Node, Below) -> ?LATE([Node, Below]).
 
 -spec dial(reference(), peer()) -> step().
-dial(_Node, _Peer) -> ?STUB.
+dial(Node, Peer) -> ?LATE([Node, Peer]).
 
 %% This process has the connection.
 -spec incoming(reference(), pid()) -> step().
-incoming(_Node, _Pid) -> ?STUB.
+incoming(Node, Pid) -> ?LATE([Node, Pid]).
 
 -spec body(reference(), id(), binary(), Challenge :: non_neg_integer()) -> step().
-body(_Node, _Id, _Body, _Challenge) -> ?STUB.
+body(Node, Id, Body, Challenge) -> ?LATE([Node, Id, Body, Challenge]).
 
 %% Why is a number of dn_why. An end that is up stays so, and the error is ShownEnd.
 -spec lost(reference(), id(), Why :: 1..15) -> step().
-lost(_Node, _Id, _Why) -> ?STUB.
+lost(Node, Id, Why) -> ?LATE([Node, Id, Why]).
 
 %% The socket of this end, which came up, is gone.
 -spec gone(reference(), id()) -> step().
-gone(_Node, _Id) -> ?STUB.
+gone(Node, Id) -> ?LATE([Node, Id]).
 
 %% Loses the end by which this peer is about to connect, as GaveUp; `none`, and nothing is done, where it has none, or is up.
 -spec give_up(reference(), peer()) -> step() | none.
-give_up(_Node, _Peer) -> ?STUB.
+give_up(Node, Peer) -> ?LATE([Node, Peer]).
 
 %% ---- steps of the process that has the end
 
@@ -102,42 +128,42 @@ give_up(_Node, _Peer) -> ?STUB.
 %% An error is one for which there is no end.
 -spec arrive(reference(), Changes :: non_neg_integer(), binary(), Challenge :: non_neg_integer()) ->
     {arrived, id(), step()} | changed | {error, atom(), closed()}.
-arrive(_Node, _Changes, _Body, _Challenge) -> ?STUB.
+arrive(Node, Changes, Body, Challenge) -> ?LATE([Node, Changes, Body, Challenge]).
 
 -spec opened(reference(), id()) -> step().
-opened(_Node, _Id) -> ?STUB.
+opened(Node, Id) -> ?LATE([Node, Id]).
 
 %% Nothing is done where the frame would bring the end up.
 -spec early_body(reference(), id(), binary(), Challenge :: non_neg_integer()) -> step() | {ready, up()}.
-early_body(_Node, _Id, _Body, _Challenge) -> ?STUB.
+early_body(Node, Id, Body, Challenge) -> ?LATE([Node, Id, Body, Challenge]).
 
 %% Nothing is done where the frame would bring the end up with other flags or another creation, 0 where the peer has none; or where it
 %% would close this other end, which is up until it is gone.
 -spec come_up(reference(), id(), binary(), Challenge :: non_neg_integer(), Common :: non_neg_integer(),
               Creation :: non_neg_integer(), port() | pid()) -> step() | other | {held, id()}.
-come_up(_Node, _Id, _Body, _Challenge, _Common, _Creation, _Controller) -> ?STUB.
+come_up(Node, Id, Body, Challenge, Common, Creation, Controller) -> ?LATE([Node, Id, Body, Challenge, Common, Creation, Controller]).
 
 %% ---- questions
 
 %% Why this end is closed.
 -spec cause(reference(), id()) -> why() | none.
-cause(_Node, _Id) -> ?STUB.
+cause(Node, Id) -> ?LATE([Node, Id]).
 
 -spec up_end(reference(), peer()) -> id() | none.
-up_end(_Node, _Peer) -> ?STUB.
+up_end(Node, Peer) -> ?LATE([Node, Peer]).
 
 -spec peers(reference()) -> [{peer(), id(), non_neg_integer(), non_neg_integer() | unknown}].
-peers(_Node) -> ?STUB.
+peers(Node) -> ?LATE([Node]).
 
 -spec challenge() -> non_neg_integer().
-challenge() -> ?STUB.
+challenge() -> ?LATE([]).
 
 %% ---- a recording
 
 %% From now on each call that changes a node is appended to this file: distnode_recording.
 -spec recording(string()) -> ok | error.
-recording(_File) -> ?STUB.
+recording(File) -> ?LATE([File]).
 
 %% And so is this: the caller has a connection with these addresses.
 -spec connection(term(), term()) -> ok.
-connection(_Own, _Other) -> ?STUB.
+connection(Own, Other) -> ?LATE([Own, Other]).

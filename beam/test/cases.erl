@@ -76,6 +76,7 @@ common(Mapper) ->
      {"orders_swept", fun() -> with_tls("", fun() -> order_sweeps:some(Mapper) end) end},
      {"embedded_release", fun embedded_release/0},
      {"killed_core", fun killed_core/0},
+     {"library_at_run_time", fun library_at_run_time/0},
      {"unfit_library", fun unfit_library/0},
      {"unfit_archive", fun unfit_archive/0}].
 
@@ -820,7 +821,7 @@ tls_and_tcp() ->
 embedded_release() ->
     Folder = filename:join(os:getenv("LOGS"), "release"),
     Lib = filename:join([Folder, "lib", "distnode-0.2.0"]),
-    [ok = copy(filename:join([os:getenv("EBIN"), "..", Part]), filename:join(Lib, Part)) || Part <- ["ebin", "priv"]],
+    ok = copy_parts(["ebin", "priv"], Lib),
     Tls = [App || test_nodes:is_tls(), App <- [crypto, asn1, public_key, ssl]],
     Applications = [{App, version(App)} || App <- [kernel, stdlib | Tls]] ++ [{distnode, "0.2.0"}],
     Release = {release, {"test", "1"}, {erts, erlang:system_info(version)}, Applications},
@@ -840,6 +841,10 @@ version(App) ->
     _ = application:load(App),
     {ok, Version} = application:get_key(App, vsn),
     Version.
+
+copy_parts(Parts, To) ->
+    [ok = copy(filename:join([os:getenv("EBIN"), "..", Part]), filename:join(To, Part)) || Part <- Parts],
+    ok.
 
 copy(From, To) ->
     ok = filelib:ensure_dir(filename:join(To, "x")),
@@ -861,6 +866,60 @@ killed_core() ->
                   end || {Kind, Victim} <- [{ours, distnode_core}, {otp, net_kernel}]],
                  agreed([B])
          end).
+
+%% The library's module is loaded anew from other folders while a peer is connected: one calls load/0, one leaves that to its first call;
+%% one has no library, and one has a library of another layout, which are refused. At last the node is dropped, and another begins.
+library_at_run_time() ->
+    Recording = filename:join(os:getenv("LOGS"), "library.recording"),
+    with([{"r", {later, ours}, ["-kernel", "distnode_recording", [$", Recording, $"] | ?QUIET]}, {"b", ours, ?QUIET}, {"o", otp, ?QUIET}],
+         fun([R, B, O] = All) ->
+                 {ok, _} = c(R, net_kernel, start, [[n(R), longnames]]),
+                 true = connect(R, B),
+                 Anew = fun(Folder, Kept, Load) -> loaded_anew(Folder, Kept, Load, Recording, All) end,
+                 Anew(folder("first", ["ebin", "priv"]), "first", fun() -> ok = c(R, distnode_nif, load, []) end),
+                 Anew(folder("second", ["ebin", "priv"]), "second", fun() -> true = connect(O, R) end),
+                 Anew(folder("third", ["ebin"]), "second", fun() -> refused(R, "Failed to load NIF library") end),
+                 Said = with_tools(fun() -> Anew(other_layout("fourth"), "second", fun() -> refused(R, "unsuccessful (3)") end) end),
+                 ok = c(R, net_kernel, stop, []),
+                 {ok, _} = c(R, net_kernel, start, [[n(R), longnames]]),
+                 true = connect(B, R),
+                 agreed([R, B]),
+                 Said
+         end).
+
+%% The peer stays connected on its end, messages pass, ends come and go and are recorded, and nobody runs in the old code when it is purged.
+loaded_anew(Folder, Kept, Load, Recording, [R, B, O]) ->
+    {Up, Before} = {c(R, test_agent, up_end, [n(B)]), lines(Recording)},
+    {module, distnode_nif} = c(R, code, load_abs, [filename:join([Folder, "ebin", "distnode_nif"])]),
+    Load(),
+    Up = c(R, test_agent, up_end, [n(B)]),
+    [Name = c(X, erpc, call, [Name, erlang, node, []]) || {X, Name} <- [{R, n(B)}, {B, n(R)}]],
+    false = c(R, code, purge, [distnode_nif]),
+    true = test_nodes:wait(fun() -> lists:member(c(R, test_agent, libraries, []), [[Kept], unknown]) end, 5000),
+    [begin true = connect(X, Y), both_up(X, Y), apart(X, Y) end || {X, Y} <- [{O, R}, {R, B}, {B, R}]],
+    true = connect(R, B),
+    agreed([R, B]),
+    true = lines(Recording) > Before.
+
+lines(Recording) ->
+    {ok, Lines} = distnode_recording:read(Recording),
+    length(Lines).
+
+refused(R, Why) ->
+    {refused, Text} = c(R, distnode_nif, load, []),
+    true = string:find(Text, Why) =/= nomatch,
+    true = test_nodes:has_logged(R, ["the new library is refused, so .*/second/.*/distnode_nif.so stays: .*\\Q", Why, "\\E"]).
+
+folder(Name, Parts) ->
+    Folder = filename:join(os:getenv("LOGS"), Name),
+    ok = copy_parts(Parts, Folder),
+    Folder.
+
+other_layout(Name) ->
+    Folder = folder(Name, ["ebin"]),
+    ok = copy_sources(Folder),
+    {0, _} = make(Folder, os:getenv("LIBRARY"), ["CFLAGS=-DDISTNODE_LAYOUT=0"]),
+    Folder.
 
 %% The library is missing, is one for another machine (the number of the machine is byte 18 of an ELF file), or is cut short.
 unfit_library() ->
@@ -884,8 +943,11 @@ unfit_library() ->
 %% make refuses a library of another version, a folder without an archive, and an archive for another machine. It makes the module anew
 %% where the header is another one, although that is the older file.
 unfit_archive() ->
+    with_tools(fun() -> unfit_archive(filename:join(os:getenv("LOGS"), "build")) end).
+
+with_tools(Body) ->
     case [Tool || Tool <- ["make", "cc"], os:find_executable(Tool) =:= false] of
-        [] -> unfit_archive(filename:join(os:getenv("LOGS"), "build"));
+        [] -> Body();
         Missing -> {said, "~p missing here, so nothing was made", [Missing]}
     end.
 
@@ -894,8 +956,7 @@ unfit_archive(Build) ->
     Header = filename:join([Library, "include", "distnode.h"]),
     Archive = filename:join([Library, "lib", "libdistnode.a"]),
     Module = filename:join([Build, "priv", "distnode_nif.so"]),
-    [ok = copy(filename:join([os:getenv("EBIN"), "..", Part]), filename:join(Build, Part)) || Part <- ["src", "c_src"]],
-    {ok, _} = file:copy(filename:join([os:getenv("EBIN"), "..", "Makefile"]), filename:join(Build, "Makefile")),
+    ok = copy_sources(Build),
     ok = copy(filename:join(os:getenv("LIBRARY"), "include"), filename:dirname(Header)),
     {ok, Head} = file:read_file(Header),
     refuses(Build, Library, Module, "no libdistnode.a in "),
@@ -917,6 +978,11 @@ unfit_archive(Build) ->
     {0, _} = make(Build, Library),
     true = First =/= made_at(Module).
 
+copy_sources(To) ->
+    ok = copy_parts(["src", "c_src"], To),
+    {ok, _} = file:copy(filename:join([os:getenv("EBIN"), "..", "Makefile"]), filename:join(To, "Makefile")),
+    ok.
+
 of_another_machine(At, Bytes) ->
     <<Before:(At + 18)/binary, Machine, Rest/binary>> = Bytes,
     <<Before/binary, (Machine bxor 16#ff), Rest/binary>>.
@@ -925,9 +991,11 @@ refuses(Build, Library, Module, Text) ->
     {Status, Said} = make(Build, Library),
     true = Status =/= 0 andalso string:find(Said, Text) =/= nomatch andalso not filelib:is_file(Module).
 
-make(Build, Library) ->
+make(Build, Library) -> make(Build, Library, []).
+
+make(Build, Library, Words) ->
     Port = open_port({spawn_executable, os:find_executable("make")},
-                     [{args, ["-s", "-C", Build, "nif", "DISTNODE=" ++ Library]}, exit_status, stderr_to_stdout]),
+                     [{args, ["-s", "-C", Build, "nif", "DISTNODE=" ++ Library | Words]}, exit_status, stderr_to_stdout]),
     made(Port, []).
 
 made(Port, Said) ->

@@ -219,11 +219,19 @@ def node_lines(message):
     yield from objections
 
 
+def status_of(message):
+    """The text of a status; behind `named:`, the name that a node is given."""
+    text = bytes.fromhex(message.fields["erldp.status"][1])
+    if text.startswith(b"named:"):
+        return 'named: "{}"'.format(text[8:8 + int.from_bytes(text[6:8], "big")].decode())
+    return message.text("erldp.status")
+
+
 def word_of(message):
     name = "name" if message.is_of_dialler else "challenge"
     words = {"'n'": name + ", in the older form", "'N'": name, "'c'": "complement", "'r'": "reply", "'a'": "acknowledgement"}
     tag = message.text("erldp.tag")
-    return "status " + message.text("erldp.status") if tag == "'s'" else words[tag]
+    return "status " + status_of(message) if tag == "'s'" else words[tag]
 
 
 def talk_lines(connection):

@@ -1,12 +1,15 @@
 """A node and its port mapper that keep every row of share/conformance, but for one fault that is planted. It shares no code with distcheck,
 nor with the other programs: it is written from the ERTS User's Guide, Distribution Protocol.
 
-usage: standin.py COOKIE [FAULT]     prints its node's port and its port mapper's, and serves until its input ends
+usage: standin.py COOKIE [FAULT]     prints its node's port, its port mapper's, and one at which it dials whatever name comes in a line;
+                                     serves until its input ends
 
 The faults of the node: noextra (closes where bytes stand behind the name), prefix (compares 8 bytes of a digest), signed (digests a challenge
 as a number with a sign), longreply (takes a reply with bytes behind it), nomap (does not require MAP_TAG), announces (does not announce
 NEW_FLOATS), onepiece (loses what stands behind a message in the same piece), twobytes (goes on with short frames once it is up), notick (a
-tick ends the connection), samechallenge, creation0, saysno (not_allowed behind a wrong digest). Of the port mapper: stale (keeps a name for
+tick ends the connection), samechallenge, creation0, saysno (not_allowed behind a wrong digest), forgets (no alive: a second name is told
+ok), takeover (a second name ends the first connection). Of its dials: noack (takes any acknowledgement), anyname (a challenge of any name),
+crossing (the lesser name wins), nodoom (what ok_simultaneous gave up comes up). Of the port mapper: stale (keeps a name for
 3 seconds), noextramap (forgets the extra), namesport (4369 in front of the names), cutreg (registers what was cut), serial (one client at a
 time), always6 (a creation of 32 bits to whoever knows version 5), staysopen (no end behind a lookup), onewrite (closes a request in pieces).
 """
@@ -62,6 +65,10 @@ class Connection:
 
 
 # --- the node ---
+# The connections of each peer: the one that is up, the one that came, the one that was dialled, and the one that was told alive.
+PEERS, LOCK = {}, threading.RLock()
+
+
 def digest(number):
     return hashlib.md5(COOKIE + b"%d" % number).digest()
 
@@ -94,6 +101,48 @@ def lacks(flags, is_old):
     return required & (0xFFFFFFFF if is_old else ~0) & ~flags
 
 
+def end(it):
+    """Ends a connection, if there is one: who reads from it goes on."""
+    if it:
+        try:
+            it.stream.shutdown(socket.SHUT_RDWR)
+        except OSError:
+            pass
+
+
+def status_of(name, it):
+    """What a name is told, by the other connections of its peer."""
+    with LOCK:
+        peer = PEERS.setdefault(name, {})
+        if "up" in peer and FAULT != "forgets":
+            end(peer.get("asked"))
+            peer["asked"] = it
+            end(peer["up"] if FAULT == "takeover" else None)
+            return b"alive"
+        if "dialled" in peer:
+            if (name > ME) == (FAULT == "crossing"):
+                return b"nok"
+            end(peer["dialled"] if FAULT != "nodoom" else None)
+            peer.clear()
+            peer["came"] = it
+            return b"ok_simultaneous"
+        end(peer.get("came"))
+        peer["came"] = it
+        return b"ok"
+
+
+def come_up(name, it):
+    with LOCK:
+        before = PEERS.get(name, {}).get("up")
+        PEERS[name] = {"up": it}
+    end(before)
+
+
+def leave(name, it):
+    with LOCK:
+        PEERS[name] = {key: other for key, other in PEERS.get(name, {}).items() if other is not it}
+
+
 def take_name(it):
     flags, name, is_old, behind = introduction(it.take(2))
     if FAULT == "noextra" and behind:
@@ -101,7 +150,7 @@ def take_name(it):
     if flags & NAME_ME or lacks(flags, is_old) or not is_good(name) or name == ME:
         it.say(b"snot_allowed")
         raise Ended("refused")
-    return is_old
+    return name, is_old
 
 
 def take_reply(it, challenge):
@@ -138,22 +187,84 @@ def stay_up(it):
 
 
 def accept(stream):
-    it = Connection(stream)
+    it, name = Connection(stream), b""
     try:
-        is_old = take_name(it)
-        it.say(b"sok")
+        name, is_old = take_name(it)
+        status = status_of(name, it)
+        it.say(b"s" + status)
+        if status == b"nok" or status == b"alive" and it.take(2) != b"strue":
+            raise Ended("refused")
         challenge = drawn()
         it.say(b"N" + struct.pack(">QIIH", ANNOUNCED, challenge, CREATION, len(ME)) + ME)
         if is_old:
             complement = it.take(2)
             if complement[:1] != b"c" or len(complement) != 9 or not complement[4] & REQUIRED >> 32:
                 raise Ended("no complement")
-        it.say(b"a" + their_digest(take_reply(it, challenge)))
+        number = take_reply(it, challenge)
+        come_up(name, it)
+        it.say(b"a" + their_digest(number))
         stay_up(it)
     except (Ended, OSError):
         pass
     finally:
+        leave(name, it)
         close(stream)
+
+
+def take_challenge(it, name):
+    body = it.take(2)
+    if body[:1] != b"N" or len(body) < 19:
+        raise Ended("no challenge")
+    flags, number, _, length = struct.unpack(">QIIH", body[1:19])
+    came = body[19 : 19 + length]
+    if len(came) < length or came != name and FAULT != "anyname" or lacks(flags, False):
+        raise Ended("another node, or one that lacks a flag")
+    return number
+
+
+def introduce(it, name):
+    """Dials a name, as far as to the right acknowledgement."""
+    it.say(b"N" + struct.pack(">QIH", ANNOUNCED, CREATION, len(ME)) + ME)
+    status = it.take(2)
+    if status == b"salive":
+        it.say(b"strue")
+    elif status not in (b"sok", b"sok_simultaneous"):
+        raise Ended("refused")
+    number, own = take_challenge(it, name), drawn()
+    it.say(b"r" + struct.pack(">I", own) + their_digest(number))
+    ack = it.take(2)
+    if ack[:1] != b"a" or len(ack) != 17 or ack[1:] != digest(own) and FAULT != "noack":
+        raise Ended("another digest")
+
+
+def dial(name):
+    it = Connection(socket.socket())
+    with LOCK:
+        entry, peer = NAMES.get(name.partition(b"@")[0]), PEERS.setdefault(name, {})
+        if peer or not entry:
+            return
+        peer["dialled"] = it
+    try:
+        it.stream.connect((HOST, entry[0]))
+        introduce(it, name)
+        with LOCK:
+            if PEERS[name].get("dialled") is not it and FAULT != "nodoom":
+                raise Ended("given up")
+            come_up(name, it)
+        stay_up(it)
+    except (Ended, OSError):
+        pass
+    finally:
+        leave(name, it)
+        close(it.stream)
+
+
+def obey(stream):
+    """Dials the name in a line, for as long as that takes."""
+    with stream, stream.makefile("rb") as lines:
+        name = lines.readline().strip()
+        if name:
+            dial(name)
 
 
 def close(stream):
@@ -165,7 +276,7 @@ def close(stream):
 
 
 # --- the port mapper ---
-NAMES, LOCK, TURN = {}, threading.RLock(), threading.Lock()
+NAMES, TURN = {}, threading.Lock()
 CREATIONS = iter(range(100, 1 << 32))
 
 
@@ -272,8 +383,9 @@ def serve(listener, talk):
 
 
 def main():
-    listeners = [socket.create_server((HOST, 0), backlog=128) for _ in range(2)]
-    for listener, talk in zip(listeners, (accept, serve_client)):
+    talks = (accept, serve_client, obey)
+    listeners = [socket.create_server((HOST, 0), backlog=128) for _ in talks]
+    for listener, talk in zip(listeners, talks):
         threading.Thread(target=serve, args=(listener, talk), daemon=True).start()
     print(*[it.getsockname()[1] for it in listeners], flush=True)
     sys.stdin.read()

@@ -7,3 +7,5 @@ pub mod Room
 pub mod Statuses
 pub mod Whole
 pub mod Worlds
+pub mod Cluster
+pub mod Guard

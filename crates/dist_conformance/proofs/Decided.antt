@@ -5,7 +5,7 @@ use Rattle.std.specs.Int.{w16, w32}
 use Rattle.std.specs.List.{list_any}
 use Rattle.dist_names.specs.Fields.{number_at}
 use Rattle.dist_frames.specs.Stream.{first_body}
-use Rattle.dist_messages.specs.declared.message.Side.TheVariants.{Acceptor}
+use Rattle.dist_messages.specs.declared.message.Side.TheVariants.{Dialler, Acceptor}
 use Rattle.dist_messages.specs.Reading.{read}
 use Rattle.dist_messages.specs.declared.message.Message.TheVariants as message
 use Rattle.dist_messages.specs.Canonical.{canonical}
@@ -26,7 +26,7 @@ use Rattle.dist_conformance.specs.declared.outcomes.PatternOutcome.TheVariants a
 use Rattle.dist_conformance.specs.declared.judging.Judgement.{Judgement}
 use Rattle.dist_conformance.specs.declared.judging.Judgement.TheVariants as judgement
 use Rattle.dist_conformance.specs.Words.{begins_with}
-use Rattle.dist_conformance.specs.Judging.{Observation, ChallengeSaid, AnswerSaid, passes, passes_if, part_outcome, open_for, by_body, by_challenge, challenge_passes, challenge_in, is_in, are_lines, names_pass, answer_in, by_answer, refusal, by_names, body_outcome, outcome_of, joined, behind_match, sequence_of, no_passage, outcomes_of, first_passage, is_open, first_failure, may_match, by_loose, by_wanted, judgement_of}
+use Rattle.dist_conformance.specs.Judging.{Observation, ChallengeSaid, AnswerSaid, passes, passes_if, part_outcome, open_for, by_body, by_challenge, challenge_passes, challenge_in, name_in, name_passes, reply_in, by_reply, is_in, are_lines, names_pass, answer_in, by_answer, refusal, by_names, body_outcome, outcome_of, joined, behind_match, sequence_of, no_passage, outcomes_of, first_passage, is_open, first_failure, may_match, by_loose, by_wanted, judgement_of}
 
 -- ---- a pattern is decided once the connection has ended
 
@@ -55,6 +55,10 @@ of_if false n = refl
 of_challenge : (which : ChallengeCheck) (learned : List Learned) (len : ℕ) (c : Option ChallengeSaid) → Decided (by_challenge which learned len c)
 of_challenge which learned len None = refl
 of_challenge which learned len (Some c) = either (challenge_passes which c learned) (outcome.Matches (record { count = 2 + len; challenge = Some c.challenge })) (outcome.Fails deviation.Field) refl refl
+
+of_reply : (wanted : List ℕ) (len : ℕ) (r : Option (ℕ × List ℕ)) → Decided (by_reply wanted len r)
+of_reply wanted len None = refl
+of_reply wanted len (Some r) = either (same_name r.1 wanted) (outcome.Matches (record { count = 2 + len; challenge = Some r.0 })) (outcome.Fails deviation.Field) refl refl
 
 of_body : (says : List ℕ → PatternOutcome) (b : Option (List ℕ)) (e : Bool) → e ≡ true → ((body : List ℕ) → Decided (says body)) → Decided (by_body says b e)
 of_body says None e h k = ended_part e h
@@ -87,6 +91,10 @@ decided (pattern.Bytes wanted) o came h =
 decided (pattern.Frame front) o came h = of_body (body_outcome (pattern.Frame front) o) (first_body w16 came) o.ended h (λ body. of_if (begins_with front body) (2 + length body))
 decided (pattern.Challenge which) o came h =
     of_body (body_outcome (pattern.Challenge which) o) (first_body w16 came) o.ended h (λ body. of_challenge which o.learned (length body) (challenge_in (read Acceptor body)))
+decided (pattern.Name which) o came h =
+    of_body (body_outcome (pattern.Name which) o) (first_body w16 came) o.ended h (λ body. of_if (name_passes which (name_in (read Dialler body))) (2 + length body))
+decided (pattern.Reply n) o came h =
+    of_body (body_outcome (pattern.Reply n) o) (first_body w16 came) o.ended h (λ body. of_reply (digest_of o.cookie n) (length body) (reply_in (read Dialler body)))
 decided (pattern.Ack n) o came h = of_body (body_outcome (pattern.Ack n) o) (first_body w16 came) o.ended h
     (λ body. of_if (same_name body (canonical (message.Ack (digest_of o.cookie n)))) (2 + length body))
 decided (pattern.RegisteredX range) o came h = of_answer 0x76 6 range o.ended (answer_in w32 came) h

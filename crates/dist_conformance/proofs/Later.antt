@@ -1,7 +1,7 @@
 -- What is decided stays so as more comes.
-use Rattle.std.proofs.Common.{◌≡◌, ℕ, zero, suc, ◌+◌, ◌≤◌, ◌<◌, Bool, true, false, cond, List, [], ◌∷◌, ◌++◌, length, drop, Option, Some, None, refl, sym, ap, subst, ◌∙◌, arith, length-append, length-drop}
-use Rattle.std.specs.Prelude.{◌==◌, ◌||◌, ◌&&◌, not, nat_lt, nat_le, if◌then◌else◌, map}
-use Rattle.std.specs.Int.{Width, w16, w32}
+use Rattle.std.proofs.Common.{◌≡◌, ℕ, ◌+◌, ◌≤◌, ◌<◌, Bool, true, false, List, [], ◌∷◌, ◌++◌, length, drop, Option, Some, None, refl, sym, ap, subst, ◌∙◌, arith, length-append, length-drop}
+use Rattle.std.specs.Prelude.{◌==◌, ◌||◌, ◌&&◌, not, nat_lt, nat_le, if◌then◌else◌}
+use Rattle.std.specs.Int.{w16, w32}
 use Rattle.std.specs.List.{list_any, list_all}
 use Rattle.std.proofs.lemmas.Bool.{and_parts}
 use Rattle.std.proofs.lemmas.List.{drop-append-le, drop-drop, drop_all}
@@ -60,6 +60,12 @@ of_refusal tag n e (x ∷ y ∷ rest) more =
     ] refl
 
 module _ (o later : Observation) (l : IsLater o later) where
+  framed : (p : Pattern) (came more : List ℕ) → ((x : List ℕ) → body_outcome p later x ≡ body_outcome p o x)
+      → Stays (by_body (body_outcome p o) (first_body w16 came) o.ended) (by_body (body_outcome p later) (first_body w16 (came ++ more)) later.ended)
+  framed p came more same =
+      subst (λ v. Stays (by_body (body_outcome p o) (first_body w16 came) v) (by_body (body_outcome p later) (first_body w16 (came ++ more)) later.ended)) (sym l.was_open)
+      (of_body (body_outcome p o) (body_outcome p later) (first_body w16 came) (first_body w16 (came ++ more)) later.ended (first_more came more) same)
+
   settled : (p : Pattern) (came more : List ℕ) → looks_at_bytes p ≡ true → Stays (outcome_of p o came) (outcome_of p later (came ++ more))
   settled pattern.End came more b = absurd cc
   settled (pattern.Silence ms) came more b = absurd cc
@@ -67,17 +73,11 @@ module _ (o later : Observation) (l : IsLater o later) where
   settled (pattern.Names which) came more b = absurd cc
   settled (pattern.Bytes wanted) came more b =
       subst (λ v. Stays (by_bytes wanted came v) (by_bytes wanted (came ++ more) later.ended)) (sym l.was_open) (of_bytes wanted came more later.ended)
-  settled (pattern.Frame front) came more b =
-      subst (λ v. Stays (by_body (body_outcome (pattern.Frame front) o) (first_body w16 came) v) (outcome_of (pattern.Frame front) later (came ++ more))) (sym l.was_open)
-      (of_body (body_outcome (pattern.Frame front) o) (body_outcome (pattern.Frame front) later) (first_body w16 came) (first_body w16 (came ++ more)) later.ended (first_more came more) (λ x. refl))
-  settled (pattern.Challenge which) came more b =
-      subst (λ v. Stays (by_body (body_outcome (pattern.Challenge which) o) (first_body w16 came) v) (outcome_of (pattern.Challenge which) later (came ++ more))) (sym l.was_open)
-      (of_body (body_outcome (pattern.Challenge which) o) (body_outcome (pattern.Challenge which) later) (first_body w16 came) (first_body w16 (came ++ more)) later.ended (first_more came more)
-      (λ x. ap (λ learned. by_challenge which learned (length x) (challenge_in (read Acceptor x))) l.learned))
-  settled (pattern.Ack n) came more b =
-      subst (λ v. Stays (by_body (body_outcome (pattern.Ack n) o) (first_body w16 came) v) (outcome_of (pattern.Ack n) later (came ++ more))) (sym l.was_open)
-      (of_body (body_outcome (pattern.Ack n) o) (body_outcome (pattern.Ack n) later) (first_body w16 came) (first_body w16 (came ++ more)) later.ended (first_more came more)
-      (λ x. rw l.cookie refl))
+  settled (pattern.Frame front) came more b = framed (pattern.Frame front) came more (λ x. refl)
+  settled (pattern.Challenge which) came more b = framed (pattern.Challenge which) came more (λ x. ap (λ learned. by_challenge which learned (length x) (challenge_in (read Acceptor x))) l.learned)
+  settled (pattern.Name which) came more b = framed (pattern.Name which) came more (λ x. refl)
+  settled (pattern.Reply n) came more b = framed (pattern.Reply n) came more (λ x. rw l.cookie refl)
+  settled (pattern.Ack n) came more b = framed (pattern.Ack n) came more (λ x. rw l.cookie refl)
   settled (pattern.RegisteredX range) came more b =
       subst (λ v. Stays (by_answer 0x76 6 range v (answer_in w32 came)) (by_answer 0x76 6 range later.ended (answer_in w32 (came ++ more)))) (sym l.was_open)
       (of_answer 0x76 6 range (answer_in w32 came) (answer_in w32 (came ++ more)) later.ended (answer_more w32 came more))
@@ -101,13 +101,7 @@ nothing_fails (pattern.Silence ms) o why h e = open_never_fails ms 0 o why h e
 nothing_fails (pattern.Open ms) o why h e = open_never_fails ms 0 o why h e
 nothing_fails (pattern.Bytes []) o why h e = absurd cc
 nothing_fails (pattern.Bytes (c ∷ cs)) o why h e = let f : outcome.Open ≡ outcome.Fails why = rw h at e in absurd cc
-nothing_fails (pattern.Frame front) o why h e = let f : outcome.Open ≡ outcome.Fails why = rw h at e in absurd cc
-nothing_fails (pattern.Challenge which) o why h e = let f : outcome.Open ≡ outcome.Fails why = rw h at e in absurd cc
-nothing_fails (pattern.Ack n) o why h e = let f : outcome.Open ≡ outcome.Fails why = rw h at e in absurd cc
-nothing_fails (pattern.RegisteredX range) o why h e = let f : outcome.Open ≡ outcome.Fails why = rw h at e in absurd cc
-nothing_fails (pattern.RegisteredY range) o why h e = let f : outcome.Open ≡ outcome.Fails why = rw h at e in absurd cc
-nothing_fails (pattern.Denied tag n) o why h e = let f : outcome.Open ≡ outcome.Fails why = rw h at e in absurd cc
-nothing_fails (pattern.Names which) o why h e = let f : outcome.Open ≡ outcome.Fails why = rw h at e in absurd cc
+nothing_fails other o why h e = let f : outcome.Open ≡ outcome.Fails why = rw h at e in absurd cc
 
 -- a pattern that does not look at bytes alone matches before the end only where nothing is left behind it
 open_eats : (ms : ℕ) (came : List ℕ) (o : Observation) (q : Passage) → o.ended ≡ false → open_for ms (length came) o ≡ outcome.Matches q → drop q.count came ≡ []
@@ -125,13 +119,7 @@ eats (pattern.Silence ms) o [] q h b e = open_eats ms [] o q h e
 eats (pattern.Silence ms) o (c ∷ cs) q h b e = absurd cc
 eats (pattern.Open ms) o came q h b e = open_eats ms came o q h e
 eats (pattern.Names which) o came q h b e = let f : outcome.Open ≡ outcome.Matches q = rw h at e in absurd cc
-eats (pattern.Bytes wanted) o came q h b e = absurd cc
-eats (pattern.Frame front) o came q h b e = absurd cc
-eats (pattern.Challenge which) o came q h b e = absurd cc
-eats (pattern.Ack n) o came q h b e = absurd cc
-eats (pattern.RegisteredX range) o came q h b e = absurd cc
-eats (pattern.RegisteredY range) o came q h b e = absurd cc
-eats (pattern.Denied tag n) o came q h b e = absurd cc
+eats other o came q h b e = absurd cc
 
 -- ---- single patterns that fail
 
@@ -146,13 +134,7 @@ module _ (o later : Observation) (l : IsLater o later) where
   fails (pattern.Silence ms) (c ∷ cs) more why e = e
   fails (pattern.Open ms) came more why e = absurd (open_never_fails ms (length came) o why l.was_open e)
   fails (pattern.Names which) came more why e = let f : outcome.Open ≡ outcome.Fails why = rw l.was_open at e in absurd cc
-  fails (pattern.Bytes wanted) came more why e = by_settled (pattern.Bytes wanted) came more _ refl refl e
-  fails (pattern.Frame front) came more why e = by_settled (pattern.Frame front) came more _ refl refl e
-  fails (pattern.Challenge which) came more why e = by_settled (pattern.Challenge which) came more _ refl refl e
-  fails (pattern.Ack n) came more why e = by_settled (pattern.Ack n) came more _ refl refl e
-  fails (pattern.RegisteredX range) came more why e = by_settled (pattern.RegisteredX range) came more _ refl refl e
-  fails (pattern.RegisteredY range) came more why e = by_settled (pattern.RegisteredY range) came more _ refl refl e
-  fails (pattern.Denied tag n) came more why e = by_settled (pattern.Denied tag n) came more _ refl refl e
+  fails other came more why e = by_settled other came more _ refl refl e
 
 -- ---- sequences
 

@@ -1,11 +1,13 @@
 -- No more bytes match than came.
-use Rattle.std.proofs.Common.{◌≡◌, ℕ, zero, suc, ◌+◌, ◌≤◌, Bool, true, false, cond, List, [], ◌∷◌, length, Option, Some, None, refl, sym, ap, ◌∙◌, arith}
+use Rattle.std.proofs.Common.{◌≡◌, ℕ, ◌+◌, ◌≤◌, Bool, true, false, List, [], ◌∷◌, length, Option, Some, None, refl, arith}
 use Rattle.std.specs.Prelude.{◌==◌, ◌&&◌, not, nat_lt, nat_le, if◌then◌else◌}
 use Rattle.std.specs.Int.{w16, w32}
 use Rattle.dist_names.specs.Fields.{number_at}
 use Rattle.dist_frames.specs.Stream.{first_body}
-use Rattle.dist_messages.specs.declared.message.Side.TheVariants.{Acceptor}
+use Rattle.dist_messages.specs.declared.message.Side.TheVariants.{Dialler, Acceptor}
 use Rattle.dist_messages.specs.Reading.{read}
+use Rattle.dist_names.specs.Order.{same_name}
+use Rattle.dist_secret.specs.Digest.{digest_of}
 use Rattle.dist_conformance.specs.declared.patterns.ChallengeCheck.{ChallengeCheck}
 use Rattle.dist_conformance.specs.declared.patterns.CreationRange.{CreationRange}
 use Rattle.dist_conformance.specs.declared.patterns.NamesCheck.{NamesCheck}
@@ -17,7 +19,7 @@ use Rattle.dist_conformance.specs.declared.outcomes.PatternOutcome.{PatternOutco
 use Rattle.dist_conformance.specs.declared.outcomes.PatternOutcome.TheVariants as outcome
 use Rattle.dist_conformance.specs.Words.{begins_with}
 use Rattle.dist_conformance.specs.Outcomes.{IsWithin}
-use Rattle.dist_conformance.specs.Judging.{Observation, ChallengeSaid, AnswerSaid, passes, passes_if, part_outcome, open_for, by_body, by_challenge, challenge_passes, challenge_in, is_in, answer_in, by_answer, refusal, are_lines, names_pass, by_names, body_outcome, outcome_of}
+use Rattle.dist_conformance.specs.Judging.{Observation, ChallengeSaid, AnswerSaid, passes, passes_if, part_outcome, open_for, by_body, by_challenge, challenge_passes, challenge_in, name_in, name_passes, reply_in, by_reply, is_in, answer_in, by_answer, refusal, are_lines, names_pass, by_names, body_outcome, outcome_of}
 use Rattle.dist_conformance.proofs.Fronts.{begins_within, first_within, answer_within}
 
 either : (b : Bool) (n : ℕ) (x y : PatternOutcome) → (b ≡ true → IsWithin n x) → IsWithin n y → IsWithin n (if b then x else y)
@@ -38,6 +40,10 @@ of_open ms count o n h = either o.ended n _ _ (λ _. tt) (either (nat_le ms o.el
 of_challenge : (which : ChallengeCheck) (learned : List Learned) (len : ℕ) (c : Option ChallengeSaid) (n : ℕ) → 2 + len ≤ n → IsWithin n (by_challenge which learned len c)
 of_challenge which learned len None n h = tt
 of_challenge which learned len (Some c) n h = either (challenge_passes which c learned) n _ _ (λ _. h) tt
+
+of_reply : (wanted : List ℕ) (len : ℕ) (r : Option (ℕ × List ℕ)) (n : ℕ) → 2 + len ≤ n → IsWithin n (by_reply wanted len r)
+of_reply wanted len None n h = tt
+of_reply wanted len (Some r) n h = either (same_name r.1 wanted) n _ _ (λ _. h) tt
 
 of_body : (says : List ℕ → PatternOutcome) (came : List ℕ) (b : Option (List ℕ)) (e : Bool) → first_body w16 came ≡ b
     → ((body : List ℕ) → 2 + length body ≤ length came → IsWithin (length came) (says body)) → IsWithin (length came) (by_body says b e)
@@ -72,6 +78,9 @@ within (pattern.Bytes wanted) o came =
 within (pattern.Frame front) o came = of_body (body_outcome (pattern.Frame front) o) came (first_body w16 came) o.ended refl (λ body h. of_if (begins_with front body) (2 + length body) (length came) h)
 within (pattern.Challenge which) o came =
     of_body (body_outcome (pattern.Challenge which) o) came (first_body w16 came) o.ended refl (λ body h. of_challenge which o.learned (length body) (challenge_in (read Acceptor body)) (length came) h)
+within (pattern.Name which) o came = of_body (body_outcome (pattern.Name which) o) came (first_body w16 came) o.ended refl (λ body h. of_if (name_passes which (name_in (read Dialler body))) (2 + length body) (length came) h)
+within (pattern.Reply n) o came =
+    of_body (body_outcome (pattern.Reply n) o) came (first_body w16 came) o.ended refl (λ body h. of_reply (digest_of o.cookie n) (length body) (reply_in (read Dialler body)) (length came) h)
 within (pattern.Ack n) o came = of_body (body_outcome (pattern.Ack n) o) came (first_body w16 came) o.ended refl (λ body h. of_if _ (2 + length body) (length came) h)
 within (pattern.RegisteredX range) o came = of_answer 0x76 6 range o.ended (answer_in w32 came) (length came) (λ a e. let long = answer_within w32 came a e in omega (arith, long))
 within (pattern.RegisteredY range) o came = of_answer 0x79 4 range o.ended (answer_in w16 came) (length came) (λ a e. let long = answer_within w16 came a e in omega (arith, long))

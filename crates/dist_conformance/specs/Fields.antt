@@ -24,6 +24,10 @@ up_to most (Some n) = if nat_le n most then Some n else None
 abbrev pub number_in : ℕ → List ℕ → Option ℕ
 number_in most word = up_to most (number_32 word)
 
+-- the number behind this key, if the first word has it
+abbrev pub optional_number : List ℕ → List (List ℕ) → Read (Option ℕ)
+optional_number key words = field key (λ word. option_map Some (number_in 4294967295 word)) None words
+
 -- the word itself
 abbrev pub text_in : List ℕ → Option (List ℕ)
 text_in word = Some word

@@ -1,17 +1,16 @@
 -- THE JUDGEMENT: what it means that this came.
 use Rattle.std.specs.Prelude.{ℕ, ◌+◌, ◌==◌, Bool, true, false, not, ◌&&◌, ◌||◌, nat_le, nat_lt, if◌then◌else◌}
-use Rattle.std.specs.Prelude.{List, [], ◌∷◌, length, drop, map, Option, Some, None, is_some, option_map, unwrap_or, Result, Ok, Err}
+use Rattle.std.specs.Prelude.{List, [], ◌∷◌, length, drop, map, Option, Some, None, option_map, unwrap_or, Result, Ok}
 use Rattle.std.specs.List.{list_any, list_all, ends_with}
 use Rattle.std.specs.Int.{Width, w16, w32}
 use Rattle.dist_names.specs.Fields.{number_at}
 use Rattle.dist_names.specs.Flags.{has_all}
 use Rattle.dist_names.specs.Order.{same_name}
-use Rattle.dist_names.specs.declared.flags.Flags.{Flags}
 use Rattle.dist_frames.specs.Stream.{first_body}
 use Rattle.dist_secret.specs.Digest.{digest_of}
 use Rattle.dist_messages.specs.declared.message.Message.{Message}
 use Rattle.dist_messages.specs.declared.message.Message.TheVariants as message
-use Rattle.dist_messages.specs.declared.message.Side.TheVariants.{Acceptor}
+use Rattle.dist_messages.specs.declared.message.Side.TheVariants.{Dialler, Acceptor}
 use Rattle.dist_messages.specs.declared.message_error.MessageError.{MessageError}
 use Rattle.dist_messages.specs.Canonical.{canonical}
 use Rattle.dist_messages.specs.Reading.{read}
@@ -116,6 +115,28 @@ by_challenge which learned len (Some c) =
     if challenge_passes which c learned then outcome.Matches (record { count = 2 + len; challenge = Some c.challenge })
     else outcome.Fails deviation.Field
 
+-- ---- names and replies
+
+-- what a name of version 6 says, whose number is 0
+abbrev pub name_in : Result Message MessageError → Option ChallengeSaid
+name_in (Ok (message.NewName flags creation name)) = Some (record { flags = flags.0; challenge = 0; creation = creation.0; name = name })
+name_in other = None
+
+abbrev pub name_passes : ChallengeCheck → Option ChallengeSaid → Bool
+name_passes which None = false
+name_passes which (Some n) = challenge_passes which n []
+
+-- the challenge and the digest of a reply
+abbrev pub reply_in : Result Message MessageError → Option (ℕ × List ℕ)
+reply_in (Ok (message.Reply challenge digest)) = Some (challenge, digest)
+reply_in other = None
+
+-- a reply with this digest, where the body is one
+abbrev pub by_reply : List ℕ → ℕ → Option (ℕ × List ℕ) → PatternOutcome
+by_reply wanted len None = outcome.Fails deviation.Other
+by_reply wanted len (Some reply) =
+    if same_name reply.1 wanted then outcome.Matches (record { count = 2 + len; challenge = Some reply.0 }) else outcome.Fails deviation.Field
+
 -- ---- answers of a port mapper
 
 -- the answer to a registration: its first byte, its result, and a creation of this width
@@ -171,6 +192,8 @@ by_names which count (Some answer) =
 abbrev pub body_outcome : Pattern → Observation → List ℕ → PatternOutcome
 body_outcome (pattern.Frame front) o body = passes_if (begins_with front body) (2 + length body)
 body_outcome (pattern.Challenge which) o body = by_challenge which o.learned (length body) (challenge_in (read Acceptor body))
+body_outcome (pattern.Name which) o body = passes_if (name_passes which (name_in (read Dialler body))) (2 + length body)
+body_outcome (pattern.Reply challenge) o body = by_reply (digest_of o.cookie challenge) (length body) (reply_in (read Dialler body))
 body_outcome (pattern.Ack challenge) o body = passes_if (same_name body (canonical (message.Ack (digest_of o.cookie challenge)))) (2 + length body)
 body_outcome other o body = outcome.Open
 

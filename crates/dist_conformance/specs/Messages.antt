@@ -1,11 +1,13 @@
 -- The messages of a step `say`, as a row writes them.
-use Rattle.std.specs.Prelude.{ℕ, List, [], ◌∷◌, codes, Option, Some, None, option_map}
+use Rattle.std.specs.Prelude.{ℕ, ◌||◌, if◌then◌else◌, List, [], ◌∷◌, codes, is_ok, Option, Some, None, option_map}
 use Rattle.std.specs.Result.{result_ok}
 use Rattle.dist_names.specs.Flags.{low_half, high_half}
 use Rattle.dist_messages.specs.declared.message.Message.{Message}
 use Rattle.dist_messages.specs.declared.message.Message.TheVariants as message
-use Rattle.dist_messages.specs.declared.message.Side.TheVariants.{Dialler}
+use Rattle.dist_messages.specs.declared.message.Side.{Side}
+use Rattle.dist_messages.specs.declared.message.Side.TheVariants.{Dialler, Acceptor}
 use Rattle.dist_messages.specs.Canonical.{own_spelling}
+use Rattle.dist_messages.specs.Reading.{read}
 use Rattle.dist_epmd.specs.declared.message.NodeInfo.{NodeInfo}
 use Rattle.dist_epmd.specs.declared.message.Request.{Request}
 use Rattle.dist_epmd.specs.declared.message.Request.TheVariants as request
@@ -20,7 +22,7 @@ use Rattle.dist_conformance.specs.declared.messages.InfoNumbers.{InfoNumbers}
 use Rattle.dist_conformance.specs.Texts.{words_of}
 use Rattle.dist_conformance.specs.Terms.{Terms, own_name}
 use Rattle.dist_conformance.specs.Words.{◌>>=◌, Read, next_in, field, whole, meaning_in}
-use Rattle.dist_conformance.specs.Fields.{number_in, bytes_in, flags_said, usual_flags, name_in}
+use Rattle.dist_conformance.specs.Fields.{number_in, optional_number, bytes_in, flags_said, usual_flags, name_in}
 use Rattle.dist_conformance.specs.Saying.{edited, frame_said}
 
 -- these bytes, and the words that are left
@@ -34,28 +36,41 @@ edited_part body words =
     field (codes "extra=") bytes_in [] less.1 >>= (λ extra.
     give (frame_said (edited body less.0 extra.0)) extra.1))
 
--- the frame of a message of the handshake
-abbrev pub message_part : Message → List (List ℕ) → Read SaidPart
-message_part m words = result_ok (own_spelling Dialler m) >>= (λ body. edited_part body words)
+-- the frame of a message of this side
+abbrev pub message_part : Side → Message → List (List ℕ) → Read SaidPart
+message_part side m words = result_ok (own_spelling side m) >>= (λ body. edited_part body words)
 
 abbrev pub new_name : Terms → List (List ℕ) → Read SaidPart
 new_name t words =
     field (codes "flags=") flags_said usual_flags words >>= (λ flags.
     field (codes "creation=") (number_in 4294967295) 77 flags.1 >>= (λ creation.
     name_in (own_name t) creation.1 >>= (λ name.
-    message_part (message.NewName flags.0 (record { 0 = creation.0 }) name.0) name.1)))
+    message_part Dialler (message.NewName flags.0 (record { 0 = creation.0 }) name.0) name.1)))
 
 abbrev pub old_name : Terms → List (List ℕ) → Read SaidPart
 old_name t words =
     field (codes "flags=") flags_said usual_flags words >>= (λ flags.
     name_in (own_name t) flags.1 >>= (λ name.
-    message_part (message.OldName (low_half flags.0.0) name.0) name.1))
+    message_part Dialler (message.OldName (low_half flags.0.0) name.0) name.1))
+
+-- the frame of a status, of either side
+abbrev pub status_said : List ℕ → Option (List ℕ)
+status_said word =
+    if is_ok (read Acceptor (0x73 ∷ word)) || is_ok (read Dialler (0x73 ∷ word)) then Some (frame_said (edited (0x73 ∷ word) 0 [])) else None
+
+abbrev pub new_challenge : Terms → List (List ℕ) → Read SaidPart
+new_challenge t words =
+    field (codes "flags=") flags_said usual_flags words >>= (λ flags.
+    field (codes "challenge=") (number_in 4294967295) 123456789 flags.1 >>= (λ challenge.
+    field (codes "creation=") (number_in 4294967295) 77 challenge.1 >>= (λ creation.
+    name_in (own_name t) creation.1 >>= (λ name.
+    message_part Acceptor (message.NewChallenge flags.0 challenge.0 (record { 0 = creation.0 }) name.0) name.1))))
 
 abbrev pub complement : List (List ℕ) → Read SaidPart
 complement words =
     field (codes "flags=") flags_said usual_flags words >>= (λ flags.
     field (codes "creation=") (number_in 4294967295) 77 flags.1 >>= (λ creation.
-    message_part (message.Complement (high_half flags.0.0) (record { 0 = creation.0 })) creation.1))
+    message_part Dialler (message.Complement (high_half flags.0.0) (record { 0 = creation.0 })) creation.1))
 
 -- the words of digests
 abbrev pub digest_words : List (List ℕ × ReplyDigest)
@@ -71,6 +86,14 @@ reply words =
     field (codes "less=") (number_in 65535) 0 which.1 >>= (λ less.
     field (codes "extra=") bytes_in [] less.1 >>= (λ extra.
     Some (part.Reply (record { challenge = challenge.0; digest = which.0; less = less.0; extra = extra.0 }), extra.1)))))
+
+abbrev pub ack : List (List ℕ) → Read SaidPart
+ack words =
+    optional_number (codes "challenge=") words >>= (λ challenge.
+    field (codes "digest=") (meaning_in digest_words) digest.Right challenge.1 >>= (λ which.
+    field (codes "less=") (number_in 65535) 0 which.1 >>= (λ less.
+    field (codes "extra=") bytes_in [] less.1 >>= (λ extra.
+    Some (part.Ack (record { challenge = challenge.0; digest = which.0; less = less.0; extra = extra.0 }), extra.1)))))
 
 -- ---- the port mapper
 
@@ -118,16 +141,20 @@ lookup t words = name_in t.short words >>= (λ name. request_part (request.PortP
 
 abbrev pub message_words : List (List ℕ × MessageWord)
 message_words =
-    (codes "name", kind.Name) ∷ (codes "oldname", kind.OldName) ∷ (codes "complement", kind.Complement) ∷ (codes "reply", kind.Reply)
-    ∷ (codes "tick", kind.Tick) ∷ (codes "alive2", kind.Alive2) ∷ (codes "lookup", kind.Lookup)
+    (codes "name", kind.Name) ∷ (codes "oldname", kind.OldName) ∷ (codes "status", kind.Status) ∷ (codes "challenge", kind.Challenge)
+    ∷ (codes "complement", kind.Complement) ∷ (codes "reply", kind.Reply) ∷ (codes "ack", kind.Ack) ∷ (codes "tick", kind.Tick)
+    ∷ (codes "alive2", kind.Alive2) ∷ (codes "lookup", kind.Lookup)
     ∷ (codes "names", kind.Names) ∷ (codes "frame", kind.Frame) ∷ (codes "raw", kind.Raw) ∷ []
 
 -- a message of this kind
 abbrev pub behind_kind : Terms → MessageWord → List (List ℕ) → Read SaidPart
 behind_kind t kind.Name words = new_name t words
 behind_kind t kind.OldName words = old_name t words
+behind_kind t kind.Status words = next_in status_said words >>= (λ frame. give frame.0 frame.1)
+behind_kind t kind.Challenge words = new_challenge t words
 behind_kind t kind.Complement words = complement words
 behind_kind t kind.Reply words = reply words
+behind_kind t kind.Ack words = ack words
 behind_kind t kind.Tick words = give (0 ∷ 0 ∷ 0 ∷ 0 ∷ []) words
 behind_kind t kind.Alive2 words = registration t words
 behind_kind t kind.Lookup words = lookup t words

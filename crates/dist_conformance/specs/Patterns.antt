@@ -1,9 +1,7 @@
 -- What a row demands, as it writes it.
-use Rattle.std.specs.Prelude.{ℕ, Bool, true, false, if◌then◌else◌, List, [], ◌∷◌, ◌++◌, drop, codes, map, is_ok, Option, Some, None, option_map, Ok}
+use Rattle.std.specs.Prelude.{ℕ, Bool, true, false, if◌then◌else◌, List, [], ◌∷◌, ◌++◌, drop, codes, map, Option, Some, None, option_map, Ok}
 use Rattle.std.specs.Result.{result_ok}
 use Rattle.dist_names.specs.Order.{same_name}
-use Rattle.dist_messages.specs.declared.message.Side.TheVariants.{Acceptor}
-use Rattle.dist_messages.specs.Reading.{read}
 use Rattle.dist_epmd.specs.declared.message.Answer.TheVariants as answer
 use Rattle.dist_epmd.specs.Layout.{written_answer}
 use Rattle.dist_conformance.specs.declared.patterns.CreationRange.{CreationRange}
@@ -23,8 +21,7 @@ use Rattle.dist_conformance.specs.Terms.{Terms}
 use Rattle.dist_conformance.specs.Lists.{all_in, good}
 use Rattle.dist_conformance.specs.Words.{◌>>=◌, Read, next_in, field, value_in, whole, meaning_in}
 use Rattle.dist_conformance.specs.Fields.{number_in, text_in, bytes_in, flag_in, range_in, usual_range}
-use Rattle.dist_conformance.specs.Messages.{info}
-use Rattle.dist_conformance.specs.Saying.{edited, frame_said}
+use Rattle.dist_conformance.specs.Messages.{info, status_said}
 
 -- this pattern, and the words that are left
 abbrev pub give : Pattern → List (List ℕ) → Read Pattern
@@ -32,7 +29,7 @@ give p words = Some (p, words)
 
 -- ---- challenges
 
--- the fields of a challenge
+-- the fields of a challenge or a name
 abbrev pub check_words : List (List ℕ × CheckWord)
 check_words =
     (codes "name", key.Name) ∷ (codes "challenge", key.Challenge) ∷ (codes "creation", key.Creation) ∷ (codes "has", key.Has) ∷ []
@@ -55,7 +52,7 @@ check_of_parts other = None
 abbrev pub check_in : List ℕ → Option ChallengeCheck
 check_in word = check_of_parts (parts_of 61 word)
 
--- the check of a challenge, where there is a word
+-- the check of a challenge or a name, where there is a word
 abbrev pub challenge_check : List (List ℕ) → Read ChallengeCheck
 challenge_check [] = Some (check.Any, [])
 challenge_check (word ∷ words) = option_map (λ c. (c, words)) (check_in word)
@@ -108,16 +105,17 @@ abbrev pub looked_up : Terms → Bool → List (List ℕ) → Read Pattern
 looked_up t true words = info t words >>= (λ i. result_ok (written_answer (answer.Port (Ok i.0))) >>= (λ bytes. give (pattern.Bytes bytes) i.1))
 looked_up t false words = give (pattern.Denied 0x77 0) words
 
--- the frame of a status of the accepting side
+-- the frame of a status
 abbrev pub status_frame : List ℕ → Option Pattern
-status_frame word = if is_ok (read Acceptor (0x73 ∷ word)) then Some (pattern.Bytes (frame_said (edited (0x73 ∷ word) 0 []))) else None
+status_frame word = option_map (λ frame. pattern.Bytes frame) (status_said word)
 
 -- ---- patterns
 
 abbrev pub pattern_words : List (List ℕ × PatternWord)
 pattern_words =
     (codes "end", kind.End) ∷ (codes "silence", kind.Silence) ∷ (codes "open", kind.Open) ∷ (codes "bytes", kind.Bytes)
-    ∷ (codes "frame", kind.Frame) ∷ (codes "status", kind.Status) ∷ (codes "challenge", kind.Challenge) ∷ (codes "ack", kind.Ack)
+    ∷ (codes "frame", kind.Frame) ∷ (codes "status", kind.Status) ∷ (codes "challenge", kind.Challenge) ∷ (codes "name", kind.Name)
+    ∷ (codes "reply", kind.Reply) ∷ (codes "ack", kind.Ack)
     ∷ (codes "alive2x", kind.Alive2X) ∷ (codes "alive2y", kind.Alive2Y) ∷ (codes "port2", kind.Port2) ∷ (codes "names", kind.Names) ∷ []
 
 -- a pattern of this kind
@@ -129,6 +127,8 @@ behind_kind t kind.Bytes words = field [] bytes_in [] words >>= (λ b. give (pat
 behind_kind t kind.Frame words = field [] bytes_in [] words >>= (λ b. give (pattern.Frame b.0) b.1)
 behind_kind t kind.Status words = next_in status_frame words
 behind_kind t kind.Challenge words = challenge_check words >>= (λ c. give (pattern.Challenge c.0) c.1)
+behind_kind t kind.Name words = challenge_check words >>= (λ c. give (pattern.Name c.0) c.1)
+behind_kind t kind.Reply words = field (codes "challenge=") (number_in 4294967295) 123456789 words >>= (λ n. give (pattern.Reply n.0) n.1)
 behind_kind t kind.Ack words = field (codes "challenge=") (number_in 4294967295) 123456789 words >>= (λ n. give (pattern.Ack n.0) n.1)
 behind_kind t kind.Alive2X words = registered true words
 behind_kind t kind.Alive2Y words = registered false words

@@ -68,6 +68,10 @@ part_said conn learned cookie (part.Reply reply) = frame_said (edited
     (canonical (message.Reply reply.challenge
     (digest_said reply.digest cookie (last_challenge conn 0 learned) (first_challenge learned))))
     reply.less reply.extra)
+part_said conn learned cookie (part.Ack ack) = frame_said (edited
+    (canonical (message.Ack
+    (digest_said ack.digest cookie (unwrap_or ack.challenge (last_challenge conn 0 learned)) (first_challenge learned))))
+    ack.less ack.extra)
 
 -- so many of the bytes, where there are more than that
 abbrev pub cut_at : Option ℕ → List ℕ → Option (List ℕ)

@@ -12,20 +12,16 @@ use Rattle.dist_conformance.specs.Texts.{parts_of, words_of}
 use Rattle.dist_conformance.specs.Terms.{Terms, expanded}
 use Rattle.dist_conformance.specs.Lists.{all_in, good}
 use Rattle.dist_conformance.specs.Words.{◌>>=◌, Read, field, whole, meaning_in, begins_with}
-use Rattle.dist_conformance.specs.Fields.{number_in}
-use Rattle.dist_conformance.specs.Messages.{part_in}
+use Rattle.dist_conformance.specs.Fields.{number_in, optional_number}
+use Rattle.dist_conformance.specs.Messages.{info, part_in}
 use Rattle.dist_conformance.specs.Patterns.{demand_in}
 
 -- ---- say
 
--- where messages are cut, if they are
-abbrev pub cut_in : List (List ℕ) → Read (Option ℕ)
-cut_in words = field (codes "cut=") (λ word. option_map Some (number_in 4294967295 word)) None words
-
 -- how a saying is written
 abbrev pub saying_terms : List (List ℕ) → Read SayingTerms
 saying_terms words =
-    cut_in words >>= (λ cut.
+    optional_number (codes "cut=") words >>= (λ cut.
     field (codes "pieces=") (number_in 4294967295) 0 cut.1 >>= (λ pieces.
     field (codes "pause=") (number_in 4294967295) 0 pieces.1 >>= (λ pause.
     Some (record { cut = cut.0; pieces = pieces.0; pause = pause.0 }, pause.1))))
@@ -51,8 +47,9 @@ saying_in t text = saying_of_parts t (parts_of 44 text)
 
 abbrev pub action_words : List (List ℕ × ActionWord)
 action_words =
-    (codes "dial", kind.Dial) ∷ (codes "ask", kind.Ask) ∷ (codes "half", kind.Half) ∷ (codes "close", kind.Close) ∷ (codes "reset", kind.Reset)
-    ∷ (codes "wait ", kind.Wait) ∷ (codes "say ", kind.Say) ∷ (codes "hear ", kind.Hear) ∷ (codes "want ", kind.Want) ∷ (codes "tell ", kind.Tell) ∷ []
+    (codes "dial", kind.Dial) ∷ (codes "ask", kind.Ask) ∷ (codes "call", kind.Call) ∷ (codes "half", kind.Half) ∷ (codes "close", kind.Close)
+    ∷ (codes "reset", kind.Reset) ∷ (codes "wait ", kind.Wait) ∷ (codes "say ", kind.Say) ∷ (codes "hear ", kind.Hear)
+    ∷ (codes "want ", kind.Want) ∷ (codes "tell ", kind.Tell) ∷ []
 
 -- the first row of a table with whose word a text begins, and what stands behind that
 abbrev pub keyed_in : {K : Type 0} → List (List ℕ × K) → List ℕ → Option (K × List ℕ)
@@ -68,6 +65,7 @@ if_none (c ∷ cs) a = None
 abbrev pub behind_word : Terms → ActionWord → List ℕ → Option Action
 behind_word t kind.Dial text = if_none text action.Dial
 behind_word t kind.Ask text = if_none text action.Ask
+behind_word t kind.Call text = option_map (λ i. action.Call i) (whole (info t (words_of text)))
 behind_word t kind.Half text = if_none text action.Half
 behind_word t kind.Close text = if_none text action.Close
 behind_word t kind.Reset text = if_none text action.Reset

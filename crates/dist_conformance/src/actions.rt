@@ -2,19 +2,22 @@
 
 ghost use Rattle.std.specs.Prelude.{◌≡◌, map, option_map, drop, IfOk};
 ghost use Rattle.dist_conformance.specs.Terms.{terms_of};
+ghost use Rattle.dist_conformance.specs.Messages.{info};
 ghost use Rattle.dist_conformance.specs.Texts.{words_of};
-ghost use Rattle.dist_conformance.specs.Words.{Reads, ReadsUpTo, whole};
-ghost use Rattle.dist_conformance.specs.Steps.{cut_in, saying_terms, saying_of, saying_in, keyed_in};
+ghost use Rattle.dist_conformance.specs.Words.{Reads, whole};
+ghost use Rattle.dist_conformance.specs.Steps.{saying_terms, saying_of, saying_in, keyed_in};
 ghost use Rattle.dist_conformance.specs.Steps.{if_none, behind_word, action_in, conn_in, step_of, step_in};
 
 use crate::faults::ReadFault;
-use crate::fields::{number_field, number_of};
+use crate::fields::{number_field, number_of, optional_number};
 use crate::from_text::{FromText, all_of};
 use crate::lists::SuiteList;
+use crate::messages::info_of;
 use crate::steps::{Action, Demand, Saying, TalkStep};
 use crate::terms::{TalkTerms, expand};
 use crate::texts::{split, words_of};
 use crate::words::LineWords;
+use dist_epmd::NodeInfo;
 use dist_names::ByteString;
 use std::alloc::Global;
 
@@ -26,22 +29,12 @@ struct SayingTerms {
     pause: u32,
 }
 
-// Where messages are cut, if they are.
-fn cut_field(words: &mut LineWords<'_>) -> Result<Option<u32>, ReadFault>
-    ensures { ReadsUpTo result words.new (cut_in words.old) }
-{
-    match words.value(b"cut=") {
-        Some(value) => Ok(Some(number_of(value, u32::MAX)?)),
-        None => Ok(None),
-    }
-}
-
 fn saying_terms(alloc: Global, text: &[u8]) -> Result<SayingTerms, ReadFault>
     ensures { Reads result (whole (saying_terms (words_of text.now))) }
 {
     let words = words_of(alloc, text)?;
     let mut words = LineWords::new(&words);
-    let cut = cut_field(&mut words)?;
+    let cut = optional_number(&mut words, b"cut=")?;
     let pieces = number_field(&mut words, b"pieces=", 0, u32::MAX)?;
     let pause = number_field(&mut words, b"pause=", 0, u32::MAX)?;
     if !words.is_done() {
@@ -95,6 +88,7 @@ impl FromText for Saying {
 enum ActionWord {
     Dial,
     Ask,
+    Call,
     Half,
     Close,
     Reset,
@@ -106,9 +100,10 @@ enum ActionWord {
 }
 
 // A space stands behind the word where something has to follow.
-const ACTIONS: [(&str, ActionWord); 10] = [
+const ACTIONS: [(&str, ActionWord); 11] = [
     ("dial", ActionWord::Dial),
     ("ask", ActionWord::Ask),
+    ("call", ActionWord::Call),
     ("half", ActionWord::Half),
     ("close", ActionWord::Close),
     ("reset", ActionWord::Reset),
@@ -145,6 +140,20 @@ fn if_none(text: &[u8], action: Action) -> Result<Action, ReadFault>
     }
 }
 
+// What is registered for a call.
+fn call_of(alloc: Global, terms: &TalkTerms<'_>, text: &[u8]) -> Result<NodeInfo, ReadFault>
+    ensures { Reads result (whole (info (terms_of terms.now) (words_of text.now))) }
+{
+    let words = words_of(alloc, text)?;
+    let mut words = LineWords::new(&words);
+    let info = info_of(alloc, terms, &mut words)?;
+    if words.is_done() {
+        Ok(info)
+    } else {
+        Err(ReadFault::Bad)
+    }
+}
+
 // What stands behind the word of an action.
 fn action_behind(
     alloc: Global,
@@ -157,6 +166,7 @@ fn action_behind(
     match word {
         ActionWord::Dial => if_none(text, Action::Dial),
         ActionWord::Ask => if_none(text, Action::Ask),
+        ActionWord::Call => Ok(Action::Call(call_of(alloc, terms, text)?)),
         ActionWord::Half => if_none(text, Action::Half),
         ActionWord::Close => if_none(text, Action::Close),
         ActionWord::Reset => if_none(text, Action::Reset),

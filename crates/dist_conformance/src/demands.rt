@@ -8,20 +8,18 @@ ghost use Rattle.dist_conformance.specs.Patterns.{registered, looked_up, status_
 
 use crate::faults::ReadFault;
 use crate::fields::{
-    bytes_field, flag_of, meaning_of, meaning_word, number_field, number_of, number_word,
+    bytes_field, challenge_field, flag_of, meaning_of, meaning_word, number_of, number_word,
     range_field, range_of,
 };
 use crate::from_text::{FromText, all_of};
 use crate::lists::SuiteList;
-use crate::messages::info_of;
+use crate::messages::{info_of, status_said};
 use crate::patterns::{ChallengeCheck, NamesCheck, Pattern};
-use crate::say::put_frame;
 use crate::steps::Demand;
 use crate::terms::TalkTerms;
 use crate::texts::{split, words_of};
 use crate::words::LineWords;
 use dist_epmd::{Answer, EpmdError, encode_answer};
-use dist_messages::{Side, read_in_place};
 use dist_names::{ByteString, is_same_text};
 use std::alloc::{AllocError, Global};
 
@@ -35,6 +33,8 @@ enum PatternWord {
     Frame,
     Status,
     Challenge,
+    Name,
+    Reply,
     Ack,
     Alive2X,
     Alive2Y,
@@ -42,7 +42,7 @@ enum PatternWord {
     Names,
 }
 
-const PATTERNS: [(&str, PatternWord); 12] = [
+const PATTERNS: [(&str, PatternWord); 14] = [
     ("end", PatternWord::End),
     ("silence", PatternWord::Silence),
     ("open", PatternWord::Open),
@@ -50,6 +50,8 @@ const PATTERNS: [(&str, PatternWord); 12] = [
     ("frame", PatternWord::Frame),
     ("status", PatternWord::Status),
     ("challenge", PatternWord::Challenge),
+    ("name", PatternWord::Name),
+    ("reply", PatternWord::Reply),
     ("ack", PatternWord::Ack),
     ("alive2x", PatternWord::Alive2X),
     ("alive2y", PatternWord::Alive2Y),
@@ -57,7 +59,7 @@ const PATTERNS: [(&str, PatternWord); 12] = [
     ("names", PatternWord::Names),
 ];
 
-// The key of a field of a challenge.
+// The key of a field of a challenge or a name.
 #[derive(Clone, Copy)]
 enum CheckWord {
     Name,
@@ -103,7 +105,7 @@ fn check_behind(alloc: Global, key: &[u8], value: &[u8]) -> Result<ChallengeChec
     }
 }
 
-// What a challenge has to be: a key and a value.
+// What a challenge or a name has to be: a key and a value.
 fn check_in(alloc: Global, word: &[u8]) -> Result<ChallengeCheck, ReadFault>
     ensures { Reads result (check_in word.now) }
 {
@@ -152,18 +154,11 @@ fn names_check(alloc: Global, words: &mut LineWords<'_>) -> Result<NamesCheck, R
     }
 }
 
-// The frame of a status of the accepting side.
+// The frame of a status.
 fn status_frame(alloc: Global, word: &[u8]) -> Result<Pattern, ReadFault>
     ensures { Reads result (status_frame word.now) }
 {
-    let mut body = Vec::from_slice(alloc, b"s")?;
-    body.extend_from_slice(word)?;
-    if read_in_place(Side::Acceptor, &body).is_err() {
-        return Err(ReadFault::Bad);
-    }
-    let mut frame = Vec::new(alloc);
-    put_frame(&mut frame, &body, 0, &[])?;
-    Ok(Pattern::Bytes(ByteString::from_vec(frame)))
+    Ok(Pattern::Bytes(status_said(alloc, word)?))
 }
 
 // The answer to a lookup: a node, or none.
@@ -220,12 +215,9 @@ fn pattern_of(
         PatternWord::Frame => Ok(Pattern::Frame(bytes_field(alloc, words, b"")?)),
         PatternWord::Status => status_frame(alloc, words.word()?),
         PatternWord::Challenge => Ok(Pattern::Challenge(challenge_check(alloc, words)?)),
-        PatternWord::Ack => Ok(Pattern::Ack(number_field(
-            words,
-            b"challenge=",
-            123456789,
-            u32::MAX,
-        )?)),
+        PatternWord::Name => Ok(Pattern::Name(challenge_check(alloc, words)?)),
+        PatternWord::Reply => Ok(Pattern::Reply(challenge_field(words)?)),
+        PatternWord::Ack => Ok(Pattern::Ack(challenge_field(words)?)),
         PatternWord::Alive2X => registration_answer(alloc, true, words),
         PatternWord::Alive2Y => registration_answer(alloc, false, words),
         PatternWord::Port2 => {

@@ -3,7 +3,8 @@
 ghost use Rattle.std.specs.Prelude.{◌≡◌, ◌≤◌, [], map, codes, IfOk, MatchResult};
 ghost use Rattle.dist_conformance.specs.declared.faults.ReadFault.TheVariants.{Bad};
 ghost use Rattle.dist_conformance.specs.Words.{Reads, ReadsUpTo, next_in, field, meaning_in};
-ghost use Rattle.dist_conformance.specs.Fields.{number_32, number_in, bytes_in, repeated, usual_flags, flags_said, flag_in, range_in, usual_range, name_in};
+ghost use Rattle.dist_conformance.specs.Fields.{number_32, number_in, optional_number, bytes_in, repeated, usual_flags, flags_said, flag_in};
+ghost use Rattle.dist_conformance.specs.Fields.{range_in, usual_range, name_in};
 ghost use Rattle.dist_flags.specs.Names.{flag_named};
 ghost use Rattle.hex.specs.Hex.{decode_of};
 ghost use Rattle.std.specs.Result.{result_ok};
@@ -62,6 +63,23 @@ pub fn number_field(
         Some(value) => number_of(value, most),
         None => Ok(usual),
     }
+}
+
+/// The number behind this key, if the next word has it.
+pub fn optional_number(words: &mut LineWords<'_>, key: &[u8]) -> Result<Option<u32>, ReadFault>
+    ensures { ReadsUpTo result words.new (optional_number key.now words.old) }
+{
+    match words.value(key) {
+        Some(value) => Ok(Some(number_of(value, u32::MAX)?)),
+        None => Ok(None),
+    }
+}
+
+/// Our challenge behind `challenge=`, or the usual one.
+pub fn challenge_field(words: &mut LineWords<'_>) -> Result<u32, ReadFault>
+    ensures { ReadsUpTo result words.new (field (codes "challenge=") (number_in 4294967295) 123456789 words.old) }
+{
+    number_field(words, b"challenge=", 123456789, u32::MAX)
 }
 
 // What hexadecimal digits write.

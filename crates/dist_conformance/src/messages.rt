@@ -1,29 +1,32 @@
 //! The messages of a step `say`, as a row writes them.
 
-ghost use Rattle.std.specs.Prelude.{◌≡◌, ℕ, List, codes, Some, None, IfOk, MatchResult};
+ghost use Rattle.std.specs.Prelude.{◌≡◌, ℕ, List, codes, Some, None, is_ok, IfOk, MatchResult};
 ghost use Rattle.std.specs.Result.{result_ok};
-ghost use Rattle.dist_messages.specs.declared.message.Side.TheVariants.{Dialler};
 ghost use Rattle.dist_messages.specs.Canonical.{own_spelling};
+ghost use Rattle.dist_messages.specs.Reading.{read};
 ghost use Rattle.dist_conformance.specs.declared.faults.ReadFault.TheVariants.{Bad};
 ghost use Rattle.dist_conformance.specs.declared.steps.SaidPart.TheVariants as part;
 ghost use Rattle.dist_conformance.specs.declared.digests.ReplyDigest.TheVariants as digest;
 ghost use Rattle.dist_conformance.specs.Saying.{edited, frame_said};
 ghost use Rattle.dist_conformance.specs.Terms.{terms_of};
-ghost use Rattle.dist_conformance.specs.Words.{ReadsUpTo, field, meaning_in};
-ghost use Rattle.dist_conformance.specs.Messages.{edited_part, message_part, new_name, old_name, complement, reply, digest_words};
-ghost use Rattle.dist_conformance.specs.Messages.{info_numbers, info, request_part, registration, lookup, behind_kind, part_in};
+ghost use Rattle.dist_conformance.specs.Words.{Reads, ReadsUpTo, field, meaning_in};
+ghost use Rattle.dist_conformance.specs.Messages.{edited_part, message_part, new_name, old_name, status_said, new_challenge, complement, reply};
+ghost use Rattle.dist_conformance.specs.Messages.{ack, digest_words, info_numbers, info, request_part, registration, lookup, behind_kind, part_in};
 
 use crate::digests::ReplyDigest;
 use crate::faults::ReadFault;
-use crate::fields::{bytes_field, flags_field, meaning_of, meaning_word, name_field, number_field};
+use crate::fields::{
+    bytes_field, challenge_field, flags_field, meaning_of, meaning_word, name_field, number_field,
+    optional_number,
+};
 use crate::from_text::FromText;
 use crate::say::put_frame;
-use crate::steps::{ReplyTerms, SaidPart};
+use crate::steps::{AckTerms, ReplyTerms, SaidPart};
 use crate::terms::TalkTerms;
 use crate::texts::words_of;
 use crate::words::LineWords;
 use dist_epmd::{EpmdError, NodeInfo, Request, encode_request};
-use dist_messages::{Message, MessageError, Side, encode};
+use dist_messages::{Message, MessageError, Side, encode, read_in_place};
 use dist_names::{ByteString, Creation};
 use std::alloc::{AllocError, Global};
 
@@ -32,8 +35,11 @@ use std::alloc::{AllocError, Global};
 enum MessageWord {
     Name,
     OldName,
+    Status,
+    Challenge,
     Complement,
     Reply,
+    Ack,
     Tick,
     Alive2,
     Lookup,
@@ -42,11 +48,14 @@ enum MessageWord {
     Raw,
 }
 
-const MESSAGES: [(&str, MessageWord); 10] = [
+const MESSAGES: [(&str, MessageWord); 13] = [
     ("name", MessageWord::Name),
     ("oldname", MessageWord::OldName),
+    ("status", MessageWord::Status),
+    ("challenge", MessageWord::Challenge),
     ("complement", MessageWord::Complement),
     ("reply", MessageWord::Reply),
+    ("ack", MessageWord::Ack),
     ("tick", MessageWord::Tick),
     ("alive2", MessageWord::Alive2),
     ("lookup", MessageWord::Lookup),
@@ -86,12 +95,12 @@ fn edited_part(alloc: Global, body: &[u8], words: &mut LineWords<'_>) -> Result<
     Ok(frame_part(alloc, body, less, extra.as_slice())?)
 }
 
-// The body of a message.
-fn body_of(alloc: Global, message: &Message) -> Result<Vec<u8>, ReadFault>
-    ensures { MatchResult result (λ body. result_ok (own_spelling Dialler message.now) ≡ Some body.items)
-        (λ fault. fault ≡ Bad → result_ok (own_spelling Dialler message.now) ≡ None) }
+// The body of a message of this side.
+fn body_of(alloc: Global, side: Side, message: &Message) -> Result<Vec<u8>, ReadFault>
+    ensures { MatchResult result (λ body. result_ok (own_spelling side message.now) ≡ Some body.items)
+        (λ fault. fault ≡ Bad → result_ok (own_spelling side message.now) ≡ None) }
 {
-    match encode(alloc, Side::Dialler, message) {
+    match encode(alloc, side, message) {
         Ok(body) => Ok(body),
         Err(MessageError::NoMemory) => Err(ReadFault::NoMemory),
         Err(_) => Err(ReadFault::Bad),
@@ -100,12 +109,13 @@ fn body_of(alloc: Global, message: &Message) -> Result<Vec<u8>, ReadFault>
 
 fn message_part(
     alloc: Global,
+    side: Side,
     message: &Message,
     words: &mut LineWords<'_>,
 ) -> Result<SaidPart, ReadFault>
-    ensures { ReadsUpTo result words.new (message_part message.now words.old) }
+    ensures { ReadsUpTo result words.new (message_part side message.now words.old) }
 {
-    let body = body_of(alloc, message)?;
+    let body = body_of(alloc, side, message)?;
     edited_part(alloc, &body, words)
 }
 
@@ -125,7 +135,7 @@ fn new_name(
         creation: Creation(creation),
         name,
     };
-    message_part(alloc, &message, words)
+    message_part(alloc, Side::Dialler, &message, words)
 }
 
 fn old_name(
@@ -142,7 +152,49 @@ fn old_name(
         flags: flags.low(),
         name,
     };
-    message_part(alloc, &message, words)
+    message_part(alloc, Side::Dialler, &message, words)
+}
+
+// Whether a body is a message of this side.
+fn is_said_by(side: Side, body: &[u8]) -> bool
+    ensures { result ≡ is_ok (read side body.now) }
+{
+    read_in_place(side, body).is_ok()
+}
+
+/// The frame of a status, of either side.
+pub fn status_said(alloc: Global, word: &[u8]) -> Result<ByteString, ReadFault>
+    ensures { Reads result (status_said word.now) }
+{
+    let mut body = Vec::from_slice(alloc, b"s")?;
+    body.extend_from_slice(word)?;
+    if !is_said_by(Side::Acceptor, &body) && !is_said_by(Side::Dialler, &body) {
+        return Err(ReadFault::Bad);
+    }
+    let mut frame = Vec::new(alloc);
+    put_frame(&mut frame, &body, 0, &[])?;
+    Ok(ByteString::from_vec(frame))
+}
+
+fn new_challenge(
+    alloc: Global,
+    terms: &TalkTerms<'_>,
+    words: &mut LineWords<'_>,
+) -> Result<SaidPart, ReadFault>
+    ensures { ReadsUpTo result words.new (new_challenge (terms_of terms.now) words.old) }
+{
+    let flags = flags_field(words)?;
+    let challenge = challenge_field(words)?;
+    let creation = number_field(words, b"creation=", 77, u32::MAX)?;
+    let usual = terms.own_name(alloc)?;
+    let name = name_field(alloc, words, &usual)?;
+    let message = Message::NewChallenge {
+        flags,
+        challenge,
+        creation: Creation(creation),
+        name,
+    };
+    message_part(alloc, Side::Acceptor, &message, words)
 }
 
 fn complement(alloc: Global, words: &mut LineWords<'_>) -> Result<SaidPart, ReadFault>
@@ -154,7 +206,7 @@ fn complement(alloc: Global, words: &mut LineWords<'_>) -> Result<SaidPart, Read
         high: flags.high(),
         creation: Creation(creation),
     };
-    message_part(alloc, &message, words)
+    message_part(alloc, Side::Dialler, &message, words)
 }
 
 fn digest_field(words: &mut LineWords<'_>) -> Result<ReplyDigest, ReadFault>
@@ -169,11 +221,26 @@ fn digest_field(words: &mut LineWords<'_>) -> Result<ReplyDigest, ReadFault>
 fn reply(alloc: Global, words: &mut LineWords<'_>) -> Result<SaidPart, ReadFault>
     ensures { ReadsUpTo result words.new (reply words.old) }
 {
-    let challenge = number_field(words, b"challenge=", 123456789, u32::MAX)?;
+    let challenge = challenge_field(words)?;
     let digest = digest_field(words)?;
     let less = number_field(words, b"less=", 0, 65535)?;
     let extra = bytes_field(alloc, words, b"extra=")?;
     Ok(SaidPart::Reply(ReplyTerms {
+        challenge,
+        digest,
+        less: less as usize,
+        extra,
+    }))
+}
+
+fn ack(alloc: Global, words: &mut LineWords<'_>) -> Result<SaidPart, ReadFault>
+    ensures { ReadsUpTo result words.new (ack words.old) }
+{
+    let challenge = optional_number(words, b"challenge=")?;
+    let digest = digest_field(words)?;
+    let less = number_field(words, b"less=", 0, 65535)?;
+    let extra = bytes_field(alloc, words, b"extra=")?;
+    Ok(SaidPart::Ack(AckTerms {
         challenge,
         digest,
         less: less as usize,
@@ -275,8 +342,11 @@ fn part_of(
     match word {
         MessageWord::Name => new_name(alloc, terms, words),
         MessageWord::OldName => old_name(alloc, terms, words),
+        MessageWord::Status => Ok(SaidPart::Bytes(status_said(alloc, words.word()?)?)),
+        MessageWord::Challenge => new_challenge(alloc, terms, words),
         MessageWord::Complement => complement(alloc, words),
         MessageWord::Reply => reply(alloc, words),
+        MessageWord::Ack => ack(alloc, words),
         MessageWord::Alive2 => registration(alloc, terms, words),
         MessageWord::Lookup => lookup(alloc, terms, words),
         MessageWord::Names => request_part(alloc, &Request::Names),

@@ -8,13 +8,13 @@ ghost use Rattle.dist_names.specs.Order.{same_name};
 ghost use Rattle.dist_frames.specs.Stream.{first_body};
 ghost use Rattle.dist_secret.specs.Digest.{digest_of};
 ghost use Rattle.dist_messages.specs.declared.message.Message.TheVariants as message;
-ghost use Rattle.dist_messages.specs.declared.message.Side.TheVariants.{Acceptor};
+ghost use Rattle.dist_messages.specs.declared.message.Side.TheVariants.{Dialler, Acceptor};
 ghost use Rattle.dist_messages.specs.Canonical.{canonical};
 ghost use Rattle.dist_messages.specs.Reading.{read};
 ghost use Rattle.dist_conformance.specs.declared.outcomes.PatternOutcome.TheVariants as outcome;
 ghost use Rattle.dist_conformance.specs.Words.{begins_with};
 ghost use Rattle.dist_conformance.specs.Judging.{observation_of, passes, part_outcome, open_for, if_nothing, by_bytes, passes_if, by_body, body_outcome};
-ghost use Rattle.dist_conformance.specs.Judging.{is_in, is_fresh, challenge_in, challenge_passes, by_challenge};
+ghost use Rattle.dist_conformance.specs.Judging.{is_in, is_fresh, challenge_in, challenge_passes, by_challenge, name_in, name_passes, reply_in, by_reply};
 ghost use Rattle.dist_conformance.specs.Judging.{answer_in, by_answer, refusal, are_lines, is_line, has_line, names_pass, by_names, outcome_of};
 ghost use Rattle.dist_conformance.specs.Outcomes.{IsWithin, deviation_word, said_of, answer_of};
 
@@ -188,7 +188,7 @@ fn is_fresh(challenge: u32, learned: &[Learned]) -> bool
     learned.iter().all(|one| !is_challenge(one, challenge))
 }
 
-// A challenge of version 6.
+// A challenge of version 6, or a name, whose number is 0.
 #[derive(Clone, Copy)]
 struct ChallengeFields<'a> {
     flags: Flags,
@@ -250,6 +250,60 @@ fn challenge_outcome(check: &ChallengeCheck, body: &[u8], learned: &[Learned]) -
     })
 }
 
+// The name of version 6 that a body is.
+fn name_in(body: &[u8]) -> Option<ChallengeFields<'_>>
+    ensures { option_map said_of result ≡ name_in (read Dialler body.now) }
+{
+    match read_in_place(Side::Dialler, body) {
+        Ok(
+            MessageView::NewName {
+                flags,
+                creation,
+                name,
+            },
+        ) => Some(ChallengeFields {
+            flags,
+            challenge: 0,
+            creation,
+            name,
+        }),
+        _ => None,
+    }
+}
+
+// Whether a body is a name that is so.
+fn name_passes(check: &ChallengeCheck, body: &[u8]) -> bool
+    ensures { result ≡ name_passes check.now (name_in (read Dialler body.now)) }
+{
+    match name_in(body) {
+        Some(fields) => challenge_passes(check, fields, &[]),
+        None => false,
+    }
+}
+
+// What a body means where a reply to our challenge is awaited.
+fn reply_outcome(body: &[u8], cookie: &Cookie, challenge: u32) -> PatternOutcome
+    ensures { result ≡ by_reply (digest_of cookie.now challenge) (length body.now) (reply_in (read Dialler body.now)) }
+{
+    match read_in_place(Side::Dialler, body) {
+        Ok(
+            MessageView::Reply {
+                challenge: of_node,
+                digest: came,
+            },
+        ) => {
+            if !is_same_text(&came, &digest(cookie, challenge)) {
+                return PatternOutcome::Fails(Deviation::Field);
+            }
+            PatternOutcome::Matches(Passage {
+                count: 2 + body.len(),
+                challenge: Some(of_node),
+            })
+        }
+        _ => PatternOutcome::Fails(Deviation::Other),
+    }
+}
+
 // Whether a body is the acknowledgement of our challenge.
 fn is_ack(body: &[u8], cookie: &Cookie, challenge: u32) -> bool
     ensures { result ≡ same_name body.now (canonical (message.Ack (digest_of cookie.now challenge))) }
@@ -272,6 +326,8 @@ fn body_outcome(pattern: &Pattern, observed: &Observed<'_>, body: &[u8]) -> Patt
             )
         }
         Pattern::Challenge(check) => challenge_outcome(check, body, observed.learned),
+        Pattern::Name(check) => passes_if(name_passes(check, body), 2 + body.len()),
+        Pattern::Reply(challenge) => reply_outcome(body, observed.cookie, *challenge),
         Pattern::Ack(challenge) => passes_if(
             is_ack(body, observed.cookie, *challenge),
             2 + body.len(),

@@ -9,7 +9,7 @@ pub struct CreationRange {
     pub highest: u32,
 }
 
-/// What a challenge has to be, beside that it is one.
+/// What a challenge or a name has to be, beside that it is one.
 #[derive(Drop)]
 pub enum ChallengeCheck {
     /// Any will do.
@@ -48,6 +48,8 @@ pub enum NamesCheck {
 /// | `frame BYTES` | a frame of the handshake whose body begins with these bytes |
 /// | `status WORD` | the frame of this status |
 /// | `challenge` | the frame of a challenge of version 6: `name=NAME`, `challenge=fresh`, `creation=LOW-HIGH` or `has=FLAG` |
+/// | `name` | the frame of a name of version 6: `name=NAME`, `creation=LOW-HIGH` or `has=FLAG` |
+/// | `reply` | the frame of a reply to our challenge, 123456789 or `challenge=N`, by the cookie |
 /// | `ack` | the frame of the acknowledgement of our challenge, 123456789 or `challenge=N`, by the cookie |
 /// | `alive2x ok`, `alive2y ok` | an answer to a registration: result 0, and a creation of 4 or of 2 bytes that is not 0, or `creation=LOW-HIGH` |
 /// | `alive2x refused`, `alive2y refused` | the same with another result, and any creation |
@@ -70,6 +72,10 @@ pub enum Pattern {
     Frame(ByteString),
     /// `challenge`.
     Challenge(ChallengeCheck),
+    /// `name`.
+    Name(ChallengeCheck),
+    /// `reply`, with our challenge.
+    Reply(u32),
     /// `ack`, with our challenge.
     Ack(u32),
     /// `alive2x ok`.

@@ -6,8 +6,8 @@ ghost use Rattle.dist_messages.specs.Canonical.{canonical};
 ghost use Rattle.dist_conformance.specs.Saying.{edited, frame_said, last_challenge, first_challenge, part_said, cut_at, bytes_said};
 
 use crate::digests::digest_to_say;
-use crate::steps::{ReplyTerms, SaidPart, Saying};
-use dist_messages::put_reply;
+use crate::steps::{AckTerms, ReplyTerms, SaidPart, Saying};
+use dist_messages::{put_ack, put_reply};
 use dist_secret::Cookie;
 use std::alloc::{AllocError, Global};
 
@@ -75,6 +75,20 @@ fn put_reply_said(
     put_frame(bytes, &body, reply.less, reply.extra.as_slice())
 }
 
+fn put_ack_said(
+    alloc: Global,
+    bytes: &mut Vec<u8>,
+    ack: &AckTerms,
+    digest: [u8; 16],
+) -> Result<(), AllocError>
+    ensures { let body = canonical (message.Ack digest) in
+        OnOk result (bytes.new.items ≡ bytes.old.items ++ frame_said (edited body ack.now.less ack.now.extra)) }
+{
+    let mut body = Vec::new(alloc);
+    put_ack(&mut body, &digest)?;
+    put_frame(bytes, &body, ack.less, ack.extra.as_slice())
+}
+
 // Appends one message.
 fn put_part(
     alloc: Global,
@@ -92,6 +106,11 @@ fn put_part(
             let challenge = last_challenge(conn, learned);
             let digest = digest_to_say(reply.digest, cookie, challenge, first_challenge(learned));
             put_reply_said(alloc, bytes, reply, digest)
+        }
+        SaidPart::Ack(ack) => {
+            let challenge = ack.challenge.unwrap_or(last_challenge(conn, learned));
+            let digest = digest_to_say(ack.digest, cookie, challenge, first_challenge(learned));
+            put_ack_said(alloc, bytes, ack, digest)
         }
     }
 }

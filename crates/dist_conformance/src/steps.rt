@@ -3,6 +3,7 @@
 use crate::digests::ReplyDigest;
 use crate::lists::SuiteList;
 use crate::patterns::Pattern;
+use dist_epmd::NodeInfo;
 use dist_names::ByteString;
 
 /// What a reply says, but for what the node says before it.
@@ -18,14 +19,30 @@ pub struct ReplyTerms {
     pub extra: ByteString,
 }
 
+/// What an acknowledgement says.
+#[derive(Drop)]
+pub struct AckTerms {
+    /// The challenge that its digest is of, if not the one that came last on the connection.
+    pub challenge: Option<u32>,
+    /// Which digest it has.
+    pub digest: ReplyDigest,
+    /// How many of its last bytes are left out.
+    pub less: usize,
+    /// What stands behind it in its frame.
+    pub extra: ByteString,
+}
+
 /// One message of a step `say`. In rows it is one of the words in the first column, and fields in this order, each of which may be left out.
 ///
 /// | Word | Fields | Says |
 /// |---|---|---|
 /// | `name` | `flags=` `creation=` `name=` or `namehex=` `less=` `extra=` | a name of version 6 |
 /// | `oldname` | the same without a creation | a name of version 5 |
+/// | `status` | WORD | a status, of either side |
+/// | `challenge` | `flags=` `challenge=` `creation=` `name=` or `namehex=` `less=` `extra=` | a challenge of version 6 |
 /// | `complement` | `flags=` `creation=` `less=` `extra=` | what an old name left out |
 /// | `reply` | `challenge=` `digest=` `less=` `extra=` | a reply to the challenge that came last on the connection |
+/// | `ack` | `challenge=` `digest=` `less=` `extra=` | an acknowledgement of the challenge that came last on the connection, or of this one |
 /// | `tick` | | a tick |
 /// | `alive2` | `port=` `type=` `protocol=` `high=` `low=` `name=` or `namehex=` `extra=` | a registration |
 /// | `lookup` | `name=` or `namehex=` | a lookup |
@@ -43,6 +60,8 @@ pub enum SaidPart {
     Bytes(ByteString),
     /// A reply.
     Reply(ReplyTerms),
+    /// An acknowledgement.
+    Ack(AckTerms),
 }
 
 /// A step `say MESSAGE + MESSAGE.., cut=N pieces=N pause=MS`: what is written on a connection, and how.
@@ -74,6 +93,9 @@ pub enum Action {
     Dial,
     /// `ask`: a connection to the port mapper.
     Ask,
+    /// `call`, and fields of `alive2`: this is registered at the node's port mapper, with a port of our own, the node is made to dial
+    /// it, and its connection is taken. A name that a talk has registered stays so for its other calls.
+    Call(NodeInfo),
     /// `half`: our writing ends.
     Half,
     /// `close`: the connection is closed.

@@ -9,7 +9,6 @@ ghost use Rattle.dist_names.specs.Answer.{AnswersName};
 use crate::front::front_numbers;
 use crate::name_error::NameError;
 use crate::plain::{are_visible, host_part, is_same_text, short_part};
-use smallvec::SmallVec;
 use std::alloc::{AllocError, Global};
 use std::marker::Model;
 use std::sync::Arc;
@@ -21,7 +20,7 @@ use std::sync::Arc;
 pub struct NodeName {
     // The first 32 bytes as numbers, which decide most comparisons without a look at the text.
     fronts: (u64, u64, u64, u64),
-    text: Arc<SmallVec<u8, 32>>,
+    text: Arc<Vec<u8>>,
 }
 
 impl Model for NodeName {
@@ -86,7 +85,7 @@ impl NodeName {
         requires { IsNodeName bytes.now }
         ensures { IfOk result (λ name. name ≡ bytes.now) }
     {
-        let text = SmallVec::from_slice(alloc, bytes)?;
+        let text = Vec::from_slice(alloc, bytes)?;
         Ok(NodeName {
             fronts: front_numbers(bytes),
             text: Arc::new(alloc, text)?,

@@ -6,3 +6,6 @@ pub mod Worlds
 pub mod Steps
 pub mod Pages
 pub mod Faults
+pub mod Printing
+pub mod Finding
+pub mod Pairing

@@ -4,7 +4,7 @@ use Rattle.std.specs.Io.KnownBytes.{Consumes, IsAtEnd}
 use Rattle.std.proofs.lemmas.Bool.{le-ltb}
 use Rattle.std.proofs.lemmas.List.{at_drop_more, at_drop_all}
 use Rattle.dist_script.specs.declared.script.ScriptLine.{ScriptLine}
-use Rattle.dist_script_lines.specs.Lines.{table_text}
+use Rattle.dist_script_play.specs.Lines.{table_text}
 use Rattle.dist_core_setup.specs.declared.setup.Setup.{Setup}
 use Rattle.dist_script_play.specs.Played.{Standing, line_text, after_line, lines_text, at_first, IsPrinted, fault_said, fault_in}
 use Rattle.dist_script.specs.Fault.{status_of}

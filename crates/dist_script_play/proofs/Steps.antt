@@ -6,7 +6,7 @@ use Rattle.dist_core.specs.declared.step_error.StepError.{StepError}
 use Rattle.dist_core.specs.declared.step_error.StepError.TheVariants as error
 use Rattle.dist_core.specs.Node.{NodeState}
 use Rattle.dist_core.specs.Answers.{Refuses}
-use Rattle.dist_script_lines.specs.Lines.{refused_line, reply_line}
+use Rattle.dist_script_play.specs.Lines.{refused_line, reply_line}
 use Rattle.dist_script_play.specs.Played.{Standing, step_text, reply_in, after_step, open_readers}
 
 -- where memory suffices, a refusal is the definition's

@@ -6,8 +6,8 @@ use Rattle.dist_core_setup.specs.declared.setup.Setup.{Setup}
 use Rattle.dist_world_model.specs.declared.happening.Happening.{Happening}
 use Rattle.dist_world_model.specs.World.{World, empty}
 use Rattle.dist_world_model.specs.Run.{run, count_applied}
-use Rattle.dist_script_lines.specs.Lines.{applied_line}
-use Rattle.dist_script_lines.specs.Worlds.{nodes_text, PutsAgreements}
+use Rattle.dist_script_play.specs.Lines.{applied_line}
+use Rattle.dist_script_play.specs.Worlds.{nodes_text, PutsAgreements}
 use Rattle.dist_script.specs.Texts.{PutsFront}
 use Rattle.dist_script.specs.declared.fault.ScriptFault.{ScriptFault}
 use Rattle.dist_script.specs.declared.fault.ScriptFault.TheVariants.{WriteFailed, NoMemory}

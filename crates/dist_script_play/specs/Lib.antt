@@ -1,3 +1,6 @@
 pub mod Played
 pub mod Pages
 pub mod Scenes
+pub mod Lines
+pub mod Worlds
+pub mod Later

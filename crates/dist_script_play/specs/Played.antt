@@ -1,4 +1,4 @@
--- WHAT A SCRIPT PRINTS. docs/RUNNING.md has the language of scripts, and what they print; the lines are those of dist_script_lines.
+-- WHAT A SCRIPT PRINTS. docs/RUNNING.md has the language of scripts, and what they print; the lines are those of Lines and Worlds.
 use Rattle.std.specs.Prelude.{◌≡◌, ◌⊎◌, ℕ, zero, suc, ◌-◌, Bool, true, false, nat_lt, if◌then◌else◌, List, [], ◌∷◌, ◌++◌, length, codes}
 use Rattle.std.specs.Prelude.{get_or, set, replicate, is_some, Option, Some, None, Result, Ok, Err, slice_get}
 use Rattle.std.specs.Io.{StartsWith}
@@ -28,8 +28,8 @@ use Rattle.dist_script.specs.declared.script.ScriptLine.{ScriptLine}
 use Rattle.dist_script.specs.declared.script.ScriptLine.TheVariants as line
 use Rattle.dist_script.specs.Scripts.{Says, script_in}
 use Rattle.dist_script.specs.Scripts.Says.{Events, Happenings}
-use Rattle.dist_script_lines.specs.Lines.{reply_line, refused_line, skipped_line, table_text, closed_line, applied_line}
-use Rattle.dist_script_lines.specs.Worlds.{nodes_text, AreAgreements}
+use Rattle.dist_script_play.specs.Lines.{reply_line, refused_line, skipped_line, table_text, closed_line, applied_line}
+use Rattle.dist_script_play.specs.Worlds.{nodes_text, AreAgreements}
 
 -- ---- what the ends of a node have received
 

@@ -7,7 +7,7 @@ ghost use Rattle.dist_script.specs.Texts.{PutsFront};
 ghost use Rattle.dist_script.specs.declared.fault.ScriptFault.{ScriptFault as Fault};
 ghost use Rattle.dist_world_model.specs.World.{empty};
 ghost use Rattle.dist_world.specs.Setups.{names_repeat};
-ghost use Rattle.dist_script_lines.specs.Lines.{table_text};
+ghost use Rattle.dist_script_play.specs.Lines.{table_text};
 ghost use Rattle.dist_script_play.specs.Played.{at_first, line_text, after_line, lines_text, IsPrintedFrom};
 ghost use Rattle.dist_script_play.specs.Pages.{Puts, PutsPart, BreaksOff};
 ghost use Rattle.dist_script_play.specs.Scenes.{PutsOne, Plays, IsBad, IsCut, Stops, StopsWorld};

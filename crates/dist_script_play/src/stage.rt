@@ -10,9 +10,9 @@ ghost use Rattle.dist_script_play.specs.Pages.{Puts, PutsPart};
 ghost use Rattle.dist_script_play.specs.Scenes.{closed_after, PutsOne, PutsOneOn, PutsOnePart};
 
 use crate::page::{Printout, on_page};
+use crate::{print, print_agreements, print_nodes};
 use dist_core::Setup;
 use dist_script::{ScriptFault, or_write_failed};
-use dist_script_lines::{print, print_agreements, print_nodes};
 use dist_world::{Happening, World, WorldError};
 use std::alloc::Global;
 use std::io::Write;

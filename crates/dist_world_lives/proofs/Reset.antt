@@ -1,11 +1,13 @@
 -- What a change of an incarnation's setup does to the list.
-use Rattle.std.proofs.Common.{◌≡◌, ℕ, ◌<◌, Bool, true, false, List, length, get_or, slice_get, Option, Some, Result, Ok, Err, refl, ap, sym, ◌∙◌, subst}
+use Rattle.std.proofs.Common.{◌≡◌, ℕ, ◌<◌, ◌≤◌, Bool, true, false, List, length, get_or, slice_get, Option, Some, None, Result, Ok, Err, refl, ap, sym, ◌∙◌, subst}
 use Rattle.dist_world_model.proofs.Words.{Change, NodeState, Life, running, with_node}
 use Rattle.std.proofs.Math.ListN.{set}
+use Rattle.std.proofs.lemmas.Option.{slice_get_past}
 use Rattle.std.specs.declared.alloc.AllocError.{AllocError}
 use Rattle.dist_core.specs.Changing.{IsChange, change}
 use Rattle.dist_core.specs.declared.changing.ChangeError.{ChangeError}
 use Rattle.dist_core.specs.declared.changing.ChangeError.TheVariants as error
+use Rattle.dist_world_model.specs.Happenings.{◌>>=◌}
 use Rattle.dist_world_model.proofs.Conditions.{there, is_refused}
 use Rattle.dist_world_lives.specs.Index.{IsIndexed}
 use Rattle.dist_world_lives.specs.Resetting.{Forbids, HasReset, Resets, is_reset_memory_error}
@@ -22,6 +24,14 @@ stays e s old new h = h.1
 refused : (e : ChangeError) (s : Result NodeState ChangeError) (old new : NodeState) → is_reset_memory_error e ≡ false → IsChange {T = Unit {0}} (Err e) s old new → s ≡ Err e
 refused error.NoMemory s old new n h = absurd cc
 refused e s old new n h = h.0
+
+nothing_after : {A B : Type 0} (o : Option A) (f : A → Option B) → o ≡ None → (o >>= f) ≡ None
+nothing_after o f is = ap (λ p. p >>= f) is
+
+-- no incarnation stands there
+pub forbids_past : (lives : List Life) (i : ℕ) (v : Change) → length lives ≤ i → Forbids lives i v
+forbids_past lives i v past = λ w node same place.
+    there (running w node) i _ place ∙ nothing_after (slice_get w.lives i) _ (of_world lives w i None same (slice_get_past lives i past))
 
 -- ---- an incarnation among all
 

@@ -9,6 +9,7 @@ fault_status (fault.NoHost error) = 3
 fault_status fault.NoMapper = 3
 fault_status (fault.NotFound error) = 3
 fault_status fault.NoNode = 3
+fault_status fault.NoOrders = 3
 fault_status (fault.Gone talk) = 3
 fault_status fault.NoDescriptors = 4
 fault_status fault.NoTime = 4

@@ -19,6 +19,8 @@ pub struct CheckOrder<'a> {
     pub mapper_port: u16,
     /// The host and the port of the port mapper that is checked.
     pub mapper: Option<(&'a str, u16)>,
+    /// The host and the port at which orders to dial are taken.
+    pub make_it_dial: Option<(&'a str, u16)>,
     /// The cookie's file, if it is not that of the home folder.
     pub cookie_file: Option<&'a str>,
     /// Whether the file is read even if others than its owner may use it.
@@ -71,10 +73,11 @@ const PROGRAM: &str = "distcheck";
 const SWITCHES: [&str; 6] = ["cookie-unsafe", "list", "quick", "harsh", "strict", "json"];
 
 // The options that take a value.
-const VALUES: [&str; 7] = [
+const VALUES: [&str; 8] = [
     "epmd-port",
     "port",
     "mapper",
+    "make-it-dial",
     "explain",
     "only",
     "tag",
@@ -159,13 +162,20 @@ fn host_and_port(word: &str) -> Option<(&str, u16)> {
     }
 }
 
-// The port mapper that is checked, if one is.
-fn mapper_in<'a>(alloc: Global, matches: &ArgMatches<'a>) -> Result<Option<(&'a str, u16)>, Fault> {
-    let Some(word) = matches.get_str("mapper") else {
+// The place that this option names, if it is given.
+fn place_in<'a>(
+    alloc: Global,
+    matches: &ArgMatches<'a>,
+    id: &str,
+) -> Result<Option<(&'a str, u16)>, Fault> {
+    let Some(word) = matches.get_str(id) else {
         return Ok(None);
     };
     match host_and_port(word) {
-        None => Err(refusal(with_word(alloc, "--mapper takes HOST:PORT: ", word))),
+        None => {
+            let front = format!(in alloc; "--{id} takes HOST:PORT: ")?;
+            Err(refusal(with_word(alloc, &front, word)))
+        }
         place => Ok(place),
     }
 }
@@ -190,7 +200,8 @@ fn order_in<'a>(
         node: node_in(alloc, matches)?,
         port: port_in(alloc, matches, "port")?,
         mapper_port: port_in(alloc, matches, "epmd-port")?.unwrap_or(usual_port),
-        mapper: mapper_in(alloc, matches)?,
+        mapper: place_in(alloc, matches, "mapper")?,
+        make_it_dial: place_in(alloc, matches, "make-it-dial")?,
         cookie_file: matches.get_str(COOKIE),
         is_unsafe: matches.get_flag("cookie-unsafe"),
         rows: matches.get_str("rows"),

@@ -41,6 +41,8 @@ pub enum Fault {
     NotFound(LookupError),
     /// The node's port was not reached.
     NoNode,
+    /// Whoever makes the node dial was not reached.
+    NoOrders,
     /// From this talk on nobody took a connection any more.
     Gone(String),
     /// The system had no descriptor left.
@@ -64,6 +66,7 @@ impl Fault {
             | Fault::NoMapper
             | Fault::NotFound(_)
             | Fault::NoNode
+            | Fault::NoOrders
             | Fault::Gone(_) => 3,
             Fault::NoDescriptors | Fault::NoTime | Fault::WriteFailed | Fault::NoMemory => 4,
             _ => 2,
@@ -87,6 +90,7 @@ impl Fault {
             Fault::NoMapper => "ConnectFailed: the port mapper",
             Fault::NotFound(error) => error.name(),
             Fault::NoNode => "ConnectFailed: the node",
+            Fault::NoOrders => "ConnectFailed: nobody makes the node dial (bin/make_it_dial)",
             Fault::Gone(_) => "ConnectFailed: nobody takes connections any more",
             Fault::NoDescriptors => "NoDescriptors",
             Fault::NoTime => "ReadFailed: the system's clock",

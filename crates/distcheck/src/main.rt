@@ -5,6 +5,7 @@
 //! several talks at once, and prints.
 #![tactic(auto)]
 
+mod calls;
 mod command;
 mod cookie;
 mod explaining;
@@ -34,7 +35,7 @@ use objects::objects_of;
 use output::print;
 use playing::Setting;
 use queue::queue_of;
-use reaching::{find_mapper, find_node};
+use reaching::{find_call, find_mapper, find_node};
 use report::report_of;
 use results::{results_of, rows_of};
 use running::{PlayedTalk, run_talks};
@@ -45,7 +46,7 @@ use suite::{SuiteFile, read_suite};
 /// The help.
 const HELP: &str =
     "usage: distcheck NODE [--cookie FILE] [--cookie-unsafe] [--epmd-port N] [--port N] [--mapper HOST:PORT]
-                 [--quick] [--harsh] [--strict] [--only ID,..] [--tag WORD] [--rows FOLDER] [--json]
+                 [--make-it-dial HOST:PORT] [--quick] [--harsh] [--strict] [--only ID,..] [--tag WORD] [--rows FOLDER] [--json]
        distcheck --mapper HOST:PORT [the same]
        distcheck --list | --explain ID [--rows FOLDER]
        distcheck --help | --version
@@ -53,22 +54,23 @@ const HELP: &str =
 Plays a conformance suite against a live Erlang node, a port mapper, or both: dials it some hundred times, says what the distribution
 protocol allows and what it forbids, and reports each row whose answer is not what the protocol wants.
 
-  NODE               the node to check, NAME@HOST
-  --cookie FILE      the file of the cookie ($HOME/.erlang.cookie)
-  --cookie-file FILE the same
-  --cookie-unsafe    take a cookie's file that others than its owner can read
-  --epmd-port N      the port of the node's port mapper (ERL_EPMD_PORT, else 4369)
-  --port N           the node's port: the port mapper is not asked
-  --mapper HOST:PORT the port mapper to check; names are registered there, and garbage is sent
-  --quick            leave out slow rows
-  --harsh            play rows too that can end a fragile node
-  --strict           every level counts, and so does what is loose
-  --only ID,..       play these rows alone: their ids, those of talks, or numbers of sections
-  --tag WORD         a word in the names that this run gives itself, for two runs at once
-  --rows FOLDER      the folder of the rows (share/distcheck beside the program's)
-  --json             a JSON object for each talk, and one for all, in place of the lines
-  --list             print the rows
-  --explain ID       print all that is known of a row
+  NODE                     the node to check, NAME@HOST
+  --cookie FILE            the file of the cookie ($HOME/.erlang.cookie)
+  --cookie-file FILE       the same
+  --cookie-unsafe          take a cookie's file that others than its owner can read
+  --epmd-port N            the port of the node's port mapper (ERL_EPMD_PORT, else 4369)
+  --port N                 the node's port: the port mapper is not asked
+  --mapper HOST:PORT       the port mapper to check; names are registered there, and garbage is sent
+  --make-it-dial HOST:PORT who makes the node dial; rows of its dials are played too, under names that are registered at its port mapper
+  --quick                  leave out slow rows
+  --harsh                  play rows too that can end a fragile node
+  --strict                 every level counts, and so does what is loose
+  --only ID,..             play these rows alone: their ids, those of talks, or numbers of sections
+  --tag WORD               a word in the names that this run gives itself, for two runs at once
+  --rows FOLDER            the folder of the rows (share/distcheck beside the program's)
+  --json                   a JSON object for each talk, and one for all, in place of the lines
+  --list                   print the rows
+  --explain ID             print all that is known of a row
   --help, --version
 
 Status: 0 no must deviates, 1 one does, 2 a bad command line, cookie or row, 3 the node or port mapper is not reached, or is gone, 4 a fault
@@ -157,10 +159,12 @@ fn check<R: Resolving + Sync>(
     suite: &[SuiteFile],
 ) -> Result<u8, Fault> {
     let cookie = cookie_for(rt, order)?;
+    let node = find_node(rt, resolver, order)?;
     let setting = Setting {
         rt,
-        node: find_node(rt, resolver, order)?,
+        node,
         mapper: find_mapper(rt, resolver, order)?,
+        call: find_call(rt, resolver, order, node)?,
         cookie: &cookie,
     };
     let queue = queue_of(suite, order, &setting)?;

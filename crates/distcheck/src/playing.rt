@@ -3,6 +3,7 @@
 ghost use Rattle.std.specs.Prelude.{◌≡◌};
 ghost use Rattle.distcheck.specs.Deciding.{verdict_at};
 
+use crate::calls::{CallPlaces, OpenCall};
 use crate::fault::Fault;
 use crate::talk_link::TalkLink;
 use crate::transcript::{Speaker, TranscriptLine, digits_of};
@@ -11,6 +12,7 @@ use dist_conformance::{
     Action, Demand, Judgement, Learned, Level, Passage, RowTalk, Saying, SuiteRow, TalkStep,
     TalkVerdict, bytes_to_say,
 };
+use dist_epmd::NodeInfo;
 use dist_secret::Cookie;
 use std::alloc::Global;
 use std::io::{self, ErrorKind};
@@ -32,6 +34,8 @@ pub struct Setting<'a> {
     pub node: Option<SocketAddr>,
     /// The port mapper's address, if one is checked.
     pub mapper: Option<SocketAddr>,
+    /// How the node is made to dial, if it is.
+    pub call: Option<CallPlaces<'a>>,
     /// The cookie.
     pub cookie: &'a Cookie,
 }
@@ -65,6 +69,7 @@ struct TalkPlay<'a> {
     // How many milliseconds a demand waits.
     limit: u32,
     links: Vec<TalkLink>,
+    call: Option<OpenCall>,
     learned: Vec<Learned>,
     record: TalkRecord<'a>,
 }
@@ -87,6 +92,7 @@ impl<'a> TalkPlay<'a> {
             start: now(setting.rt)?,
             limit,
             links: Vec::new(alloc),
+            call: None,
             learned: Vec::new(alloc),
             record,
         })
@@ -149,6 +155,29 @@ impl<'a> TalkPlay<'a> {
             sleep(self.setting.rt, Duration::from_millis(PAUSE));
         }
         self.halt(TalkVerdict::Blocked, "no connection was taken")
+    }
+
+    // Has the node dial what is registered, and takes its connection.
+    fn call(&mut self, conn: u8, info: &NodeInfo) -> Result<Halt, Fault> {
+        let rt = self.setting.rt;
+        let Some(places) = self.setting.call else {
+            return self.halt(TalkVerdict::Skipped, "nobody makes the node dial");
+        };
+        if self.call.is_none() {
+            self.call = OpenCall::open(rt, &places, info)?;
+        }
+        let Some(call) = &mut self.call else {
+            return self.halt(TalkVerdict::Blocked, "the talk's name is not registered");
+        };
+        if !call.order_dial(rt, &places, info.name.as_slice())? {
+            return self.halt(TalkVerdict::Blocked, "nobody takes orders to dial");
+        }
+        let Some(link) = call.accept(self.alloc, conn, self.limit) else {
+            return self.halt(TalkVerdict::Blocked, "the node does not dial");
+        };
+        self.links.push(link)?;
+        self.note(conn, Speaker::Peer, b"", "connects")?;
+        Ok(None)
     }
 
     // Says something.
@@ -262,6 +291,7 @@ impl<'a> TalkPlay<'a> {
         match &step.action {
             Action::Dial => self.connect(step.conn, self.setting.node),
             Action::Ask => self.connect(step.conn, self.setting.mapper),
+            Action::Call(info) => self.call(step.conn, info),
             Action::Wait(time) => {
                 sleep(self.setting.rt, Duration::from_millis(u64::from(*time)));
                 Ok(None)

@@ -3,7 +3,7 @@
 use crate::command::CheckOrder;
 use crate::playing::Setting;
 use crate::suite::SuiteFile;
-use dist_conformance::{Marks, RowTalk, Section, SectionKind, SuiteRow};
+use dist_conformance::{Action, Marks, RowTalk, Section, SectionKind, SuiteRow};
 use dist_names::number_in;
 use std::alloc::AllocError;
 
@@ -54,12 +54,41 @@ fn lane_of(marks: &Marks, order: &CheckOrder<'_>) -> Lane {
     }
 }
 
+// Whether the node has to dial in a talk.
+fn has_call(talk: &RowTalk) -> bool {
+    talk.steps
+        .as_slice()
+        .iter()
+        .any(|step| matches!(step.action, Action::Call(_)))
+}
+
+// Whether the node's name stands between those of talks, so that they are lesser where they begin with `0c`, and greater with `zz`.
+fn is_between(order: &CheckOrder<'_>) -> bool {
+    match &order.node {
+        Some((node, _)) => node.bytes() > b"0d".as_slice() && node.bytes() < b"zz".as_slice(),
+        None => false,
+    }
+}
+
+// Beside which others a talk of a row is played that is played in this lane, unless the node has to dial in it and cannot be made to.
+fn lane_of_talk(talk: &RowTalk, lane: Lane, order: &CheckOrder<'_>) -> Lane {
+    if !has_call(talk) {
+        lane
+    } else if order.make_it_dial.is_none() {
+        Lane::Skipped("nobody makes the node dial (--make-it-dial)")
+    } else if is_between(order) {
+        lane
+    } else {
+        Lane::Skipped("the node's name does not sort between 0d and zz")
+    }
+}
+
 // Whether there is somebody to play the rows of a section with.
 fn has_partner(section: &Section, setting: &Setting<'_>) -> bool {
     match section.kind {
-        SectionKind::Accepts | SectionKind::Both => setting.node.is_some(),
+        SectionKind::Accepts | SectionKind::Dials | SectionKind::Both => setting.node.is_some(),
         SectionKind::Mapper => setting.mapper.is_some(),
-        SectionKind::Dials | SectionKind::Registers => false,
+        SectionKind::Registers => false,
     }
 }
 
@@ -90,7 +119,7 @@ fn push_row<'a>(
                 file,
                 row,
                 talk,
-                lane,
+                lane: lane_of_talk(talk, lane, order),
             })?;
         }
     }

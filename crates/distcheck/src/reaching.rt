@@ -1,5 +1,6 @@
-//! Finds the node, and the port mapper that is checked.
+//! Finds the node, the port mapper that is checked, and whoever makes the node dial.
 
+use crate::calls::CallPlaces;
 use crate::command::CheckOrder;
 use crate::fault::Fault;
 use dist_epmd_calls::{LookupError, lookup};
@@ -9,11 +10,11 @@ use dist_stream::connect_by;
 use std::net::SocketAddr;
 use std::time::{Duration, Instant};
 
-/// The most reads and writes of a lookup, if its time is not over before.
-const TURNS: usize = 4096;
+/// The most reads and writes of a call of the port mapper, if its time is not over before.
+pub const TURNS: usize = 4096;
 
-// When a connect or a lookup that begins now has to be done.
-fn deadline(rt: &HostRuntime) -> Result<Instant, Fault> {
+/// When a connect, or a call of the port mapper, that begins now has to be done.
+pub fn deadline(rt: &HostRuntime) -> Result<Instant, Fault> {
     deadline_in(rt, CONNECT_SECONDS).map_err(|_| Fault::NoTime)
 }
 
@@ -89,6 +90,23 @@ pub fn find_node<R: Resolving>(
     Err(last)
 }
 
+// The first address of this host at which somebody takes connections at this port.
+fn open_place<R: Resolving>(
+    rt: &HostRuntime,
+    resolver: &R,
+    host: &str,
+    port: u16,
+) -> Result<Option<SocketAddr>, Fault> {
+    let addresses = addresses_of(rt, resolver, host)?;
+    for address in &addresses {
+        let place = at_port(address, port);
+        if is_open(rt, &place)? {
+            return Ok(Some(place));
+        }
+    }
+    Ok(None)
+}
+
 /// Where the port mapper listens, if one is checked: at the first address of its host at which somebody takes connections.
 pub fn find_mapper<R: Resolving>(
     rt: &HostRuntime,
@@ -98,12 +116,29 @@ pub fn find_mapper<R: Resolving>(
     let Some((host, port)) = order.mapper else {
         return Ok(None);
     };
-    let addresses = addresses_of(rt, resolver, host)?;
-    for address in &addresses {
-        let place = at_port(address, port);
-        if is_open(rt, &place)? {
-            return Ok(Some(place));
-        }
+    match open_place(rt, resolver, host, port)? {
+        None => Err(Fault::NoMapper),
+        place => Ok(place),
     }
-    Err(Fault::NoMapper)
+}
+
+/// How the node at this place is made to dial, if that is asked for. Its port mapper is that of its host.
+pub fn find_call<'a, R: Resolving>(
+    rt: &HostRuntime,
+    resolver: &R,
+    order: &CheckOrder<'a>,
+    node: Option<SocketAddr>,
+) -> Result<Option<CallPlaces<'a>>, Fault> {
+    let (Some(node), Some((_, host)), Some((at, port))) = (node, &order.node, order.make_it_dial)
+    else {
+        return Ok(None);
+    };
+    let Some(orders) = open_place(rt, resolver, at, port)? else {
+        return Err(Fault::NoOrders);
+    };
+    Ok(Some(CallPlaces {
+        orders,
+        mapper: at_port(&node, order.mapper_port),
+        host: *host,
+    }))
 }

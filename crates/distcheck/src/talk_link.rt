@@ -47,6 +47,14 @@ impl TalkLink {
         ensures open { IfOk result (λ link. link.ended ≡ false) }
     {
         let socket = TcpStream::connect_timeout(rt, address, Duration::from_secs(CONNECT))?;
+        TalkLink::over(alloc, conn, socket)
+    }
+
+    /// The connection that this socket has. An error is the system's.
+    pub fn over(alloc: Global, conn: u8, socket: TcpStream) -> io::Result<TalkLink>
+        ensures conn { IfOk result (λ link. link.conn ≡ conn) }
+        ensures open { IfOk result (λ link. link.ended ≡ false) }
+    {
         socket.set_nodelay(true)?;
         socket.set_write_timeout(Some(Duration::from_secs(WRITE)))?;
         Ok(TalkLink {

@@ -15,7 +15,7 @@ use dist_locked::{Closed, Gate, Open};
 use dist_run::{Machine, OrderFault, Ran, run_plan};
 use dist_run_plan::{Plan, PlanError, plan_of};
 use dist_script::{Piece, ScriptFault, put, read_text};
-use dist_script_lines::{print, print_agreements, print_nodes};
+use dist_script_play::{print, print_agreements, print_nodes};
 use dist_world::World;
 use std::alloc::Global;
 use std::io::{Read, Write};

@@ -4,7 +4,7 @@ use Rattle.dist_peers.specs.declared.entry.EndId.{EndId}
 use Rattle.dist_core.specs.declared.reply.Reply.{Reply}
 use Rattle.dist_c_guest.specs.Calls.{answer_to, frame_to}
 use Rattle.dist_c_guest.specs.declared.guest.Guest.{Guest}
-use Rattle.dist_carrier.specs.Guard.{held_reply}
+use Rattle.dist_c_guest.specs.Guard.{held_reply}
 use Rattle.distnode_c.specs.declared.replies.DnReply.{DnReply}
 use Rattle.distnode_c.specs.Bodies.{is_short}
 use Rattle.distnode_c.specs.Replies.{reply_of}

@@ -6,8 +6,7 @@ use crate::bodies::is_short;
 use crate::codes::{NOT_A_NODE, OK, SHOWN_END, TOO_LONG, step_code};
 use crate::held::DnNode;
 use crate::replies::{DnReply, reply_of};
-use dist_c_guest::Guest;
-use dist_carrier::take_guarded;
+use dist_c_guest::{Guest, take_guarded};
 use dist_peers::EndId;
 use std::alloc::Global;
 

@@ -15,7 +15,7 @@ is_of cookie challenge digest = pointwise ◌==◌ (digest_of cookie challenge) 
 abbrev pub check_of : Bool → Option Bool → Bool → CookieCheck
 check_of true (Some true) refused = check.Both
 check_of true (Some false) refused = check.AcceptorOther
-check_of true None true = check.AcceptorOther
+check_of true None true = check.Refused
 check_of true None false = check.DiallerAlone
 check_of false (Some false) refused = check.Neither
 check_of false (Some true) refused = check.DiallerOther
@@ -30,5 +30,6 @@ abbrev pub cookie_sentence : CookieCheck → List ℕ
 cookie_sentence check.Both = codes "both sides have this cookie"
 cookie_sentence check.DiallerAlone = codes "the dialler has this cookie; the acceptor did not show its own"
 cookie_sentence check.DiallerOther = codes "the dialler has another one"
+cookie_sentence check.Refused = codes "the dialler has this cookie; the acceptor has another one, if it was not stopped just then"
 cookie_sentence check.AcceptorOther = codes "the acceptor has another one"
 cookie_sentence check.Neither = codes "neither has it"

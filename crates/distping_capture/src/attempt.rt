@@ -7,7 +7,6 @@ use crate::judging::judge;
 use crate::outcome::{AttemptOutcome, Leaving, PATIENCE, outcome_of};
 use crate::replay::{Replay, ReplayEnd};
 use crate::said::CapturedMessage;
-use dist_capture::Endpoint;
 use dist_cluster::USUAL;
 use dist_frames::write_short;
 use dist_messages::Side;
@@ -53,47 +52,22 @@ fn ending_of(connection: &CapturedConnection) -> ReplayEnd {
     }
 }
 
-/// One attempt, as far as others have to do with it.
-#[derive(Clone, Copy)]
-pub struct DialAttempt<'a> {
-    /// What was said.
-    pub facts: &'a Facts<'a>,
-    /// Where the side that dialled has its port.
-    pub dialler: Endpoint,
-    /// Where the other side has its port.
-    pub acceptor: Endpoint,
-    /// When it began, in nanoseconds since 1970.
-    pub began: u64,
-    /// When its latest message was there.
-    pub until: u64,
-    /// What it came to.
-    pub outcome: AttemptOutcome,
-}
-
-// Whether bytes of a handshake are missing in the capture.
 fn has_gap(connection: &CapturedConnection) -> bool {
     connection.has_gap(Side::Dialler) || connection.has_gap(Side::Acceptor)
 }
 
-// Whether the side whose turn it is was silent for too long when the connection ended, or at this time if its end is not in the capture.
-fn is_overdue(connection: &CapturedConnection, now: u64) -> bool {
-    let waited = connection
-        .end_or(now)
-        .saturating_sub(connection.latest_message());
-    !has_gap(connection) && waited >= PATIENCE
-}
-
-// How the connection was left.
+// How the connection was left, at this time if its end is not in the capture. If bytes are missing, that is not known.
 fn leaving_of(connection: &CapturedConnection, facts: &Facts<'_>, now: u64) -> Leaving {
-    let is_probe = short_part(facts.name(Side::Dialler)) == USUAL;
+    let has_gap = has_gap(connection);
+    let end = connection.end_or(now);
     Leaving {
         closer: match connection.close {
-            Some(close) if !has_gap(connection) => Some(close.side),
+            Some(close) if !has_gap => Some(close.side),
             _ => None,
         },
-        is_overdue: is_overdue(connection, now),
+        is_overdue: !has_gap && end.saturating_sub(connection.latest_message()) >= PATIENCE,
         is_challenged: facts.challenge.is_some(),
-        is_probe,
+        is_probe: short_part(facts.name(Side::Dialler)) == USUAL,
     }
 }
 
@@ -101,7 +75,6 @@ fn leaving_of(connection: &CapturedConnection, facts: &Facts<'_>, now: u64) -> L
 pub fn conclude(
     alloc: Global,
     connection: &CapturedConnection,
-    facts: &Facts<'_>,
     cookie: Option<&Cookie>,
     now: u64,
 ) -> Result<AttemptOutcome, AllocError> {
@@ -111,11 +84,12 @@ pub fn conclude(
             _ => port_verdict(unreached),
         }));
     }
+    let facts = Facts::of(&connection.said);
     if facts.wants_name() {
         return Ok(AttemptOutcome::Dynamic);
     }
-    // If the beginning or the challenge is missing, only an acknowledgement says something.
-    if connection.is_late || (facts.reply.is_some() && facts.challenge.is_none()) {
+    // If the beginning, the challenge or the reply is missing, only an acknowledgement says something.
+    if connection.is_late || facts.lacks(Side::Acceptor) || facts.lacks(Side::Dialler) {
         return Ok(match facts.ack {
             Some(_) => AttemptOutcome::Verdict(ProbeVerdict::Up),
             None => AttemptOutcome::Unfinished,
@@ -128,24 +102,26 @@ pub fn conclude(
         left: READS,
     };
     let standing = judge(alloc, &mut limited, &facts.part(cookie));
-    Ok(outcome_of(standing, &leaving_of(connection, facts, now)))
+    Ok(outcome_of(standing, &leaving_of(connection, &facts, now)))
 }
 
-/// Which sides showed this cookie, if the handshake got as far as a reply.
+/// Which sides showed this cookie, if the handshake got as far as a reply. A reply that was not read was not refused.
 pub fn check_of_attempt(
-    facts: &Facts<'_>,
+    connection: &CapturedConnection,
     outcome: AttemptOutcome,
     cookie: Option<&Cookie>,
 ) -> Option<CookieCheck> {
     let cookie = cookie?;
+    let facts = Facts::of(&connection.said);
     let challenge = facts.challenge?;
     let (fresh, reply) = facts.reply?;
+    let is_refused = matches!(outcome, AttemptOutcome::Verdict(ProbeVerdict::WrongCookie));
     let digests = Digests {
         challenge,
         reply,
         fresh,
         ack: facts.ack,
-        is_refused: matches!(outcome, AttemptOutcome::Verdict(ProbeVerdict::WrongCookie)),
+        is_refused: is_refused && !connection.was_unread,
     };
     Some(check_cookie(cookie, &digests))
 }

@@ -2,7 +2,7 @@
 
 use crate::facts::Facts;
 use crate::look::{Look, look_at};
-use crate::outcome::PATIENCE;
+use crate::outcome::{AttemptOutcome, PATIENCE};
 use crate::said::{CapturedMessage, other_side};
 use dist_capture::{Endpoint, Segment, SegmentStream};
 use dist_epmd::{Answer, Asked, Request, decode_answer, decode_request};
@@ -69,6 +69,8 @@ struct Flow {
 /// One connection.
 #[derive(Drop)]
 pub struct CapturedConnection {
+    /// Its two ends, the lesser first.
+    pub ends: (Endpoint, Endpoint),
     /// Where the side that dialled has its port.
     pub dialler: Endpoint,
     /// Where the other side has its port.
@@ -79,38 +81,34 @@ pub struct CapturedConnection {
     pub latest: u64,
     /// What it carries.
     pub content: Traffic,
-    /// Whether its first segment (SYN) was captured, so that it is known who dialled.
-    pub has_opening: bool,
+    // The sequence number of its first segment (SYN), if that was captured, so that it is known who dialled.
+    opening: Option<u32>,
     // Whether any other segment was, those apart that repeat the first or reset the connection.
     is_made: bool,
     /// Whether the name that begins a handshake is missing.
     pub is_late: bool,
     /// The messages of the handshake, in the order in which they were whole.
     pub said: Vec<CapturedMessage>,
-    /// When the handshake was over.
-    pub up_at: Option<u64>,
+    /// When the acknowledgement was there.
+    pub acknowledged_at: Option<u64>,
+    /// What was concluded of the attempt, once that was printed.
+    pub outcome: Option<AttemptOutcome>,
     /// How it ended.
     pub close: Option<Close>,
+    /// Whether the accepting side reset it behind its own end: it did not read what came then.
+    pub was_unread: bool,
     /// The request to a port mapper.
     pub request: Option<Request>,
     /// Whether the port mapper answered it.
     pub is_answered: bool,
+    // Whether the answer was that the node is registered.
+    is_registered: bool,
+    /// Whether all was printed that there is to say of it.
+    pub is_reported: bool,
     from_dialler: Flow,
     from_acceptor: Flow,
 }
 
-/// What a segment led to.
-#[derive(Drop)]
-pub enum Advance {
-    /// Nothing that is printed at once.
-    Nothing,
-    /// The handshake was over.
-    CameUp,
-    /// The port mapper answered the request.
-    Answered(Answer),
-}
-
-// A side that sent nothing yet.
 fn new_half(at: u64) -> Flow {
     Flow {
         stream: None,
@@ -130,12 +128,24 @@ fn is_from_dialler(segment: &Segment, mapper_port: u16) -> bool {
     }
 }
 
-// Which question a request is, if it is seen of its answer when that is whole.
-fn question_of(request: &Request) -> Option<Asked> {
-    match request {
-        Request::Alive(_) => Some(Asked::Alive),
-        Request::PortPlease(_) => Some(Asked::Port),
-        Request::Names => None,
+/// The two ends of a segment's connection, the lesser first.
+pub fn ends_of(segment: &Segment) -> (Endpoint, Endpoint) {
+    let (one, other) = (segment.from, segment.to);
+    (one.min(other), one.max(other))
+}
+
+/// The result of a registration, and the creation.
+pub fn registration_of(answer: &Answer) -> Option<(u8, u32)> {
+    match answer {
+        Answer::AliveX {
+            result_code,
+            creation,
+        } => Some((*result_code, *creation)),
+        Answer::Alive {
+            result_code,
+            creation,
+        } => Some((*result_code, u32::from(*creation))),
+        _ => None,
     }
 }
 
@@ -153,19 +163,24 @@ impl CapturedConnection {
             Traffic::Unknown
         };
         CapturedConnection {
+            ends: ends_of(segment),
             dialler,
             acceptor,
             began: segment.time,
             latest: segment.time,
             content,
-            has_opening: segment.is_syn,
+            opening: segment.is_syn.then_some(segment.sequence),
             is_made: false,
             is_late: false,
             said: Vec::new(alloc),
-            up_at: None,
+            acknowledged_at: None,
+            outcome: None,
             close: None,
+            was_unread: false,
             request: None,
             is_answered: false,
+            is_registered: false,
+            is_reported: false,
             from_dialler: new_half(segment.time),
             from_acceptor: new_half(segment.time),
         }
@@ -176,9 +191,25 @@ impl CapturedConnection {
         self.from_dialler.has_closed && self.from_acceptor.has_closed
     }
 
-    /// Whether this segment begins a new connection between the same two ports.
+    /// Whether this segment begins a new connection between the same two ports: it is no copy of the one that began this one.
     pub fn is_before(&self, segment: &Segment) -> bool {
-        segment.is_syn && !segment.is_ack && self.close.is_some()
+        segment.is_syn
+            && !segment.is_ack
+            && self.close.is_some()
+            && self.opening != Some(segment.sequence)
+    }
+
+    /// Where it stands among those that may be given up, the least first: what was reported, then what was quiet for longest.
+    pub fn rank(&self) -> u64 {
+        if self.is_reported { 0 } else { self.latest }
+    }
+
+    /// When the two came up, if they did: an acknowledgement with a wrong digest brings nobody up.
+    pub fn up_since(&self) -> Option<u64> {
+        match self.outcome {
+            Some(outcome) if outcome.status() == 0 => self.acknowledged_at,
+            _ => None,
+        }
     }
 
     /// When it ended; this time if its end is not in the capture.
@@ -192,7 +223,7 @@ impl CapturedConnection {
     /// Why it was never made: its first segment was answered by a reset, or by nothing until this time. `None` if it was made, or if
     /// that is not in the capture.
     pub fn connect_fault(&self, now: u64) -> Option<Unreached> {
-        if self.is_made || !self.has_opening {
+        if self.is_made || self.opening.is_none() {
             return None;
         }
         match self.close {
@@ -218,7 +249,16 @@ impl CapturedConnection {
         }
     }
 
-    // What a side sends.
+    /// Which port the node has whose registration this connection was, and when it ended.
+    pub fn lost_registration(&self) -> Option<(u16, u64)> {
+        match (&self.request, self.close) {
+            (Some(Request::Alive(info)), Some(close)) if self.is_registered => {
+                Some((info.port, close.at))
+            }
+            _ => None,
+        }
+    }
+
     fn half(&self, side: Side) -> &Flow {
         match side {
             Side::Dialler => &self.from_dialler,
@@ -226,7 +266,6 @@ impl CapturedConnection {
         }
     }
 
-    // The same, to be changed.
     fn half_mut(&mut self, side: Side) -> &mut Flow {
         match side {
             Side::Dialler => &mut self.from_dialler,
@@ -251,17 +290,15 @@ impl CapturedConnection {
         }
     }
 
-    // Whether its bytes are still read.
     fn is_read(&self) -> bool {
         match self.content {
             Traffic::Unknown => true,
             Traffic::Mapper => !self.is_answered && !matches!(&self.request, Some(Request::Names)),
-            Traffic::Handshake => self.up_at.is_none(),
+            Traffic::Handshake => self.acknowledged_at.is_none(),
             Traffic::Tls | Traffic::Other => false,
         }
     }
 
-    // Takes the bytes of a segment.
     fn feed(&mut self, alloc: Global, side: Side, segment: &Segment) -> Result<(), AllocError> {
         let first = segment.sequence.wrapping_add(u32::from(segment.is_syn));
         let half = self.half_mut(side);
@@ -271,12 +308,12 @@ impl CapturedConnection {
         if let Some(stream) = &mut half.stream {
             let has_room = stream.ready().len() < MOST_UNREAD;
             let is_kept = has_room && stream.take(first, &segment.payload)?;
-            half.has_lost = half.has_lost || !is_kept || segment.missing > 0;
+            half.has_lost = half.has_lost || !is_kept;
         }
+        half.has_lost = half.has_lost || segment.missing > 0;
         Ok(())
     }
 
-    // Drops bytes of a side that were read.
     fn consume(&mut self, side: Side, count: usize) {
         if let Some(stream) = &mut self.half_mut(side).stream {
             stream.consume(count);
@@ -312,9 +349,9 @@ impl CapturedConnection {
         );
         match looks {
             (Look::Name, _) => self.begin_handshake(false, false),
-            (_, Look::Name) if !self.has_opening => self.begin_handshake(false, true),
+            (_, Look::Name) if self.opening.is_none() => self.begin_handshake(false, true),
             (Look::Dialler, _) | (Look::Open, Look::Acceptor) => self.begin_handshake(true, false),
-            (Look::Acceptor, _) | (Look::Open, Look::Dialler) if !self.has_opening => {
+            (Look::Acceptor, _) | (Look::Open, Look::Dialler) if self.opening.is_none() => {
                 self.begin_handshake(true, true)
             }
             (Look::Tls, _) => self.content = Traffic::Tls,
@@ -350,15 +387,13 @@ impl CapturedConnection {
         Ok(())
     }
 
-    // Reads what is whole of a handshake.
-    fn read_handshake(&mut self, alloc: Global, at: u64) -> Result<Advance, AllocError> {
+    fn read_handshake(&mut self, alloc: Global, at: u64) -> Result<(), AllocError> {
         self.read_messages(alloc, Side::Dialler, at)?;
         self.read_messages(alloc, Side::Acceptor, at)?;
-        if Facts::of(&self.said).ack.is_none() {
-            return Ok(Advance::Nothing);
+        if Facts::of(&self.said).ack.is_some() {
+            self.acknowledged_at = Some(at);
         }
-        self.up_at = Some(at);
-        Ok(Advance::CameUp)
+        Ok(())
     }
 
     // Reads a request to a port mapper, if it is whole. A request that is none ends the reading.
@@ -374,39 +409,33 @@ impl CapturedConnection {
         }
     }
 
-    // Reads the answer to the request, if it is whole.
-    fn read_answer(&mut self, alloc: Global) -> Advance {
-        if self.is_answered {
-            return Advance::Nothing;
-        }
-        let Some(request) = &self.request else {
-            return Advance::Nothing;
+    // Reads the answer to the request, if it is whole and shows that it is.
+    fn read_answer(&mut self, alloc: Global) -> Option<Answer> {
+        let asked = match &self.request {
+            Some(Request::Alive(_)) if !self.is_answered => Asked::Alive,
+            Some(Request::PortPlease(_)) if !self.is_answered => Asked::Port,
+            _ => return None,
         };
-        let Some(asked) = question_of(request) else {
-            return Advance::Nothing;
-        };
-        match decode_answer(alloc, asked, self.bytes(Side::Acceptor)) {
-            Ok(answer) => {
-                self.is_answered = true;
-                Advance::Answered(answer)
-            }
-            Err(_) => Advance::Nothing,
-        }
+        let answer = decode_answer(alloc, asked, self.bytes(Side::Acceptor)).ok()?;
+        self.is_answered = true;
+        self.is_registered = matches!(registration_of(&answer), Some((0, _)));
+        Some(answer)
     }
 
-    // Reads what the connection carries.
-    fn read(&mut self, alloc: Global, at: u64) -> Result<Advance, AllocError> {
+    // Reads what the connection carries, and returns what a port mapper answered.
+    fn read(&mut self, alloc: Global, at: u64) -> Result<Option<Answer>, AllocError> {
         if self.content == Traffic::Unknown {
             self.recognize(alloc);
         }
         match self.content {
-            Traffic::Handshake => self.read_handshake(alloc, at),
+            Traffic::Handshake => self.read_handshake(alloc, at)?,
             Traffic::Mapper => {
                 self.read_request(alloc);
-                Ok(self.read_answer(alloc))
+                return Ok(self.read_answer(alloc));
             }
-            Traffic::Unknown | Traffic::Tls | Traffic::Other => Ok(Advance::Nothing),
+            Traffic::Unknown | Traffic::Tls | Traffic::Other => {}
         }
+        Ok(None)
     }
 
     // Notes that the connection was made, and that a side sent bytes, if a segment shows it.
@@ -427,17 +456,19 @@ impl CapturedConnection {
         if segment.is_reset {
             self.half_mut(other_side(side)).has_closed = true;
         }
-        if self.close.is_none() {
-            self.close = Some(Close {
-                side,
-                is_reset: segment.is_reset,
-                at: segment.time,
-            });
+        if let Some(close) = self.close {
+            self.was_unread = segment.is_reset && close.side == side && side == Side::Acceptor;
+            return;
         }
+        self.close = Some(Close {
+            side,
+            is_reset: segment.is_reset,
+            at: segment.time,
+        });
     }
 
-    /// Takes a segment of this connection.
-    pub fn take(&mut self, alloc: Global, segment: &Segment) -> Result<Advance, AllocError> {
+    /// Takes a segment of this connection, and returns what a port mapper answered by it.
+    pub fn take(&mut self, alloc: Global, segment: &Segment) -> Result<Option<Answer>, AllocError> {
         let side = if segment.from == self.dialler {
             Side::Dialler
         } else {
@@ -447,14 +478,14 @@ impl CapturedConnection {
         self.note_sign(side, segment);
         self.note_close(side, segment);
         if !self.is_read() {
-            return Ok(Advance::Nothing);
+            return Ok(None);
         }
         self.feed(alloc, side, segment)?;
-        let advance = self.read(alloc, segment.time)?;
+        let answer = self.read(alloc, segment.time)?;
         if !self.is_read() {
             self.from_dialler.stream = None;
             self.from_acceptor.stream = None;
         }
-        Ok(advance)
+        Ok(answer)
     }
 }

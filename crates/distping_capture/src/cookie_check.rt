@@ -14,7 +14,9 @@ pub enum CookieCheck {
     DiallerAlone,
     /// The dialling side showed another one.
     DiallerOther,
-    /// The dialling side did; the other one acknowledged with another one, or refused the reply.
+    /// The dialling side did, and the other one ended the connection upon its reply.
+    Refused,
+    /// The dialling side did, and the other one acknowledged with another one.
     AcceptorOther,
     /// Both showed another one.
     Neither,
@@ -42,7 +44,7 @@ fn check_of(reply: bool, ack: Option<bool>, is_refused: bool) -> CookieCheck
     match (reply, ack) {
         (true, Some(true)) => CookieCheck::Both,
         (true, Some(false)) => CookieCheck::AcceptorOther,
-        (true, None) if is_refused => CookieCheck::AcceptorOther,
+        (true, None) if is_refused => CookieCheck::Refused,
         (true, None) => CookieCheck::DiallerAlone,
         (false, Some(false)) => CookieCheck::Neither,
         (false, _) => CookieCheck::DiallerOther,
@@ -71,6 +73,8 @@ impl CookieCheck {
             CookieCheck::DiallerAlone =>
                 "the dialler has this cookie; the acceptor did not show its own",
             CookieCheck::DiallerOther => "the dialler has another one",
+            CookieCheck::Refused =>
+                "the dialler has this cookie; the acceptor has another one, if it was not stopped just then",
             CookieCheck::AcceptorOther => "the acceptor has another one",
             CookieCheck::Neither => "neither has it",
         }

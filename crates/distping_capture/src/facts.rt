@@ -142,6 +142,16 @@ impl<'a> Facts<'a> {
         }
     }
 
+    /// Whether a side must have said what is not here: a challenge before a reply, a reply before an acknowledgement.
+    pub fn lacks(&self, side: Side) -> bool {
+        match side {
+            Side::Dialler => self.ack.is_some() && self.reply.is_none(),
+            Side::Acceptor => {
+                (self.ack.is_some() || self.reply.is_some()) && self.challenge.is_none()
+            }
+        }
+    }
+
     /// Whether the dialling side asks for a name.
     pub fn wants_name(&self) -> bool {
         match &self.dialler {

@@ -7,13 +7,14 @@
 mod attempt;
 mod connection;
 mod cookie_check;
+mod dials;
 mod facts;
 mod finder;
 mod judging;
 mod laws;
 mod lines;
-mod listeners;
 mod look;
+mod nodes;
 mod object;
 mod outcome;
 mod register;

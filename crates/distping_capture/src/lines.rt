@@ -1,16 +1,18 @@
 //! The lines about one connection.
 
-use crate::connection::CapturedConnection;
+use crate::connection::{CapturedConnection, registration_of};
 use crate::cookie_check::CookieCheck;
-use crate::facts::{NodeDescription, description_in};
+use crate::dials::PastDial;
+use crate::facts::{Facts, NodeDescription, description_in};
 use crate::outcome::AttemptOutcome;
 use crate::said::{CapturedMessage, side_word};
 use dist_epmd::{Answer, NodeInfo, Request};
 use dist_epmd_calls::LookupError;
+use dist_frames::first_body;
 use dist_messages::{MessageView, Side, read_in_place};
 use dist_names::{ByteString, Flags};
 use dist_probe::{Peer, ProbeVerdict};
-use distping_report::LinePiece::{Digits, Escaped, Foreign, Host, Name, Number, Text};
+use distping_report::LinePiece::{self, Digits, Escaped, Foreign, Host, Name, Number, Text};
 use distping_report::{LineSink, utc_text};
 use distping_words::Fault;
 use std::alloc::{AllocError, Global};
@@ -43,35 +45,37 @@ pub fn put_heading(lines: LineSink<'_>, connection: &CapturedConnection) -> Resu
     ])
 }
 
-// What a message is called.
-fn word_of(view: MessageView<'_>) -> &'static str {
-    match view {
+// What a message is called, and the text that it carries.
+fn word_of(view: MessageView<'_>) -> (&'static str, LinePiece<'static>) {
+    let word = match view {
+        MessageView::Status(status) => return ("status ", Foreign(status.text())),
         MessageView::OldName { .. } => "name, in the older form",
         MessageView::NewName { .. } => "name",
-        MessageView::Status(_) => "status ",
         MessageView::OldChallenge { .. } => "challenge, in the older form",
         MessageView::NewChallenge { .. } => "challenge",
         MessageView::Complement { .. } => "complement",
         MessageView::Reply { .. } => "reply",
         MessageView::Ack { .. } => "acknowledgement",
+    };
+    (word, Text(""))
+}
+
+// The same of a body that is none of these: a status may give a name to a node that asked for one, with the name's length in 2 bytes
+// before it, and a creation behind. Source: ERTS User's Guide, Distribution Handshake.
+fn other_word(message: &CapturedMessage) -> (&'static str, LinePiece<'_>) {
+    match message.body.as_slice().strip_prefix(b"snamed:") {
+        Some(rest) if message.side == Side::Acceptor => {
+            ("status named: ", Name(first_body(rest).unwrap_or(b"")))
+        }
+        _ => ("no message of a handshake", Text("")),
     }
 }
 
-// The text that a message carries.
-fn text_of(view: MessageView<'_>) -> &'static [u8] {
-    match view {
-        MessageView::Status(status) => status.text(),
-        _ => b"",
-    }
-}
-
-// Prints the line of a message.
-fn put_word(
+fn put_word<'x>(
     lines: LineSink<'_>,
-    time: &str,
+    time: &'x str,
     side: Side,
-    word: &'static str,
-    text: &'static [u8],
+    word: (&'static str, LinePiece<'x>),
 ) -> Result<(), Fault> {
     lines.put(&[
         Text("   "),
@@ -79,8 +83,8 @@ fn put_word(
         Text("  "),
         Text(side_word(side)),
         Text(": "),
-        Text(word),
-        Foreign(text),
+        Text(word.0),
+        word.1,
     ])
 }
 
@@ -151,10 +155,10 @@ fn put_message(
     let time = seconds_text(lines.alloc, message.at.saturating_sub(began))?;
     match read_in_place(message.side, message.body.as_slice()) {
         Ok(view) => {
-            put_word(lines, &time, message.side, word_of(view), text_of(view))?;
+            put_word(lines, &time, message.side, word_of(view))?;
             put_content(lines, view)
         }
-        Err(_) => put_word(lines, &time, message.side, "no message of a handshake", b""),
+        Err(_) => put_word(lines, &time, message.side, other_word(message)),
     }
 }
 
@@ -163,8 +167,9 @@ fn put_missing(lines: LineSink<'_>, connection: &CapturedConnection) -> Result<(
     if connection.is_late {
         lines.put(&[Text("!  missing   the beginning of this connection")])?;
     }
+    let facts = Facts::of(&connection.said);
     for side in [Side::Dialler, Side::Acceptor] {
-        if connection.has_gap(side) {
+        if connection.has_gap(side) || (!connection.is_late && facts.lacks(side)) {
             lines.put(&[
                 Text("!  missing   bytes of "),
                 Text(side_word(side)),
@@ -175,7 +180,6 @@ fn put_missing(lines: LineSink<'_>, connection: &CapturedConnection) -> Result<(
     Ok(())
 }
 
-// Prints what an attempt came to.
 fn put_outcome(lines: LineSink<'_>, outcome: AttemptOutcome) -> Result<(), Fault> {
     match outcome {
         AttemptOutcome::Verdict(ProbeVerdict::Up) => {
@@ -218,10 +222,46 @@ pub fn put_attempt(
     }
     put_missing(lines, connection)?;
     put_outcome(lines, outcome)?;
+    if let AttemptOutcome::Verdict(ProbeVerdict::WrongCookie) = outcome
+        && connection.was_unread
+    {
+        lines.put(&[Text(
+            "!  doubt     the acceptor had ended when the reply came, and reset what came: so its cookie may be the right one",
+        )])?;
+    }
     match check {
         Some(check) => lines.put(&[Text("   cookie    "), Text(check.sentence())]),
         None => Ok(()),
     }
+}
+
+// A node's name; empty if it is not known.
+fn name_piece(name: &[u8]) -> LinePiece<'_> {
+    if name.is_empty() {
+        Text("an unknown node")
+    } else {
+        Name(name)
+    }
+}
+
+/// Prints how many attempts between two nodes came to what, and whether others of them leave that in doubt.
+pub fn put_pair(lines: LineSink<'_>, pair: &PastDial, is_doubted: bool) -> Result<(), Fault> {
+    let doubt = if is_doubted {
+        "; but they came up too: a cookie was changed, or a node was stopped when it ended the connection"
+    } else {
+        ""
+    };
+    lines.put(&[
+        Text("   pair      "),
+        name_piece(pair.name.as_slice()),
+        Text(" and "),
+        name_piece(pair.other.as_slice()),
+        Text(": "),
+        Text(pair.outcome.name()),
+        Text(" "),
+        Number(pair.count),
+        Text(doubt),
+    ])
 }
 
 // Who had fallen silent when a connection ended that was up.
@@ -290,20 +330,10 @@ pub fn put_answer(
     put_heading(lines, connection)?;
     let port = connection.acceptor.port;
     match (&connection.request, answer) {
-        (
-            Some(Request::Alive(info)),
-            Answer::AliveX {
-                result_code,
-                creation,
-            },
-        ) => put_registration(lines, info, *result_code, *creation),
-        (
-            Some(Request::Alive(info)),
-            Answer::Alive {
-                result_code,
-                creation,
-            },
-        ) => put_registration(lines, info, *result_code, u32::from(*creation)),
+        (Some(Request::Alive(info)), _) => match registration_of(answer) {
+            Some((code, creation)) => put_registration(lines, info, code, creation),
+            None => Ok(()),
+        },
         (Some(Request::PortPlease(name)), Answer::Port(found)) => {
             lines.put(&[Text("   looks up  "), Name(name.as_slice())])?;
             match found {
@@ -316,30 +346,23 @@ pub fn put_answer(
 }
 
 /// Prints how a conversation with a port mapper ended: a request without an answer, the end of a registration, a question for all
-/// names.
+/// names, whose answer is not read.
 pub fn put_mapper_end(lines: LineSink<'_>, connection: &CapturedConnection) -> Result<(), Fault> {
-    let (text, name) = match &connection.request {
-        Some(Request::Alive(info)) if !connection.is_answered => {
-            (
-                "!  epmd      no answer to the registration of ",
-                info.name.as_slice(),
-            )
+    let (what, name) = match &connection.request {
+        Some(Request::Alive(info)) => ("registration of ", Name(info.name.as_slice())),
+        Some(Request::PortPlease(name)) => ("lookup of ", Name(name.as_slice())),
+        Some(Request::Names) => ("", Text("asked for the names of all nodes")),
+        None => return Ok(()),
+    };
+    let (front, what) = match connection.lost_registration() {
+        Some(_) => ("   epmd      the registration ended of ", ""),
+        None if what.is_empty() => ("   epmd      ", ""),
+        None if connection.is_answered => return Ok(()),
+        None if connection.has_gap(Side::Acceptor) => {
+            ("!  missing   bytes of the answer to the ", what)
         }
-        Some(Request::Alive(info)) if connection.close.is_some() => {
-            (
-                "   epmd      the registration ended of ",
-                info.name.as_slice(),
-            )
-        }
-        Some(Request::PortPlease(name)) if !connection.is_answered => {
-            ("!  epmd      no answer to the lookup of ", name.as_slice())
-        }
-        Some(Request::Names) => (
-            "   epmd      asked for the names of all nodes ",
-            b"".as_slice(),
-        ),
-        _ => return Ok(()),
+        None => ("!  epmd      no answer to the ", what),
     };
     put_heading(lines, connection)?;
-    lines.put(&[Text(text), Name(name)])
+    lines.put(&[Text(front), Text(what), name])
 }

@@ -1,65 +1,46 @@
-//! The object of `--json` for a connection of the distribution.
+//! The objects of `--json` for a connection of the distribution, and for a pair of nodes.
 
 use crate::connection::CapturedConnection;
 use crate::cookie_check::CookieCheck;
+use crate::dials::PastDial;
 use crate::facts::{Facts, NodeDescription};
 use crate::outcome::AttemptOutcome;
-use dist_capture::Endpoint;
-use distping_json::{Member, Value, object_line};
+use distping_json::{Value, object_line};
 use std::alloc::{AllocError, Global};
 
-// The creation of a side, or null.
-fn creation_value(node: Option<NodeDescription<'_>>) -> Value<'static> {
-    match node {
-        Some(
-            NodeDescription {
-                creation: Some(creation),
-                ..
-            },
-        ) => Value::Number(u64::from(creation.0)),
-        _ => Value::Null,
-    }
-}
-
-// The flags of a side, or null.
-fn flags_value(node: Option<NodeDescription<'_>>) -> Value<'static> {
-    match node {
-        Some(node) => Value::Digits(node.flags),
+// For how many milliseconds it was up, or null.
+fn up_value(connection: &CapturedConnection, now: u64) -> Value<'static> {
+    match connection.up_since() {
+        Some(up_at) => Value::Number(connection.end_or(now).saturating_sub(up_at) / 1_000_000),
         None => Value::Null,
     }
 }
 
-// The name of a side, or null.
-fn name_value<'x>(node: Option<NodeDescription<'x>>) -> Value<'x> {
-    match node {
-        Some(node) => Value::Name(node.name),
-        None => Value::Null,
+// The name of a side, its creation and its flags, each or null.
+fn side_values(side: Option<NodeDescription<'_>>) -> [Value<'_>; 3] {
+    match side {
+        Some(side) => {
+            let creation = match side.creation {
+                Some(creation) => Value::Number(u64::from(creation.0)),
+                None => Value::Null,
+            };
+            [Value::Name(side.name), creation, Value::Digits(side.flags)]
+        }
+        None => [Value::Null, Value::Null, Value::Null],
     }
 }
 
-// A port.
-fn port_value(place: Endpoint) -> Value<'static> {
-    Value::Number(u64::from(place.port))
-}
-
-// The cause of an outcome, or null.
-fn cause_value(outcome: AttemptOutcome) -> Value<'static> {
+// The cause and the remedy of an outcome, each or null.
+fn outcome_values(outcome: AttemptOutcome) -> [Value<'static>; 2] {
     match outcome {
-        AttemptOutcome::Verdict(verdict) => Value::Text(verdict.cause()),
-        AttemptOutcome::Taken(taken) => Value::Text(taken.cause()),
-        _ => Value::Null,
+        AttemptOutcome::Verdict(verdict) => {
+            [Value::Text(verdict.cause()), Value::Text(verdict.remedy())]
+        }
+        AttemptOutcome::Taken(taken) => [Value::Text(taken.cause()), Value::Null],
+        _ => [Value::Null, Value::Null],
     }
 }
 
-// The remedy of an outcome, or null.
-fn remedy_value(outcome: AttemptOutcome) -> Value<'static> {
-    match outcome {
-        AttemptOutcome::Verdict(verdict) => Value::Text(verdict.remedy()),
-        _ => Value::Null,
-    }
-}
-
-// The sentence about the cookie, or null.
 fn check_value(check: Option<CookieCheck>) -> Value<'static> {
     match check {
         Some(check) => Value::Text(check.sentence()),
@@ -67,51 +48,59 @@ fn check_value(check: Option<CookieCheck>) -> Value<'static> {
     }
 }
 
-// For how many milliseconds it was up, or null.
-fn up_value(up: Option<u64>) -> Value<'static> {
-    match up {
-        Some(up) => Value::Number(up / 1_000_000),
-        None => Value::Null,
+fn name_value(name: &[u8]) -> Value<'_> {
+    if name.is_empty() {
+        Value::Null
+    } else {
+        Value::Name(name)
     }
 }
 
-// The members of a connection.
-fn members<'x>(
-    connection: &CapturedConnection,
-    facts: &Facts<'x>,
-    outcome: AttemptOutcome,
-    check: Option<CookieCheck>,
-    up: Option<u64>,
-) -> [Member<'x>; 17] {
-    [
-        ("began", Value::Number(connection.began / 1_000_000)),
-        ("dialler", name_value(facts.dialler)),
-        ("dialler_address", Value::Host(connection.dialler.address)),
-        ("dialler_port", port_value(connection.dialler)),
-        ("dialler_creation", creation_value(facts.dialler)),
-        ("dialler_flags", flags_value(facts.dialler)),
-        ("acceptor", name_value(facts.acceptor)),
-        ("acceptor_address", Value::Host(connection.acceptor.address)),
-        ("acceptor_port", port_value(connection.acceptor)),
-        ("acceptor_creation", creation_value(facts.acceptor)),
-        ("acceptor_flags", flags_value(facts.acceptor)),
-        ("verdict", Value::Text(outcome.name())),
-        ("cause", cause_value(outcome)),
-        ("remedy", remedy_value(outcome)),
-        ("cookie", check_value(check)),
-        ("up", up_value(up)),
-        ("exit", Value::Number(u64::from(outcome.status()))),
-    ]
-}
-
-/// The object of a connection, as one line. `up` is for how long it was up, in nanoseconds.
+/// The object of a connection, as one line. If its end is not in the capture, it lasts until now.
 pub fn attempt_object(
     alloc: Global,
     connection: &CapturedConnection,
-    facts: &Facts<'_>,
     outcome: AttemptOutcome,
     check: Option<CookieCheck>,
-    up: Option<u64>,
+    now: u64,
 ) -> Result<String, AllocError> {
-    object_line(alloc, &members(connection, facts, outcome, check, up))
+    let facts = Facts::of(&connection.said);
+    let [dialler, dialler_creation, dialler_flags] = side_values(facts.dialler);
+    let [acceptor, acceptor_creation, acceptor_flags] = side_values(facts.acceptor);
+    let [cause, remedy] = outcome_values(outcome);
+    let (from, to) = (connection.dialler, connection.acceptor);
+    let members = [
+        ("began", Value::Number(connection.began / 1_000_000)),
+        ("dialler", dialler),
+        ("dialler_address", Value::Host(from.address)),
+        ("dialler_port", Value::Number(u64::from(from.port))),
+        ("dialler_creation", dialler_creation),
+        ("dialler_flags", dialler_flags),
+        ("acceptor", acceptor),
+        ("acceptor_address", Value::Host(to.address)),
+        ("acceptor_port", Value::Number(u64::from(to.port))),
+        ("acceptor_creation", acceptor_creation),
+        ("acceptor_flags", acceptor_flags),
+        ("verdict", Value::Text(outcome.name())),
+        ("cause", cause),
+        ("remedy", remedy),
+        ("cookie", check_value(check)),
+        ("up", up_value(connection, now)),
+        ("exit", Value::Number(u64::from(outcome.status()))),
+    ];
+    object_line(alloc, &members)
+}
+
+/// The object of a line of the summary, as one line.
+pub fn pair_object(alloc: Global, pair: &PastDial) -> Result<String, AllocError> {
+    object_line(
+        alloc,
+        &[
+            ("first", name_value(pair.name.as_slice())),
+            ("second", name_value(pair.other.as_slice())),
+            ("verdict", Value::Text(pair.outcome.name())),
+            ("count", Value::Number(u64::from(pair.count))),
+            ("exit", Value::Number(u64::from(pair.exit))),
+        ],
+    )
 }

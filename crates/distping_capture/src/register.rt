@@ -1,314 +1,233 @@
-//! What several connections show together: how often which pair of nodes came to what, restarts, names that two hosts use, dials that
-//! cross, and lookups that lead elsewhere.
+//! What is printed of connections, and what several of them show together: how often which pair of nodes came to what, restarts, names
+//! that two hosts use, dials that cross, lookups that lead elsewhere, and what leaves a wrong cookie in doubt.
 
-use crate::attempt::DialAttempt;
-use crate::facts::{Facts, NodeDescription};
-use crate::listeners::Listeners;
+use crate::attempt::{check_of_attempt, conclude};
+use crate::connection::{CapturedConnection, Traffic};
+use crate::dials::{PastDial, add, by_pairs};
+use crate::facts::Facts;
+use crate::lines::{put_answer, put_attempt, put_end, put_heading, put_mapper_end, put_pair};
+use crate::nodes::NodesSeen;
+use crate::object::{attempt_object, pair_object};
 use crate::outcome::AttemptOutcome;
-use dist_capture::Endpoint;
+use dist_capture::{Endpoint, Segment};
 use dist_messages::Side;
-use dist_names::{ByteString, Creation};
-use dist_probe::ProbeVerdict;
-use distping_report::LinePiece::{self, Host, Name, Number, Text};
+use dist_names::ByteString;
+use dist_secret::Cookie;
+use distping_report::LinePiece::Text;
 use distping_report::LineSink;
 use distping_words::Fault;
-use std::alloc::{AllocError, Global};
-use std::collections::BTreeMap;
+use std::alloc::AllocError;
 use std::mem;
-use std::net::IpAddr;
 
-/// The most nodes, ports, lookups and counts of pairs that are remembered. Our own choice.
-pub const MOST: usize = 1024;
+// The most attempts that are remembered for those that come later. Our own choice.
+const MOST_DIALS: usize = 256;
 
-// The most dials that wait for one that crosses them. Our own choice.
-const MOST_WAITING: usize = 64;
+// What is printed where a node was stopped when it ended a connection as if by a wrong cookie.
+const STOPPED: &str =
+    "!  doubt     the connection and the registration of this node ended at once: it was stopped, and its cookie may be the right one";
 
-// A node: its latest incarnation, from where it was seen last, and how many of its connections are up.
-#[derive(Clone, Copy)]
-struct Known {
-    creation: Creation,
-    address: IpAddr,
-    ups: u32,
-}
-
-// A dial that another one may cross: the node that was dialled refused it since it dials itself, or it was given up.
+/// Prints, and remembers.
 #[derive(Drop)]
-struct Lesser {
-    name: ByteString,
-    // The name of the node that was dialled; empty if it is not known.
-    other: ByteString,
-    dialler: Endpoint,
-    acceptor: Endpoint,
-    began: u64,
-    until: u64,
-    outcome: AttemptOutcome,
-}
-
-/// What is remembered of all attempts.
-#[derive(Drop)]
-pub struct Register {
-    alloc: Global,
-    // By their names.
-    nodes: BTreeMap<Vec<u8>, Known>,
-    /// Who listens where.
-    pub listeners: Listeners,
-    // How many attempts between two nodes, in either direction, came to what: by the two names, the lesser first, status and word.
-    counts: BTreeMap<(Vec<u8>, Vec<u8>, u8, &'static str), u32>,
-    waiting: Vec<Lesser>,
+pub struct Register<'x> {
+    /// Where lines are printed; if they are left out, objects are.
+    pub lines: LineSink<'x>,
+    // The cookie that both digests are compared with.
+    cookie: Option<&'x Cookie>,
+    /// The time of the latest segment.
+    pub now: u64,
+    nodes: NodesSeen,
+    // The latest attempts, the oldest first.
+    dials: Vec<PastDial>,
+    // The earlier ones, counted, in order.
+    counted: Vec<PastDial>,
+    // Which port the node had whose registration ended last, and when that was.
+    unregistered: Option<(u16, u64)>,
     status: u8,
 }
 
-// A node's name; empty if it is not known.
-fn name_piece(name: &[u8]) -> LinePiece<'_> {
-    if name.is_empty() {
-        Text("an unknown node")
-    } else {
-        Name(name)
-    }
-}
-
-// Prints that a node restarted, or that another one has its name: while connections of the one before are up, from another host.
-fn put_change(lines: LineSink<'_>, name: &[u8], before: Known, seen: Known) -> Result<(), Fault> {
-    if before.ups > 0 && before.address != seen.address {
-        return lines.put(&[
-            Text("!  two hosts "),
-            Name(name),
-            Text(" is up from "),
-            Host(before.address),
-            Text(", and another node of this name is at "),
-            Host(seen.address),
-        ]);
-    }
-    lines.put(&[
-        Text("!  restart   "),
-        Name(name),
-        Text(" was started again: creation "),
-        Number(seen.creation.0),
-        Text(", before "),
-        Number(before.creation.0),
-    ])
-}
-
-impl Lesser {
-    // Whether this attempt, which came up, crossed the dial: it goes from the host that was dialled to the node that dialled, and was made
-    // at the same time.
-    fn is_crossed_by(&self, attempt: &DialAttempt<'_>) -> bool {
-        self.name.as_slice() == attempt.facts.name(Side::Acceptor)
-            && self.dialler.address == attempt.acceptor.address
-            && self.acceptor.address == attempt.dialler.address
-            && self.began <= attempt.until
-            && attempt.began <= self.until
-    }
-}
-
-impl Register {
+impl<'x> Register<'x> {
     /// Nothing is remembered.
-    pub fn new(alloc: Global) -> Register {
+    pub fn new(lines: LineSink<'x>, cookie: Option<&'x Cookie>) -> Register<'x> {
+        let alloc = lines.alloc;
         Register {
-            alloc,
-            nodes: BTreeMap::new(alloc),
-            listeners: Listeners::new(alloc),
-            counts: BTreeMap::new(alloc),
-            waiting: Vec::new(alloc),
+            lines,
+            cookie,
+            now: 0,
+            nodes: NodesSeen::new(alloc),
+            dials: Vec::new(alloc),
+            counted: Vec::new(alloc),
+            unregistered: None,
             status: 0,
         }
     }
 
-    // Remembers a node, and returns what was before, if it was another incarnation.
-    fn meet(&mut self, name: &[u8], seen: Known) -> Result<Option<Known>, AllocError> {
-        if let Some(known) = self.nodes.get_mut(name) {
-            let before = mem::replace(known, seen);
-            if before.creation != seen.creation {
-                return Ok(Some(before));
-            }
-            known.ups = before.ups.saturating_add(seen.ups);
-        } else if self.nodes.len() < MOST {
-            let name = Vec::from_slice(self.alloc, name)?;
-            self.nodes.insert(name, seen)?;
-        }
-        Ok(None)
-    }
-
-    // Remembers a side, and prints that it changed, if it did. `ups` is how many connections came up by this attempt.
-    fn note_side(
-        &mut self,
-        lines: LineSink<'_>,
-        node: Option<NodeDescription<'_>>,
-        address: IpAddr,
-        ups: u32,
-    ) -> Result<(), Fault> {
-        let Some(node) = node else {
-            return Ok(());
-        };
-        let Some(creation) = node.creation else {
-            return Ok(());
-        };
-        let seen = Known {
-            creation,
-            address,
-            ups,
-        };
-        match self.meet(node.name, seen)? {
-            Some(before) => put_change(lines, node.name, before, seen),
-            None => Ok(()),
-        }
-    }
-
-    /// Notes that a connection of these two ended that was up.
-    pub fn note_end(&mut self, facts: &Facts<'_>) {
-        for node in [facts.dialler, facts.acceptor] {
-            if let Some(node) = node
-                && let Some(known) = self.nodes.get_mut(node.name)
-                && Some(known.creation) == node.creation
-            {
-                known.ups = known.ups.saturating_sub(1);
-            }
-        }
-    }
-
-    // Remembers who listens where an attempt went, and returns the name; empty if it is not known.
-    fn acceptor_name(&mut self, attempt: &DialAttempt<'_>) -> Result<ByteString, AllocError> {
-        let said = attempt.facts.name(Side::Acceptor);
-        match self.listeners.listener(attempt.acceptor) {
-            Some(name) if said.is_empty() => ByteString::from_slice(self.alloc, name),
-            _ => {
-                self.listeners.note(attempt.acceptor, said)?;
-                ByteString::from_slice(self.alloc, said)
-            }
-        }
-    }
-
-    // Counts what an attempt between these two came to.
-    fn count(
-        &mut self,
-        one: &[u8],
-        other: &[u8],
-        outcome: AttemptOutcome,
-    ) -> Result<(), AllocError> {
-        let (first, second) = if one <= other {
-            (one, other)
-        } else {
-            (other, one)
-        };
-        let first = Vec::from_slice(self.alloc, first)?;
-        let second = Vec::from_slice(self.alloc, second)?;
-        let row = (first, second, outcome.status(), outcome.name());
-        if let Some(count) = self.counts.get_mut(&row) {
-            *count = count.saturating_add(1);
-        } else if self.counts.len() < MOST {
-            self.counts.insert(row, 1)?;
-        }
-        Ok(())
-    }
-
-    // Keeps a dial that another one may cross. If there are too many, none crossed the oldest.
-    fn wait(&mut self, attempt: &DialAttempt<'_>, other: ByteString) -> Result<(), AllocError> {
-        if self.waiting.len() >= MOST_WAITING {
-            let oldest = self.waiting.remove(0);
-            self.give_up(&oldest)?;
-        }
-        self.waiting.push(Lesser {
-            name: ByteString::from_slice(self.alloc, attempt.facts.name(Side::Dialler))?,
-            other,
-            dialler: attempt.dialler,
-            acceptor: attempt.acceptor,
-            began: attempt.began,
-            until: attempt.until,
-            outcome: attempt.outcome,
-        })?;
-        Ok(())
-    }
-
-    // No dial crossed this one.
-    fn give_up(&mut self, lesser: &Lesser) -> Result<(), AllocError> {
-        self.note_status(lesser.outcome.status());
-        let (name, other) = (lesser.name.as_slice(), lesser.other.as_slice());
-        self.count(name, other, lesser.outcome)
-    }
-
-    // Notes a status: the first that is not 0 counts.
-    fn note_status(&mut self, status: u8) {
+    // Counts what a dial came to. The first status that is not 0 counts.
+    fn settle(&mut self, dial: PastDial) -> Result<(), AllocError> {
         if self.status == 0 {
-            self.status = status;
+            self.status = dial.exit;
         }
+        add(&mut self.counted, dial)
     }
 
-    // Prints that an attempt that came up crossed a dial of the other side, if it did, and whether it had to win.
-    fn put_crossing(
-        &mut self,
-        lines: LineSink<'_>,
-        attempt: &DialAttempt<'_>,
-    ) -> Result<(), Fault> {
-        let found = self.waiting.iter().position(|it| it.is_crossed_by(attempt));
-        let Some(at) = found else {
-            return Ok(());
-        };
-        let lesser = self.waiting.remove(at);
-        let winner = attempt.facts.name(Side::Dialler);
-        let other = attempt.facts.name(Side::Acceptor);
-        self.count(other, winner, lesser.outcome)?;
-        let text = if other < winner {
-            " dialled it at the same time: the dial of the greater name won, as it must"
-        } else {
-            " dialled it at the same time, and has the greater name: its dial had to win, and the other node refused it"
-        };
-        lines.put(&[
-            Text("!  crossing  "),
-            Name(winner),
-            Text(" won: "),
-            Name(other),
-            Text(text),
-        ])
-    }
-
-    /// Takes an attempt, and prints what it shows together with earlier ones.
-    pub fn take(&mut self, lines: LineSink<'_>, attempt: &DialAttempt<'_>) -> Result<(), Fault> {
-        let facts = attempt.facts;
-        let ups = u32::from(facts.ack.is_some());
-        self.note_side(lines, facts.dialler, attempt.dialler.address, ups)?;
-        self.note_side(lines, facts.acceptor, attempt.acceptor.address, ups)?;
-        let acceptor = self.acceptor_name(attempt)?;
-        self.listeners
-            .put_lookup(lines, attempt, acceptor.as_slice())?;
-        if let AttemptOutcome::Verdict(ProbeVerdict::Busy)
-        | AttemptOutcome::Withdrawn(Side::Dialler) = attempt.outcome
+    // Remembers a dial, and prints what it shows together with earlier ones.
+    fn take_dial(&mut self, dial: PastDial) -> Result<(), Fault> {
+        let (lines, mut dial) = (self.lines, dial);
+        for it in &mut self.dials {
+            if dial.has_crossed(it) {
+                dial.win(lines, it)?;
+            } else if it.has_crossed(&dial) {
+                it.win(lines, &mut dial)?;
+            }
+        }
+        if let Some((port, at)) = self.unregistered
+            && dial.ended_with(port, at)
         {
-            return Ok(self.wait(attempt, acceptor)?);
+            lines.put(&[Text(STOPPED)])?;
         }
-        self.note_status(attempt.outcome.status());
-        let dialler = facts.name(Side::Dialler);
-        self.count(dialler, acceptor.as_slice(), attempt.outcome)?;
-        if attempt.outcome.is_up() {
-            self.put_crossing(lines, attempt)?;
-        }
-        Ok(())
-    }
-
-    // Prints how many attempts between two nodes came to what.
-    fn put_counts(&self, lines: LineSink<'_>) -> Result<(), Fault> {
-        for (row, count) in self.counts.iter() {
-            lines.put(&[
-                Text("   pair      "),
-                name_piece(&row.0),
-                Text(" and "),
-                name_piece(&row.1),
-                Text(": "),
-                Text(row.3),
-                Text(" "),
-                Number(*count),
-            ])?;
+        self.dials.push(dial)?;
+        if self.dials.len() > MOST_DIALS {
+            let oldest = self.dials.remove(0);
+            self.settle(oldest)?;
         }
         Ok(())
     }
 
-    /// Prints the summary: a line for each pair and each word. Returns the first status that is not 0 of the attempts, those apart that
-    /// another dial crossed.
-    pub fn finish(&mut self, lines: LineSink<'_>) -> Result<u8, Fault> {
-        let waiting = mem::replace(&mut self.waiting, Vec::new(self.alloc));
-        for lesser in waiting {
-            self.give_up(&lesser)?;
+    // The name of the node where an attempt went, which is remembered; empty if it is not known.
+    fn acceptor_name(&mut self, place: Endpoint, said: &[u8]) -> Result<ByteString, AllocError> {
+        self.nodes.note(place, said)?;
+        match self.nodes.listener(place) {
+            Some(name) => ByteString::from_slice(self.lines.alloc, name),
+            None => ByteString::from_slice(self.lines.alloc, said),
         }
-        self.put_counts(lines)?;
+    }
+
+    // Remembers an attempt, and prints what it shows together with earlier ones.
+    fn note_attempt(
+        &mut self,
+        connection: &CapturedConnection,
+        outcome: AttemptOutcome,
+    ) -> Result<(), Fault> {
+        let (lines, facts) = (self.lines, Facts::of(&connection.said));
+        let (dialler, acceptor) = (connection.dialler, connection.acceptor);
+        self.nodes.note_sides(lines, connection)?;
+        let other = self.acceptor_name(acceptor, facts.name(Side::Acceptor))?;
+        self.nodes.put_lookup(lines, connection, other.as_slice())?;
+        let name = ByteString::from_slice(lines.alloc, facts.name(Side::Dialler))?;
+        self.take_dial(PastDial {
+            name,
+            other,
+            dialler,
+            acceptor,
+            began: connection.began,
+            ended: connection.end_or(self.now),
+            outcome,
+            exit: outcome.status(),
+            count: 1,
+        })
+    }
+
+    // Prints an attempt that came up, or whose connection ended, and remembers it.
+    fn put_attempt(&mut self, connection: &mut CapturedConnection) -> Result<(), Fault> {
+        let outcome = conclude(self.lines.alloc, connection, self.cookie, self.now)?;
+        connection.outcome = Some(outcome);
+        if !self.lines.quiet {
+            let check = check_of_attempt(connection, outcome, self.cookie);
+            put_attempt(self.lines, connection, outcome, check)?;
+        }
+        self.note_attempt(connection, outcome)
+    }
+
+    // Prints what there is to say of an attempt at the end of its connection.
+    fn end_attempt(&mut self, connection: &mut CapturedConnection) -> Result<(), Fault> {
+        if connection.outcome.is_none() {
+            self.put_attempt(connection)?;
+        }
+        if let Some(up_at) = connection.up_since() {
+            put_end(self.lines, connection, up_at, self.now)?;
+            self.nodes.note_end(&Facts::of(&connection.said));
+        }
+        if self.lines.quiet
+            && let Some(outcome) = connection.outcome
+        {
+            let check = check_of_attempt(connection, outcome, self.cookie);
+            let object = attempt_object(self.lines.alloc, connection, outcome, check, self.now);
+            self.lines.write_made(object)?;
+        }
+        Ok(())
+    }
+
+    // Prints how a conversation with a port mapper ended, and if that says something of an attempt before.
+    fn end_mapper(&mut self, connection: &CapturedConnection) -> Result<(), Fault> {
+        put_mapper_end(self.lines, connection)?;
+        if let Some((port, at)) = connection.lost_registration() {
+            self.unregistered = Some((port, at));
+            if self.dials.iter().any(|it| it.ended_with(port, at)) {
+                self.lines.put(&[Text(STOPPED)])?;
+            }
+        }
+        Ok(())
+    }
+
+    /// Prints what there is to say of a connection at its end, once.
+    pub fn end(&mut self, connection: &mut CapturedConnection) -> Result<(), Fault> {
+        if mem::replace(&mut connection.is_reported, true) {
+            return Ok(());
+        }
+        let is_unreached = connection.connect_fault(self.now).is_some();
+        let is_node = self.nodes.listener(connection.acceptor).is_some();
+        match connection.content {
+            Traffic::Handshake => self.end_attempt(connection),
+            Traffic::Mapper if is_unreached => self.end_attempt(connection),
+            Traffic::Unknown if is_unreached && is_node => self.end_attempt(connection),
+            Traffic::Mapper => self.end_mapper(connection),
+            Traffic::Tls => {
+                put_heading(self.lines, connection)?;
+                self.lines.put(&[Text(
+                    "   tls       TLS is not looked into: a node of -proto_dist inet_tls, or another program",
+                )])
+            }
+            Traffic::Unknown | Traffic::Other => Ok(()),
+        }
+    }
+
+    /// Takes a segment of a connection. Copies of packets that come behind its end are no more than that.
+    pub fn take(
+        &mut self,
+        connection: &mut CapturedConnection,
+        segment: &Segment,
+    ) -> Result<(), Fault> {
+        if connection.is_reported {
+            return Ok(());
+        }
+        if let Some(answer) = connection.take(self.lines.alloc, segment)? {
+            put_answer(self.lines, connection, &answer)?;
+            self.nodes.note_answer(connection, &answer)?;
+        }
+        if connection.acknowledged_at.is_some() && connection.outcome.is_none() {
+            self.put_attempt(connection)?;
+        }
+        if connection.is_over() {
+            return self.end(connection);
+        }
+        Ok(())
+    }
+
+    /// Prints the summary: a line for each pair and each word, or an object. Returns the first status that is not 0 of the attempts, those
+    /// apart that another dial crossed.
+    pub fn finish(&mut self) -> Result<u8, Fault> {
+        let alloc = self.lines.alloc;
+        for dial in mem::replace(&mut self.dials, Vec::new(alloc)) {
+            self.settle(dial)?;
+        }
+        let counted = mem::replace(&mut self.counted, Vec::new(alloc));
+        let pairs = by_pairs(alloc, counted, &self.nodes)?;
+        for pair in &pairs {
+            let is_doubted = pair.is_refused() && pairs.iter().any(|it| it.came_up_as(pair));
+            put_pair(self.lines, pair, is_doubted)?;
+            if self.lines.quiet {
+                self.lines.write_made(pair_object(alloc, pair))?;
+            }
+        }
         Ok(self.status)
     }
 }

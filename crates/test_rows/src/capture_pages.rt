@@ -12,7 +12,7 @@ use std::alloc::Global;
 use std::{fs, io};
 
 /// The rows.
-const ROWS: [&str; 43] = [
+const ROWS: [&str; 54] = [
     "alive_false",
     "alive_true",
     "any_interface",
@@ -23,19 +23,29 @@ const ROWS: [&str; 43] = [
     "crossing_25_27",
     "crossing_29_27",
     "crossing_against_the_rule",
+    "crossing_early",
+    "crossing_json",
+    "crossing_late",
     "cut",
+    "cut_payloads",
     "fell_silent",
     "firewall_seen_by_acceptor",
     "firewall_seen_by_dialler",
     "gap",
+    "gap_of_dialler",
+    "given_name",
     "ipv6",
     "killed",
     "lacks_flags_23_29",
     "late",
+    "late_copies",
     "late_reply",
     "left_29_23",
     "many",
+    "mapper",
     "not_on_list",
+    "one_pair",
+    "other_ack",
     "other_name",
     "ours",
     "pcapng",
@@ -45,6 +55,7 @@ const ROWS: [&str; 43] = [
     "retransmitted",
     "silent_acceptor",
     "silent_dialler",
+    "stopped",
     "tls",
     "two_hosts_of_one_name",
     "up",
@@ -61,13 +72,15 @@ const ROWS: [&str; 43] = [
 // The port of the port mapper in the captures.
 const MAPPER_PORT: u16 = 4389;
 
-/// Prints how many captures have their page. The first page that is another one is an error, and is printed.
+/// Prints how many captures have their page: of a row whose name ends in `_json`, the objects. The first page that is another one is an
+/// error, and is printed.
 pub fn play_pages(rt: &HostRuntime) -> io::Result<()> {
     for name in ROWS {
         let file = format!(in rt.alloc(); "capture_pages/{name}")?;
         let row = fs::read_to_string(rt, &file)?;
         let (head, wanted) = row.split_once('\n').unwrap_or(("", ""));
-        let came = page_of_row(rt.alloc(), head).unwrap_or(String::new(rt.alloc()));
+        let page = page_of_row(rt.alloc(), head, name.ends_with("_json"));
+        let came = page.unwrap_or(String::new(rt.alloc()));
         if came.as_str() != wanted {
             println!(rt; "{came}came of the row {name}")?;
             return Err(io::Error::from(io::ErrorKind::InvalidData));
@@ -77,22 +90,22 @@ pub fn play_pages(rt: &HostRuntime) -> io::Result<()> {
 }
 
 // The page of a row. `None`: it is no capture, or memory was refused.
-fn page_of_row(alloc: Global, head: &str) -> Option<String> {
+fn page_of_row(alloc: Global, head: &str, quiet: bool) -> Option<String> {
     let (cookie, digits) = head.split_once(' ')?;
     let cookie = Cookie::from_bytes(alloc, cookie.as_bytes()).ok()?;
     let bytes = hex::decode(alloc, digits).ok()?;
     let page = Page::new(alloc);
-    let status = put_page(alloc, &page, &cookie, &bytes)?;
+    let status = put_page(alloc, &page, quiet, &cookie, &bytes)?;
     let text = page.into_text();
     format!(in alloc; "{text}status {status}\n").ok()
 }
 
 // Puts the page of a capture on a page, and returns the exit status. The capture comes in pieces.
-fn put_page(alloc: Global, page: &Page, cookie: &Cookie, bytes: &[u8]) -> Option<u8> {
+fn put_page(alloc: Global, page: &Page, quiet: bool, cookie: &Cookie, bytes: &[u8]) -> Option<u8> {
     let lines = LineSink {
         alloc,
         out: Output::Page(page),
-        quiet: false,
+        quiet,
     };
     let mut finder = Finder::new(lines, Some(cookie), MAPPER_PORT);
     let mut capture = Capture::new(alloc);

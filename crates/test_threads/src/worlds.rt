@@ -1,11 +1,8 @@
-//! Worlds: what two nodes agree on is the same from both sides; a world stands when memory runs out; and a node changes its cookies
-//! and which nodes may connect.
+//! Worlds: what two nodes agree on is the same from both sides, and a world stands when memory runs out.
 
-use crate::setting::{number, word};
-use dist_core::{Change, NameList, Setup};
-use dist_names::{Creation, Flags, NodeName};
+use dist_core::Setup;
+use dist_names::{Creation, Flags};
 use dist_script::{Script, script_of};
-use dist_secret::Cookie;
 use dist_world::{Agreement, Happening, Stopped, World};
 use std::alloc::Global;
 use std::test::*;
@@ -138,87 +135,4 @@ fn a_world_stands_after_what_was_done_whatever_request_for_memory_is_refused(rt:
         noted => noted,
     };
     assert!(rt; stands == Some(true));
-}
-
-// How many of these happenings apply, whether nodes a and b then agree, and for which cause an end was last closed. Beside the lines of
-// scripts there are `reset NODE cookie PEER COOKIE`, `reset NODE usual - COOKIE` and `reset NODE allow PEER`.
-//
-// A handshake prevents no change of a cookie, and comes up under the new one or not at all. While a peer is up, its cookie stays; it
-// may get the same cookie as its own, and then the usual one may change. A list of the peers that may connect only affects later names.
-// A halted node changes nothing. Without COOKIE, the peer's own one is removed.
-const CHANGES: &str = "\
-begin 0 5, begin 1 6, reset 0 cookie b@127.0.0.1 secret, reset 1 usual - secret => 4 false -
-dial 0 b@127.0.0.1 new, reach 0 0 1, opened 0 0, accept 0 => 4 false -
-reset 0 cookie b@127.0.0.1 other => 1 false -
-reset 0 usual - secret, reset 1 cookie c@127.0.0.1 secret => 2 false -
-deliver 1 0 999, take 1 0 11 => 2 false -
-reset 1 usual - other => 1 false -
-deliver 0 0 999, take 0 0 0, take 0 0 12, deliver 1 0 999, take 1 0 0, deliver 0 0 999, take 0 0 0 => 7 true -
-reset 0 cookie b@127.0.0.1 secret, reset 0 cookie b@127.0.0.1, reset 1 cookie a@127.0.0.1 secret, reset 1 usual - secret => 0 true -
-reset 1 cookie a@127.0.0.1 other, reset 1 usual - secret, reset 1 allow c@127.0.0.1 => 3 true -
-lose 0 0 Ended, lose 1 0 Ended => 2 false Ended
-dial 0 b@127.0.0.1 new, reach 0 1 1, opened 0 1, accept 1, deliver 1 1 999, take 1 1 13 => 6 false Refused
-deliver 0 1 999, take 0 1 0 => 2 false StatusRefused
-reset 1 allow a@127.0.0.1 => 1 false -
-dial 0 b@127.0.0.1 new, reach 0 2 1, opened 0 2, accept 2, deliver 1 2 999, take 1 2 14 => 6 false -
-reset 1 cookie a@127.0.0.1 => 1 false -
-deliver 0 2 999, take 0 2 0, take 0 2 15, deliver 1 2 999, take 1 2 0 => 5 false WrongDigest
-reset 2 usual - other => 0 false WrongDigest";
-
-// The change that `reset` makes.
-fn change_of(alloc: Global, text: &str) -> Option<Change> {
-    let cookie = Cookie::from_bytes(alloc, word(text, 4).as_bytes()).ok();
-    if word(text, 2) == "usual" {
-        return Some(Change::UsualCookie { cookie: cookie? });
-    }
-    let peer = NodeName::new(alloc, word(text, 3).as_bytes()).ok()?;
-    if word(text, 2) == "cookie" {
-        return Some(Change::Cookie { peer, cookie });
-    }
-    let mut names = Vec::new(alloc);
-    names.push(peer).ok()?;
-    let allow = Some(NameList::from_vec(names));
-    Some(Change::Allow { allow })
-}
-
-fn happening_of(alloc: Global, text: &str) -> Option<Happening> {
-    if text.starts_with("reset") {
-        let node = number(word(text, 1), 9) as usize;
-        let change = change_of(alloc, text)?;
-        return Some(Happening::Reset { node, change });
-    }
-    happenings_of(alloc, NODES, text)?.1.pop()
-}
-
-// How many of these happenings apply.
-fn count_of_applied(alloc: Global, world: &mut World, text: &str) -> Option<u64> {
-    let mut count = 0u64;
-    for one in text.split(", ") {
-        let happening = happening_of(alloc, one)?;
-        count = count.saturating_add(world.run(alloc, &[happening]).ok()? as u64);
-    }
-    Some(count)
-}
-
-// What comes of a row's happenings, tried one after the other.
-fn outcome_of(alloc: Global, world: &mut World, text: &str) -> Option<String> {
-    let count = count_of_applied(alloc, world, text)?;
-    let closed = match world.last_closed() {
-        Some((_, _, why)) => why.name(),
-        None => "-",
-    };
-    let agrees = world.both_up(0, 1).is_some();
-    format!(in alloc; "{count} {agrees} {closed}").ok()
-}
-
-#[test]
-fn cookies_and_allow_list_change(rt: HostRuntime) {
-    let Some((mut world, _)) = world_of(rt.alloc(), NODES, "") else {
-        panic!(rt; "no memory");
-    };
-    for row in CHANGES.lines() {
-        let (text, wanted) = row.split_once(" => ").unwrap_or((row, ""));
-        let seen = outcome_of(rt.alloc(), &mut world, text);
-        assert_eq!(rt; seen.as_deref(), Some(wanted), "{row}");
-    }
 }

@@ -1,4 +1,0 @@
-pub mod Clusters
-pub mod Held
-pub mod Shown
-pub mod UpStays

@@ -1,5 +1,0 @@
-use Rattle.dist_carrier.proofs.Shown.{one-of-a-peer}
-use Rattle.dist_carrier.proofs.laws.one_end_of_a_peer_is_up.Goals as goal
-
-pub returns : goal.returns
-returns c = one-of-a-peer

@@ -1,2 +1,0 @@
-pub mod Cluster
-pub mod Guard

@@ -1,6 +1,0 @@
-use Rattle.dist_script_lines.specs.Later.{AreLater}
-use Rattle.dist_script_lines.proofs.agreements.later_peers.Given as goal
-
--- the places of the rows so far
-abbrev pub invariant-loop-row : goal.invariant-loop-row
-invariant-loop-row l = AreLater l.later l.places l.place l.node l.row

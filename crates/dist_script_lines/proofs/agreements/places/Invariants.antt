@@ -1,6 +1,0 @@
-use Rattle.dist_script_lines.specs.Later.{ArePlaces}
-use Rattle.dist_script_lines.proofs.agreements.places.Given as goal
-
--- the places of those so far
-abbrev pub invariant-loop-place : goal.invariant-loop-place
-invariant-loop-place l = ArePlaces l.places l.setups l.place

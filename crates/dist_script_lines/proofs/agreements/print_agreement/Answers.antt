@@ -1,7 +1,0 @@
-use Rattle.std.proofs.Common.{None}
-use Rattle.std.proofs.KnownBytes.{Appends-nil}
-use Rattle.dist_script_lines.proofs.Pairing.{none_both}
-use Rattle.dist_script_lines.proofs.agreements.print_agreement.Goals as goal
-
-pub returns-in-None : goal.returns-in-None
-returns-in-None g c = (None, none_both c.args.world.now c.args.a c.args.b c.requires c.in-None.ensures.counted, Appends-nil (g.W.Write.contents c.args.out.now))

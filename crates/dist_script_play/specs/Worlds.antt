@@ -1,0 +1,68 @@
+-- WHAT IS PRINTED OF A WORLD at the end: its nodes, and what each two of them have in common. The lines stand in Lines.antt.
+use Rattle.std.specs.Prelude.{◌≡◌, ℕ, zero, suc, List, [], ◌∷◌, ◌++◌, map, length, Option, Some, None, slice_get}
+use Rattle.std.specs.Io.KnownBytes.{Appends}
+use Rattle.dist_core_setup.specs.declared.setup.Setup.{Setup}
+use Rattle.dist_world_model.specs.World.{World}
+use Rattle.dist_world_model.specs.Agreement.{Counts}
+use Rattle.dist_world.specs.declared.agreement.Agreement.{Agreement}
+use Rattle.dist_world.specs.Asking.{node_of}
+use Rattle.dist_world.specs.Ups.{FindsAgreed}
+use Rattle.dist_script_play.specs.Lines.{node_text, agree_line}
+
+-- ---- the nodes
+
+-- the lines of these nodes, of which the first has place i
+abbrev pub nodes_from : World → ℕ → List Setup → List ℕ
+nodes_from w i [] = []
+nodes_from w i (s ∷ setups) = node_text s.name (node_of w i) ++ nodes_from w (suc i) setups
+
+-- THE NODES of a world: the line and the table of each, once, in the order of their places
+abbrev pub nodes_text : World → List ℕ
+nodes_text w = nodes_from w 0 w.setups
+
+-- ---- what each two nodes have in common
+
+-- WHAT IS RETURNED OF TWO NODES: what they agree on, where each counts the other as up, and nothing where not
+abbrev pub IsReported : World → ℕ → ℕ → Option Agreement → Type 0
+IsReported w a b None = Counts w a b → Counts w b a → ⊥
+IsReported w a b (Some g) = FindsAgreed w a b (Some g)
+
+-- the line of what two nodes agree on, if they do
+abbrev pub pair_line : Option Agreement → Option Setup → Option Setup → List ℕ
+pair_line None a b = []
+pair_line (Some g) None b = []
+pair_line (Some g) (Some a) None = []
+pair_line (Some g) (Some a) (Some b) = agree_line a.name b.name g
+
+-- the line of what is returned of the nodes at two places
+abbrev pub reported_line : World → ℕ → ℕ → Option Agreement → List ℕ
+reported_line w a b noted = pair_line noted (slice_get w.setups a) (slice_get w.setups b)
+
+-- these are the lines of what is returned of each of these pairs, one behind the other
+abbrev pub AreLinesOf : World → List (ℕ × ℕ) → List ℕ → Type 0
+AreLinesOf w [] text = text ≡ []
+AreLinesOf w (p ∷ ps) text =
+    (noted : Option Agreement) × (rest : List ℕ) × IsReported w p.0 p.1 noted × AreLinesOf w ps rest
+    × (text ≡ reported_line w p.0 p.1 noted ++ rest)
+
+-- the places from a on, this many of them
+abbrev pub places_from : ℕ → ℕ → List ℕ
+places_from a zero = []
+places_from a (suc count) = a ∷ places_from (suc a) count
+
+-- a with each of these
+abbrev pub with_each : ℕ → List ℕ → List (ℕ × ℕ)
+with_each a bs = map (λ b. (a, b)) bs
+
+-- ALL PAIRS of these, each once, in order: each with each one behind it
+abbrev pub pairs : List ℕ → List (ℕ × ℕ)
+pairs [] = []
+pairs (a ∷ bs) = with_each a bs ++ pairs bs
+
+-- WHAT EACH TWO NODES of a world AGREE ON: the lines of all pairs of its nodes
+abbrev pub AreAgreements : World → List ℕ → Type 0
+AreAgreements w text = AreLinesOf w (pairs (places_from 0 (length w.setups))) text
+
+-- these are written behind what stood
+abbrev pub PutsAgreements : World → Option (List ℕ) → Option (List ℕ) → Type 0
+PutsAgreements w old new = (text : List ℕ) × AreAgreements w text × Appends old new text

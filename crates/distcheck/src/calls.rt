@@ -1,0 +1,114 @@
+//! Calls: a name is registered at the node's port mapper, with a port of our own, and the node is made to dial it.
+
+use crate::fault::Fault;
+use crate::reaching::{TURNS, deadline};
+use crate::talk_link::TalkLink;
+use dist_epmd::NodeInfo;
+use dist_epmd_calls::{LookupError, register};
+use dist_program::at_port;
+use dist_stream::{SocketStream, connect_by};
+use libc::types::pollfd;
+use std::alloc::{AllocError, Global};
+use std::io;
+use std::net::{SocketAddr, TcpListener};
+use std::os::fd::AsRawFd;
+
+/// How the node is made to dial.
+#[derive(Clone, Copy)]
+pub struct CallPlaces<'a> {
+    /// Where orders to dial are taken.
+    pub orders: SocketAddr,
+    /// The node's port mapper.
+    pub mapper: SocketAddr,
+    /// The host part of the names that are dialled.
+    pub host: &'a str,
+}
+
+/// A name that the node can dial, as long as this is kept.
+#[derive(Drop)]
+pub struct OpenCall {
+    listener: TcpListener,
+    registration: SocketStream,
+    // What has the node dial ends with this connection.
+    order: Option<TalkLink>,
+}
+
+// A listener at this address, at a port that the system chooses, and the port.
+fn listen(rt: &HostRuntime, address: &SocketAddr) -> io::Result<(TcpListener, u16)> {
+    let listener = TcpListener::bind(rt, at_port(address, 0))?;
+    listener.set_nonblocking(true)?;
+    let port = listener.local_addr()?.port();
+    Ok((listener, port))
+}
+
+// Registers this, as long as the connection is kept. None where the port mapper does not.
+fn registration_of(
+    rt: &HostRuntime,
+    mapper: &SocketAddr,
+    info: &NodeInfo,
+) -> Result<Option<SocketStream>, Fault> {
+    let until = deadline(rt)?;
+    let Ok(mut stream) = connect_by(rt, mapper, until) else {
+        return Ok(None);
+    };
+    match register(rt.alloc(), &mut stream, info, TURNS) {
+        Ok(_) => Ok(Some(stream.into_inner())),
+        Err(LookupError::NoMemory) => Err(Fault::NoMemory),
+        Err(_) => Ok(None),
+    }
+}
+
+impl OpenCall {
+    /// Listens, and registers this with that port. None where either fails.
+    pub fn open(
+        rt: &HostRuntime,
+        places: &CallPlaces<'_>,
+        info: &NodeInfo,
+    ) -> Result<Option<OpenCall>, Fault> {
+        let Ok((listener, port)) = listen(rt, &places.mapper) else {
+            return Ok(None);
+        };
+        let mut own = info.try_clone(rt.alloc())?;
+        own.port = port;
+        let Some(registration) = registration_of(rt, &places.mapper, &own)? else {
+            return Ok(None);
+        };
+        Ok(Some(OpenCall {
+            listener,
+            registration,
+            order: None,
+        }))
+    }
+
+    /// Orders a dial of this name, in place of the order before. Returns whether that is taken.
+    pub fn order_dial(
+        &mut self,
+        rt: &HostRuntime,
+        places: &CallPlaces<'_>,
+        short: &[u8],
+    ) -> Result<bool, AllocError> {
+        let alloc = rt.alloc();
+        let mut line = Vec::from_slice(alloc, short)?;
+        line.push(b'@')?;
+        line.extend_from_slice(places.host.as_bytes())?;
+        line.push(b'\n')?;
+        let Ok(mut link) = TalkLink::open(rt, alloc, 0, &places.orders) else {
+            return Ok(false);
+        };
+        let is_taken = link.write(&line);
+        self.order = Some(link);
+        Ok(is_taken)
+    }
+
+    /// The connection that the node makes within this many milliseconds.
+    pub fn accept(&self, alloc: Global, conn: u8, limit: u32) -> Option<TalkLink> {
+        let mut waits = [pollfd {
+            fd: self.listener.as_raw_fd(),
+            events: libc::net::POLLIN,
+            revents: 0,
+        }];
+        let _ = libc::net::poll(&mut waits, i32::try_from(limit).unwrap_or(i32::MAX));
+        let (socket, _) = self.listener.accept().ok()?;
+        TalkLink::over(alloc, conn, socket).ok()
+    }
+}
