@@ -7,7 +7,7 @@ usage: standin.py COOKIE [FAULT]     prints its node's port, its port mapper's, 
 The faults of the node: noextra (closes where bytes stand behind the name), prefix (compares 8 bytes of a digest), signed (digests a challenge
 as a number with a sign), longreply (takes a reply with bytes behind it), nomap (does not require MAP_TAG), announces (does not announce
 NEW_FLOATS), onepiece (loses what stands behind a message in the same piece), twobytes (goes on with short frames once it is up), notick (a
-tick ends the connection), samechallenge, creation0, saysno (not_allowed behind a wrong digest), forgets (no alive: a second name is told
+tick ends the connection), samechallenge, creation0, saysno (not_allowed behind a wrong digest), forgets (no alive: a second name is answered by
 ok), takeover (a second name ends the first connection). Of its dials: noack (takes any acknowledgement), anyname (a challenge of any name),
 crossing (the lesser name wins), nodoom (what ok_simultaneous gave up comes up). Of the port mapper: stale (keeps a name for
 3 seconds), noextramap (forgets the extra), namesport (4369 in front of the names), cutreg (registers what was cut), serial (one client at a
@@ -65,7 +65,7 @@ class Connection:
 
 
 # --- the node ---
-# The connections of each peer: the one that is up, the one that came, the one that was dialled, and the one that was told alive.
+# The connections of each peer: the one that is up, the one that came, the one that was dialled, and the one that was answered by alive.
 PEERS, LOCK = {}, threading.RLock()
 
 
@@ -111,7 +111,7 @@ def end(it):
 
 
 def status_of(name, it):
-    """What a name is told, by the other connections of its peer."""
+    """How a name is answered, by the other connections of its peer."""
     with LOCK:
         peer = PEERS.setdefault(name, {})
         if "up" in peer and FAULT != "forgets":
