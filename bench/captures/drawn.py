@@ -9,7 +9,7 @@ from wire import ACK, FIN, MAPPER, RESET, SYN, address_of
 
 A, B, C, Z = b"a@10.0.0.1", b"b@10.0.0.2", b"c@10.0.0.3", b"z@10.0.0.1"
 CREATIONS = {A: 1, B: 2, C: 3, Z: 4}
-STEP, NAME_ME = 0.0002, 1 << 33
+STEP = 0.0002
 PLAYS = {}
 
 
@@ -159,6 +159,20 @@ def stopped(line):
 
 
 @play
+def vanished(line):
+    """a is gone without an end after the challenge of b. It is started again, and comes up, before the first attempt is said to be over."""
+    first = line.dial(1, 2, 5012)
+    first.begin(A)
+    first.say("a", challenge(FLAGS, 17, 2, B))
+    line.wait(10)
+    again = line.dial(1, 2, 5012)
+    again.say("d", name(FLAGS, 5, A))
+    again.say("a", status(b"ok"))
+    again.agree(B)
+    again.close("d")
+
+
+@play
 def late_copies(line):
     """Copies of packets come when their connection is over: of an end, of an acknowledgement, of a SYN. Then the same two ports are used
     again, and a tick comes behind the reset."""
@@ -185,17 +199,6 @@ def mapper(line):
     look_up(line, b"c", b"w\x01")
     ask(line, 1, 2, b"n", struct.pack(">I", int(MAPPER)) + b"name b at port 5012\n").close("a")
     first.close("d")
-
-
-@play
-def given_name(line):
-    """A node that asks for a name, and gets one."""
-    talk = line.dial(1, 2, 5012)
-    given = b"3XK2QV0Z9A@10.0.0.1"
-    talk.say("d", name(FLAGS | NAME_ME, 0, b"10.0.0.1"))
-    talk.say("a", status(b"named:" + struct.pack(">H", len(given)) + given + struct.pack(">I", 7)))
-    talk.agree(B)
-    talk.close("d")
 
 
 @play

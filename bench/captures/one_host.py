@@ -79,17 +79,6 @@ def alive_false():
     talk.close("d")
 
 
-def wrong_ack():
-    """What answers takes each cookie, and has none."""
-    talk = Talk(5007)
-    talk.say("d", name(FLAGS, 1, b"a@h1"))
-    talk.say("a", status(b"ok"))
-    talk.say("a", challenge(FLAGS, 17, 2, b"b@h1"))
-    talk.say("d", reply(b"secret", 17, 18))
-    talk.say("a", ack(b"other", 18))
-    talk.close("d")
-
-
 def version_5():
     talk = Talk(5003)
     talk.say("d", old_name(0x7DF7FBD & ~0x1000000, b"a@h1"))
@@ -107,13 +96,6 @@ def killed():
     talk.say("a", challenge(FLAGS, 17, 2, b"b@h1"))
     talk.say("d", reply(b"secret", 17, 18))
     talk.reset("a")
-
-
-def tls():
-    talk = Talk(5005)
-    hello = bytes.fromhex("0100002b0303") + bytes(32) + bytes.fromhex("000004002f00ff0100")
-    talk.say("d", b"\x16\x03\x01" + struct.pack(">H", len(hello)) + hello)
-    talk.close("d")
 
 
 def erl(short, cookie, port, code):
@@ -148,21 +130,6 @@ def ours():
         run.wait(30)
 
 
-def port_mapper():
-    """What a port mapper is asked: two nodes of one name, a node that is not there, all names."""
-    mapper = subprocess.Popen(["epmd"], stderr=subprocess.DEVNULL)
-    try:
-        b = erl("b", "secret", 5012, 'io:put_chars("ready\\n").')
-        b.stdout.readline()
-        erl("b", "secret", 5013, "halt().").wait(30)
-        erl("a", "secret", 5011, "net_adm:ping('c@127.0.0.1'), net_adm:names({127,0,0,1}), halt().").wait(30)
-        b.send_signal(signal.SIGKILL)
-        b.wait(30)
-    finally:
-        mapper.kill()
-        mapper.wait(10)
-
-
 def is_of_b(packet):
     """Whether a packet comes from the port of b, or goes there."""
     return struct.pack(">H", 5012) in (packet[34:36], packet[36:38])
@@ -174,9 +141,8 @@ def is_said_by_b(packet, tag):
     return packet[34:36] == struct.pack(">H", 5012) and packet[behind + 2:behind + 3] == tag
 
 
-PLAYS = {"crossing": crossing, "crossing_against_the_rule": crossing_against_the_rule, "alive_false": alive_false, "wrong_ack": wrong_ack,
-         "version_5": version_5, "killed": killed, "tls": tls, "port_mapper": port_mapper, "ours": ours, "up": lambda: otp("secret"),
-         "wrong_cookie": lambda: otp("other")}
+PLAYS = {"crossing": crossing, "crossing_against_the_rule": crossing_against_the_rule, "alive_false": alive_false, "version_5": version_5,
+         "killed": killed, "ours": ours, "up": lambda: otp("secret"), "wrong_cookie": lambda: otp("other")}
 
 
 def perform(title):

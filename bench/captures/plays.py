@@ -5,6 +5,7 @@ import os
 import signal
 import struct
 import subprocess
+import tempfile
 import time
 
 import pcap
@@ -12,7 +13,7 @@ import talks
 from stage import Stage, await_line, own_program
 from wire import FIN, MAPPER, SYN, Packet
 
-A, B = "a@10.0.0.1", "b@10.0.0.2"
+A, B, Z = "a@10.0.0.1", "b@10.0.0.2", "z@10.0.0.1"
 PLAYS = {}
 
 
@@ -98,6 +99,20 @@ def ipv6(stage, _):
     stage.dial(1, "a@fd00::1", 29, "b@fd00::2", "-proto_dist", "inet6_tcp")
 
 
+@play("tls")
+def tls(stage, _):
+    """a dials b over TLS. Both have one certificate, which its own key signs."""
+    stage.mapper(1, 25)
+    stage.mapper(2, 25)
+    with tempfile.NamedTemporaryFile() as file:
+        kind = ["-x509", "-newkey", "ec", "-pkeyopt", "ec_paramgen_curve:prime256v1", "-nodes", "-subj", "/CN=node"]
+        subprocess.run(["openssl", "req", *kind, "-keyout", file.name, "-out", file.name], check=True, stderr=subprocess.DEVNULL)
+        words = ["-proto_dist", "inet_tls", "-ssl_dist_opt", "server_certfile", file.name]
+        stage.node(2, "b", 25, *words)
+        a = stage.node(1, "a", 25, *words, then=f"true = net_kernel:connect_node('{B}'), io:put_chars(\"up\\n\")")
+        await_line(a, b"up\n")
+
+
 @play("c_node")
 def c_node(stage, _):
     """A node in C, of Erlang's library for C."""
@@ -129,12 +144,13 @@ def two_hosts_of_one_name(stage, _):
     stage.dial(3, "a@node.example", 29, B)
 
 
-def cross(stage, nodes, seconds):
-    """Nodes dial, each so many seconds after the one before."""
+def cross(stage, *nodes):
+    """Nodes dial each other at once, over a wire of 20 milliseconds."""
+    stage.wire.rule = lambda packet: [0.02]
     for node in nodes:
         node.stdin.write(b"go\n")
         node.stdin.flush()
-        time.sleep(seconds)
+        time.sleep(0.04)
     for node in nodes:
         node.wait(30)
     time.sleep(0.2)
@@ -146,22 +162,15 @@ def waiting_node(stage, host, name, release, target):
     return stage.node(host, name, release, then=f"io:get_line(\"\"), net_kernel:connect_node('{target}'), timer:sleep(60), halt()")
 
 
-@play("crossing_25_27", "crossing_lookup_25_27")
-def crossing(stage, title):
-    """a and b dial each other at once, over a wire of 20 milliseconds. With a lookup, b still waits for its port mapper when it refuses
-    the dial of a."""
-    nodes = [waiting_node(stage, 1, "a", 25, B), waiting_node(stage, 2, "b", 27, A)]
-    stage.wire.rule = lambda packet: [0.02]
-    cross(stage, nodes, 0.12 if "lookup" in title else 0.04)
+@play("crossing_25_27")
+def crossing(stage, _):
+    cross(stage, waiting_node(stage, 1, "a", 25, B), waiting_node(stage, 2, "b", 27, A))
 
 
-@play("crossing_29_27", "crossing_slow_29_27")
-def crossing_with_greater(stage, title):
-    """b and z on host 1, the greater name, dial each other at once. If z is slow to refuse the dial of b, b gives it up before."""
-    nodes = [waiting_node(stage, 2, "b", 27, "z@10.0.0.1"), waiting_node(stage, 1, "z", 29, B)]
-    slow = 0.15 if "slow" in title else 0.02
-    stage.wire.rule = lambda packet: [slow] if packet.source_port == 5011 and not packet.flags & SYN else [0.02]
-    cross(stage, nodes, 0.04)
+@play("crossing_29_27")
+def crossing_with_greater(stage, _):
+    """z on host 1 has a greater name than b."""
+    cross(stage, waiting_node(stage, 2, "b", 27, Z), waiting_node(stage, 1, "z", 29, B))
 
 
 @play("silent_acceptor")
@@ -214,31 +223,6 @@ def reordered(stage, _):
     stage.dial(1, "a", 25, B)
 
 
-@play("stray")
-def stray(stage, _):
-    """A second copy of the status arrives when the connection is over."""
-    open_b(stage, 25, 27)
-    stage.wire.seen_by = 1
-    stage.wire.rule = lambda packet: [0, 0.5] if packet.says(b"s") else [0]
-    stage.dial(1, "a", 25, B)
-    time.sleep(0.5)
-
-
-@play("killed_acceptor")
-def killed_acceptor(stage, _):
-    """b is killed as soon as it has said its challenge, before the reply arrives."""
-    b = open_b(stage, 25, 27)
-
-    def kill(packet):
-        if packet.source_port == 5012 and packet.says(b"N"):
-            b.kill()
-            b.wait()
-        return [0]
-
-    stage.wire.rule = kill
-    stage.dial(1, "a", 25, B)
-
-
 def register(stage, host, name, port, highest, lowest):
     """Registers a name, and keeps it."""
     mapper = stage.socket_on(host)
@@ -258,6 +242,57 @@ def complement(stage, _):
         stage.dial(1, "a", 23, B)
 
 
+def answer(connection):
+    """Replies to a challenge, and takes the acknowledgement."""
+    number = struct.unpack_from(">I", talks.body_of(connection), 9)[0]
+    connection.sendall(talks.reply(b"secret", number, 18))
+    talks.body_of(connection)
+
+
+def begin(stage, name):
+    """A connection to b that begins with this name."""
+    connection = stage.connection(1, 2, 5012)
+    connection.sendall(talks.name(talks.HIDDEN, 1, name.encode()))
+    return connection
+
+
+def end(connection):
+    """Takes what comes until b closes, and closes too."""
+    while connection.recv(1000):
+        pass
+    connection.close()
+
+
+@play("second_dial")
+def second_dial(stage, _):
+    """Whoever dials b dials it again while b still holds the last connection half made. Of a, the lesser name, b refuses the second dial,
+    and the first comes up. Of z it closes the first, and the second comes up; upon the third it asks whether that one is still up, and it
+    closes the fourth without a word."""
+    open_b(stage, 25, 25)
+    with stage.connection(1, 2, int(MAPPER)) as mapper:
+        mapper.sendall(talks.frame(b"zb"))
+        mapper.recv(1000)
+    first = begin(stage, A)
+    talks.body_of(first)
+    end(begin(stage, A))
+    answer(first)
+    first.close()
+    time.sleep(0.02)
+    first = begin(stage, Z)
+    talks.body_of(first)
+    talks.body_of(first)
+    second = begin(stage, Z)
+    talks.body_of(second)
+    end(first)
+    answer(second)
+    third = begin(stage, Z)
+    talks.body_of(third)
+    end(begin(stage, Z))
+    third.sendall(talks.status(b"false"))
+    end(third)
+    second.close()
+
+
 @play("many")
 def many(stage, _):
     """25 at once. The capture has their handshakes and ends alone."""
@@ -270,9 +305,7 @@ def many(stage, _):
     for connection in connections:
         talks.body_of(connection)
     for connection in connections:
-        number = struct.unpack_from(">I", talks.body_of(connection), 9)[0]
-        connection.sendall(talks.reply(b"secret", number, 18))
-        talks.body_of(connection)
+        answer(connection)
     for connection in connections:
         connection.close()
         time.sleep(0.02)
@@ -289,23 +322,17 @@ def fell_silent(stage, _):
     time.sleep(85)
 
 
-@play("refused_port")
-def refused_port(stage, _):
-    """b is registered at a port where nobody listens."""
+@play("unreached")
+def unreached(stage, _):
+    """b is registered at a port where nobody listens. Then a firewall drops what goes there. a then asks for c, which is not there."""
     stage.mapper(1, 25)
-    stage.mapper(2, 27)
-    with register(stage, 2, b"b", 5099, 6, 5):
-        stage.dial(1, "a", 25, B)
-
-
-@play("closed_port")
-def closed_port(stage, _):
-    """A firewall drops what goes to the port of b. a then dials c, which is not there."""
-    open_b(stage, 25, 27)
+    stage.mapper(2, 25)
     stage.wire.seen_by = 1
-    stage.wire.rule = lambda packet: [] if packet.target_port == 5012 else [0]
-    stage.dial(1, "a", 25, B)
-    stage.dial(1, "a", 25, "c@10.0.0.2")
+    with register(stage, 2, b"b", 5012, 6, 5):
+        stage.dial(1, "a", 25, B)
+        stage.wire.rule = lambda packet: [] if packet.target_port == 5012 else [0]
+        stage.dial(1, "a", 25, B)
+        stage.dial(1, "a", 25, "c@10.0.0.2")
 
 
 def captured_by(stage, program, *words):

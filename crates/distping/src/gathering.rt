@@ -6,13 +6,13 @@ ghost use Rattle.dist_probe.specs.Words.{status_of};
 
 use crate::common::Context;
 use crate::grouping::is_among;
+use crate::links::{Names, ask_census, no_dial};
 use crate::nodes::Nodes;
 use dist_cluster::{Group, Target, first_of, name_in_line};
 use dist_names::{NameError, NodeName};
 use dist_probe::ProbeVerdict;
 use dist_program::Resolving;
 use distping_json::{group_object, left_out_object, more_left_out_object};
-use distping_links::{Names, ask_census, no_dial};
 use distping_report::{LeftOut, LineSink, MOST_SHOWN, ProbeOutcome};
 use distping_words::{Fault, Wanted};
 use std::net::SocketAddr;

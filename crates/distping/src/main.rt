@@ -9,6 +9,7 @@ mod common;
 mod comparing;
 mod gathering;
 mod grouping;
+mod links;
 mod nodes;
 mod probing;
 mod reply;
@@ -23,12 +24,12 @@ use dist_names::NodeName;
 use dist_program::{HostError, Resolving, lookup_host, mapper_port, words_of};
 use dist_secret::Cookie;
 use distping_json::caller_object;
-use distping_links::{draw_challenge, setup_of, take_connection};
 use distping_report::{Caller, LineSink, Listed, Listen};
 use distping_words::{
     Choices, CookieSource, Fault, Instead, Refusal, Wanted, cookie_of, read_roster, wanted_of,
 };
 use gathering::gather;
+use links::{draw_challenge, setup_of, take_connection};
 use std::net::SocketAddr;
 use std::process::ExitCode;
 use together::collect_halves;

@@ -3,12 +3,12 @@
 ghost use Rattle.std.specs.Prelude.{◌≡◌, IfOk};
 
 use crate::common::Context;
+use crate::links::probe;
 use dist_cluster::{Half, Target, USUAL};
 use dist_names::NodeName;
 use dist_probe::ProbeVerdict;
 use dist_program::Resolving;
 use distping_json::object_of;
-use distping_links::probe;
 use distping_report::{Dial, Found, LineSink, ProbeOutcome};
 use distping_words::{Fault, Wanted, parse_name};
 use std::alloc::Global;

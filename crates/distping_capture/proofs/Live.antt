@@ -1,5 +1,5 @@
 -- The verdict of a live probe is the one that its three messages have in a capture.
-use Rattle.std.proofs.Common.{◌≡◌, ℕ, Bool, true, false, List, Option, Some, None, Result, Ok, Err, refl, sym, ◌∙◌, ap, subst}
+use Rattle.std.proofs.Common.{◌≡◌, ℕ, Bool, true, false, List, Option, Some, None, Result, refl, sym, ◌∙◌, ap, subst}
 use Rattle.std.specs.Prelude.{unwrap_or, is_none, ◌&&◌, if◌then◌else◌}
 use Rattle.dist_names.specs.Order.{same_name}
 use Rattle.dist_names.specs.declared.flags.Flags.{Flags}
@@ -15,10 +15,9 @@ use Rattle.dist_probe.specs.declared.verdict.ProbeVerdict.TheVariants as verdict
 use Rattle.dist_probe.specs.declared.asking.Report.{Report}
 use Rattle.dist_probe.specs.Verdicts.{ack_verdict, challenge_verdict, status_verdict}
 use Rattle.dist_probe.specs.Ending.{BehindName, Decides, Ends, challenge_in, lacking, outcome_of}
-use Rattle.distping_capture.specs.declared.judging.DiallerPart.{DiallerPart}
 use Rattle.distping_capture.specs.declared.judging.Standing.{Standing}
 use Rattle.distping_capture.specs.declared.judging.Standing.TheVariants as standing
-use Rattle.distping_capture.specs.Judging.{due_unless, ends_with, standing_of, upon_challenge, upon_reply, upon_status}
+use Rattle.distping_capture.specs.Judging.{due_unless, ends_with, upon_challenge, upon_reply, upon_status}
 use Rattle.distping_capture.specs.Live.{NamesTarget, SameVerdict, probe_part, verdict_in}
 
 -- a verdict, as an outcome, is that verdict

@@ -1,7 +1,7 @@
 -- WHAT AN ATTEMPT CAME TO: the verdict of the live probe on the accepting side's bytes, or, where the dialling side was due, what that did.
-use Rattle.std.specs.Prelude.{ℕ, Bool, true, false, ◌&&◌, not, List, codes, Option, Some, None, if◌then◌else◌}
+use Rattle.std.specs.Prelude.{ℕ, Bool, true, false, List, codes, Option, Some, None, if◌then◌else◌}
 use Rattle.dist_messages.specs.declared.message.Side.{Side}
-use Rattle.dist_messages.specs.declared.message.Side.TheVariants.{Dialler, Acceptor}
+use Rattle.dist_messages.specs.declared.message.Side.TheVariants.{Dialler}
 use Rattle.dist_probe.specs.declared.verdict.ProbeVerdict.TheVariants as verdict
 use Rattle.dist_probe.specs.Words.{status_of, verdict_word}
 use Rattle.distping_report.specs.declared.taken.Taken.TheVariants as taken

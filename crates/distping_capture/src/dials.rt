@@ -1,5 +1,8 @@
 //! Attempts as they are remembered: which crossed, which are in doubt, and what they came to, counted.
 
+ghost use Rattle.std.specs.Prelude.{◌≡◌, ◌↔◌, IsTrue};
+ghost use Rattle.distping_capture.specs.Crossings.{Crosses, GoesBack, MayBe, gives_way, leeway, must_win};
+
 use crate::nodes::{MOST, NodesSeen};
 use crate::outcome::AttemptOutcome;
 use dist_capture::Endpoint;
@@ -43,8 +46,32 @@ pub struct PastDial {
 }
 
 // Whether a node of this name may be the one that is known so.
-fn may_be(known: &[u8], name: &[u8]) -> bool {
+fn may_be(known: &[u8], name: &[u8]) -> bool
+    ensures { IsTrue result ↔ MayBe known.now name.now }
+{
     known.is_empty() || known == name || known == short_part(name)
+}
+
+// Whether a dial that came to this gave way to the other node's: upon `nok`, or if its own node has the lesser name.
+fn gives_way(outcome: AttemptOutcome, is_lesser: bool) -> bool
+    ensures { result ≡ gives_way outcome is_lesser }
+{
+    match outcome {
+        AttemptOutcome::Verdict(ProbeVerdict::Busy) => true,
+        AttemptOutcome::Verdict(ProbeVerdict::AlreadyUp)
+        | AttemptOutcome::Withdrawn(Side::Dialler) => is_lesser,
+        _ => false,
+    }
+}
+
+// How long after its end the dial that it gave way to may begin, in nanoseconds.
+fn leeway(outcome: AttemptOutcome) -> u64
+    ensures { result ≡ leeway outcome }
+{
+    match outcome {
+        AttemptOutcome::Verdict(ProbeVerdict::Busy) => SETUP,
+        _ => 0,
+    }
 }
 
 impl PastDial {
@@ -66,47 +93,50 @@ impl PastDial {
         self.outcome.is_up() && self.name == that.name && self.other == that.other
     }
 
-    // Whether this one ended for that one, if it crosses it. The node that was dialled says `nok` while it tries to connect itself; the node
-    // of the lesser name gives its dial up, or its dial is refused, when the other one is there.
-    fn ended_for(&self, winner: &PastDial) -> bool {
-        match self.outcome {
-            _ if self.exit == 0 => false,
-            AttemptOutcome::Verdict(ProbeVerdict::Busy) => {
-                winner.began <= self.ended.saturating_add(SETUP)
-            }
-            AttemptOutcome::Verdict(ProbeVerdict::AlreadyUp)
-            | AttemptOutcome::Withdrawn(Side::Dialler) => {
-                winner.began <= self.ended && self.name.as_slice() < winner.name.as_slice()
-            }
-            _ => false,
-        }
+    /// Whether this dial has to win over that one, if they cross: its node has the greater name. Source: ERTS User's Guide, Distribution
+    /// Handshake, the statuses `nok` and `ok_simultaneous`.
+    pub fn must_win(&self, loser: &PastDial) -> bool
+        ensures { result ≡ must_win self.now loser.now }
+    {
+        loser.name.as_slice().cmp(self.name.as_slice()).is_lt()
     }
 
-    /// Whether this dial came up and crossed that one: it goes from the node that was dialled to the one that dialled, at the same time.
-    pub fn has_crossed(&self, lesser: &PastDial) -> bool {
-        lesser.ended_for(self)
-            && self.outcome.is_up()
-            && self.other == lesser.name
-            && may_be(lesser.other.as_slice(), self.name.as_slice())
-            && self.acceptor.address == lesser.dialler.address
-            && self.dialler.address == lesser.acceptor.address
-            && lesser.began <= self.ended
+    // Whether it goes from the node to which that one went, to the node from which that one came.
+    fn goes_back(&self, loser: &PastDial) -> bool
+        ensures { IsTrue result ↔ GoesBack self.now loser.now }
+    {
+        self.other == loser.name
+            && may_be(loser.other.as_slice(), self.name.as_slice())
+            && self.acceptor.address == loser.dialler.address
+            && self.dialler.address == loser.acceptor.address
+    }
+
+    /// Whether this dial came up and crossed that one, which gave way to it and to none before.
+    pub fn has_crossed(&self, loser: &PastDial) -> bool
+        ensures { IsTrue result ↔ Crosses self.now loser.now }
+    {
+        self.outcome.is_up()
+            && self.goes_back(loser)
+            && loser.began <= self.ended
+            && self.began <= loser.ended.saturating_add(leeway(loser.outcome))
+            && gives_way(loser.outcome, self.must_win(loser))
+            && loser.exit != 0
     }
 
     /// Prints and notes that this dial won over that one, and whether it had to.
-    pub fn win(&self, lines: LineSink<'_>, lesser: &mut PastDial) -> Result<(), Fault> {
-        lesser.other = ByteString::from_slice(lines.alloc, self.name.as_slice())?;
-        lesser.exit = 0;
-        let text = if lesser.name.as_slice() < self.name.as_slice() {
+    pub fn win(&self, lines: LineSink<'_>, loser: &mut PastDial) -> Result<(), Fault> {
+        loser.other = ByteString::from_slice(lines.alloc, self.name.as_slice())?;
+        loser.exit = 0;
+        let text = if self.must_win(loser) {
             " dialled it at the same time: the dial of the greater name won, as it must"
         } else {
             " dialled it at the same time, and has the greater name: its dial had to win, and the other node refused it"
         };
         lines.put(&[
             Text("!  crossing  "),
-            Name(lesser.other.as_slice()),
+            Name(loser.other.as_slice()),
             Text(" won: "),
-            Name(lesser.name.as_slice()),
+            Name(loser.name.as_slice()),
             Text(text),
         ])
     }

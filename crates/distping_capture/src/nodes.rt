@@ -19,11 +19,12 @@ use std::net::IpAddr;
 /// The most nodes, ports and counts of pairs that are remembered. Our own choice.
 pub const MOST: usize = 1024;
 
-// A node: its latest incarnation, from where it was seen last, and how many of its connections are up.
+// A node: its latest incarnation, when an attempt began that showed it, from where it was seen last, and how many of its connections are up.
 #[derive(Drop)]
 struct KnownNode {
     name: ByteString,
     creation: Creation,
+    began: u64,
     address: IpAddr,
     ups: u32,
 }
@@ -36,12 +37,14 @@ fn place_of(nodes: &[KnownNode], name: &[u8]) -> Result<usize, usize>
 }
 
 impl KnownNode {
-    // Prints that it restarted, or that another one has its name: while connections of it are up, from another host.
+    // Prints that it restarted, or that another one has its name: while connections of it are up, from another host. The other creation
+    // was shown by an attempt that began then.
     fn put_change(
         &self,
         lines: LineSink<'_>,
         creation: Creation,
         address: IpAddr,
+        began: u64,
     ) -> Result<(), Fault> {
         let name = Name(self.name.as_slice());
         if self.ups > 0 && self.address != address {
@@ -54,13 +57,18 @@ impl KnownNode {
                 Host(address),
             ]);
         }
+        let (latest, before) = if began < self.began {
+            (self.creation, creation)
+        } else {
+            (creation, self.creation)
+        };
         lines.put(&[
             Text("!  restart   "),
             name,
             Text(" was started again: creation "),
-            Number(creation.0),
+            Number(latest.0),
             Text(", before "),
-            Number(self.creation.0),
+            Number(before.0),
         ])
     }
 }
@@ -95,36 +103,47 @@ impl NodesSeen {
         }
     }
 
-    // Remembers a side, and prints that it changed, if it did. `ups` is how many connections came up by this attempt.
+    // Remembers a side of an attempt, which is at this address, and prints that it changed, if it did. An attempt that began before the
+    // latest incarnation was seen can end behind its attempts.
     fn note_side(
         &mut self,
         lines: LineSink<'_>,
         side: Option<NodeDescription<'_>>,
         address: IpAddr,
-        ups: u32,
+        connection: &CapturedConnection,
     ) -> Result<(), Fault> {
-        let Some(side) = side else {
+        let Some(
+            NodeDescription {
+                name,
+                creation: Some(creation),
+                ..
+            },
+        ) = side
+        else {
             return Ok(());
         };
-        let Some(creation) = side.creation else {
-            return Ok(());
-        };
-        match place_of(&self.known, side.name) {
+        let (began, ups) = (connection.began, u32::from(connection.up_since().is_some()));
+        match place_of(&self.known, name) {
             Ok(at) => {
                 let known = &mut self.known[at];
                 if known.creation != creation {
-                    known.put_change(lines, creation, address)?;
+                    known.put_change(lines, creation, address, began)?;
+                    if began < known.began {
+                        return Ok(());
+                    }
                     known.creation = creation;
+                    known.began = began;
                     known.ups = 0;
                 }
                 known.address = address;
                 known.ups = known.ups.saturating_add(ups);
             }
             Err(at) if self.known.len() < MOST => {
-                let name = ByteString::from_slice(self.alloc, side.name)?;
+                let name = ByteString::from_slice(self.alloc, name)?;
                 let met = KnownNode {
                     name,
                     creation,
+                    began,
                     address,
                     ups,
                 };
@@ -142,9 +161,13 @@ impl NodesSeen {
         connection: &CapturedConnection,
     ) -> Result<(), Fault> {
         let facts = Facts::of(&connection.said);
-        let ups = u32::from(connection.up_since().is_some());
-        self.note_side(lines, facts.dialler, connection.dialler.address, ups)?;
-        self.note_side(lines, facts.acceptor, connection.acceptor.address, ups)
+        self.note_side(lines, facts.dialler, connection.dialler.address, connection)?;
+        self.note_side(
+            lines,
+            facts.acceptor,
+            connection.acceptor.address,
+            connection,
+        )
     }
 
     /// Notes that a connection of these two ended that was up.

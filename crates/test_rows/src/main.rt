@@ -1,5 +1,5 @@
-//! Plays rows of bytes: names, cookies and their digests, frames, packets, handshake messages, command lines, verdicts of a watch,
-//! captures, and the streams that their segments make; over streams in memory the registry and a client of the port mapper, and a probe
+//! Plays rows of bytes: names, cookies and their digests, frames, packets, handshake messages, verdicts of a watch, captures,
+//! and the streams that their segments make; over streams in memory the registry and a client of the port mapper, and a probe
 //! that talks with a node; and scripts, with what they print. The rows are files in the folder in which the program runs.
 //!
 //! What the rows expect is typed from the ERTS User's Guide (EPMD Protocol, Distribution Protocol), from captured handshakes, from
@@ -8,7 +8,6 @@
 #![tactic(auto)]
 
 mod asked;
-mod capture_pages;
 mod captures;
 mod changes;
 mod cookies;
@@ -16,7 +15,6 @@ mod digits;
 mod frames;
 mod handshake;
 mod names;
-mod orders;
 mod packets;
 mod readers;
 mod refusals;
@@ -31,7 +29,7 @@ use std::process::ExitCode;
 use std::{fs, io};
 
 /// The files of rows, and their subjects.
-const FILES: [(&str, Subject); 18] = [
+const FILES: [(&str, Subject); 17] = [
     ("node_names", Subject::Names),
     ("cookies", Subject::Cookies),
     ("digests", Subject::Cookies),
@@ -46,7 +44,6 @@ const FILES: [(&str, Subject); 18] = [
     ("full_registry", Subject::PortMapper),
     ("talks", Subject::Talks),
     ("other_talks", Subject::Talks),
-    ("orders", Subject::Orders),
     ("changes", Subject::Changes),
     ("captures", Subject::Captures),
     ("streams", Subject::Streams),
@@ -59,7 +56,7 @@ fn main(rt: HostRuntime) -> ExitCode {
             return ExitCode::FAILURE;
         }
     }
-    match scripts::play_files(&rt).and_then(|_| capture_pages::play_pages(&rt)) {
+    match scripts::play_files(&rt) {
         Ok(()) => ExitCode::SUCCESS,
         Err(_) => ExitCode::FAILURE,
     }

@@ -8,7 +8,6 @@ use crate::digits::{bytes_in, word};
 use crate::frames::put_frames;
 use crate::handshake::put_message;
 use crate::names::put_name;
-use crate::orders::put_order;
 use crate::packets::put_packets;
 use crate::served::put_served;
 use crate::talks::put_talk;
@@ -25,7 +24,6 @@ pub enum Subject {
     Handshake,
     PortMapper,
     Talks,
-    Orders,
     Changes,
     Captures,
     Streams,
@@ -110,7 +108,6 @@ fn put_answer(
         Subject::Handshake => put_message(alloc, printed, case),
         Subject::PortMapper => put_mapper_answer(alloc, printed, registry, case, pieces),
         Subject::Talks => put_talk(alloc, printed, case, pieces),
-        Subject::Orders => put_order(alloc, printed, case),
         Subject::Changes => put_changes(alloc, printed, case),
         Subject::Captures => put_capture(alloc, printed, case, pieces),
         Subject::Streams => put_stream(alloc, printed, case),

@@ -8,6 +8,7 @@ use dist_drive::opening_for;
 use dist_epmd::PortInfo;
 use dist_peers::EndId;
 use std::alloc::Global;
+use std::fmt::Write;
 use std::test::*;
 
 // accepted_handshake; wrong_digest, at an end that comes up and at one with a challenge; dialled_handshake.
@@ -61,24 +62,39 @@ fn answer_before_step(rt: HostRuntime) {
     }
 }
 
-// Node b takes three steps and then this many ticks: how many it accepts, and how it answers one more, the loss of its end, and a
-// connection.
-fn spend_steps(alloc: Global, ticks: u32) -> Option<String> {
-    let mut node = node_after(alloc, "b incoming name reply")?;
+// How many of so many ticks a node accepts.
+fn count_accepted(alloc: Global, node: &mut Node, ticks: u32) -> Option<u32> {
     let tick = event(alloc, "tick")?;
     let mut taken = 0u32;
     for _ in 0..ticks {
         taken = taken.saturating_add(node.step(alloc, &tick, 0).is_ok() as u32);
     }
-    let next = do_word(alloc, &mut node, "tick")?;
-    let lost = do_word(alloc, &mut node, "ended")?;
-    let incoming = do_word(alloc, &mut node, "incoming")?;
-    format!(in alloc; "{taken} {next:?} {lost:?} {incoming:?}").ok()
+    Some(taken)
 }
 
+// A node takes this many ticks: how many it accepts, and how it answers one more, the loss of its end, and a connection.
+fn spend_steps(alloc: Global, node: &mut Node, ticks: u32) -> Option<String> {
+    let taken = count_accepted(alloc, node, ticks)?;
+    let mut seen = format!(in alloc; "{taken}").ok()?;
+    put_answer(alloc, &mut seen, node, "tick")?;
+    put_answer(alloc, &mut seen, node, "ended")?;
+    put_answer(alloc, &mut seen, node, "incoming")?;
+    Some(seen)
+}
+
+// Adds the answer of a node to the event for a word.
+fn put_answer(alloc: Global, seen: &mut String, node: &mut Node, word: &str) -> Option<()> {
+    let answer = do_word(alloc, node, word)?;
+    write!(seen, " {answer:?}").ok()
+}
+
+// Node b takes three steps before.
 #[test]
 fn steps_spent(rt: HostRuntime) {
-    let seen = spend_steps(rt.alloc(), 1_048_573);
+    let Some(mut node) = node_after(rt.alloc(), "b incoming name reply") else {
+        panic!(rt; "no memory");
+    };
+    let seen = spend_steps(rt.alloc(), &mut node, 1_048_573);
     let wanted = "1048573 Err(Spent) Ok(()) Err(Spent)";
     assert_eq!(rt; seen.as_deref(), Some(wanted));
 }

@@ -29,15 +29,20 @@ fn answers_of<D: Desk>(alloc: Global, desk: &mut D) -> Option<String> {
     let mut seen = String::new(alloc);
     for row in ANSWERS.lines() {
         let (word, _) = row.split_once(' ')?;
-        let answered = desk.step(event(alloc, word)?, CHALLENGE);
-        let said = match desk.last() {
-            Some(reply) => reply.say.len(),
-            None => 0,
-        };
-        let still = desk.still(EndId(0));
-        writeln!(seen, "{word} => {answered:?} {said} {still:?}").ok()?;
+        put_answer(alloc, &mut seen, desk, word)?;
     }
     Some(seen)
+}
+
+// Adds what a desk answers to the event for a word.
+fn put_answer<D: Desk>(alloc: Global, seen: &mut String, desk: &mut D, word: &str) -> Option<()> {
+    let answered = desk.step(event(alloc, word)?, CHALLENGE);
+    let said = match desk.last() {
+        Some(reply) => reply.say.len(),
+        None => 0,
+    };
+    let still = desk.still(EndId(0));
+    writeln!(seen, "{word} => {answered:?} {said} {still:?}").ok()
 }
 
 // What the desk of the second seat answers, after the first seat gave the node a connection; and the result of `close`.

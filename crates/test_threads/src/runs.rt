@@ -1,7 +1,7 @@
 //! What runs of nodes on a faulty system report: the orders that made no dial, with how many peers each node is up, and the result of the
 //! audit.
 
-use crate::setting::word;
+use crate::setting::{behind, word};
 use crate::system::FaultySystem;
 use dist_audit::audit;
 use dist_run::{Ran, run_plan};
@@ -74,14 +74,7 @@ dial = [
 
 // The nodes file behind this word.
 fn file_for(fault: &str) -> Option<&'static str> {
-    for file in FILES.split("# ") {
-        if let Some((known, text)) = file.split_once('\n')
-            && known == fault
-        {
-            return Some(text);
-        }
-    }
-    None
+    behind(FILES, "# ", '\n', fault)
 }
 
 // Reports the orders that made no dial, and with how many peers each node is up.

@@ -60,13 +60,15 @@ pub fn play(rt: &impl Wait, alloc: Global, sides: &mut [SeatedNode], text: &str)
 /// the refusal.
 pub fn closing(alloc: Global, side: SeatedNode) -> Option<String> {
     match close(side.node.into_book(), side.seats) {
-        Ok(Closed { node, history }) => {
-            let (lines, entries) = (history.len(), node.entries());
-            let (ups, open) = (node.ups(), node.open_ends());
-            format!(in alloc; "{lines} {entries} {ups} {open}").ok()
-        }
+        Ok(closed) => counts_of(alloc, &closed),
         Err((error, _, _)) => format!(in alloc; "{error:?}").ok(),
     }
+}
+
+fn counts_of(alloc: Global, closed: &Closed) -> Option<String> {
+    let (lines, entries) = (closed.history.len(), closed.node.entries());
+    let (ups, open) = (closed.node.ups(), closed.node.open_ends());
+    format!(in alloc; "{lines} {entries} {ups} {open}").ok()
 }
 
 // Whether the first receipt of the second seat, if it has one, sends the status and the challenge of node b, with its name, flags and

@@ -55,16 +55,21 @@ pub fn setup_of(alloc: Global, is_a: bool) -> Option<Setup> {
     }
 }
 
-// The digits of a frame.
-fn digits_of(word: &str) -> Option<&'static str> {
-    for line in FRAMES.lines() {
-        if let Some((known, digits)) = line.split_once(' ')
+/// What stands behind this word: a text has parts, with `between` between them, and a part has a word, `up_to`, and the rest.
+pub fn behind(text: &'static str, between: &str, up_to: char, word: &str) -> Option<&'static str> {
+    for part in text.split(between) {
+        if let Some((known, rest)) = part.split_once(up_to)
             && known == word
         {
-            return Some(digits);
+            return Some(rest);
         }
     }
     None
+}
+
+// The digits of a frame.
+fn digits_of(word: &str) -> Option<&'static str> {
+    behind(FRAMES, "\n", ' ', word)
 }
 
 /// The bytes of frames joined by `+`; `-` is no byte.

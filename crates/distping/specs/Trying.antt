@@ -1,0 +1,15 @@
+-- THE RESULT OF SEVERAL ADDRESSES.
+use Rattle.std.specs.Prelude.{◌≡◌, ℕ, length}
+use Rattle.std.specs.List.{IsFirstBest, slice_index_or}
+use Rattle.dist_probe.specs.Reaching.{is_further}
+use Rattle.dist_probe.specs.declared.verdict.ProbeVerdict.{ProbeVerdict}
+use Rattle.distping.specs.declared.links.tries.Tries.{Tries}
+use Rattle.distping_report.specs.declared.found.Found.{Found}
+use Rattle.distping_report.specs.declared.found.ProbeOutcome.{ProbeOutcome}
+
+-- The result is what was found out at one address, and the verdict on it: the first of those that got furthest.
+pub record IsFurthest (all : Tries) (outcome : ProbeOutcome) : Type 0 where
+  pub place : ℕ
+  pub best : IsFirstBest is_further all.verdicts.items (length all.verdicts.items) place
+  pub verdict : (d : ProbeVerdict) → outcome.verdict ≡ slice_index_or all.verdicts.items place d
+  pub found : (d : Found) → outcome.found ≡ slice_index_or all.found.items place d

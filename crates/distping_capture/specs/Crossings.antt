@@ -1,0 +1,50 @@
+-- DIALS THAT CROSS: where two nodes dial each other at once, the dial of the greater name wins, and the other one gives way to it.
+-- Source: ERTS User's Guide, Distribution Protocol, Distribution Handshake, the statuses `nok`, `ok_simultaneous` and `alive`.
+use Rattle.std.specs.Prelude.{◌≡◌, ◌≢◌, ◌⊎◌, ◌≤◌, ◌+◌, ◌*◌, ◌^◌, ℕ, Bool, true, false, length, IsTrue}
+use Rattle.std.specs.Ordering.{is_lt}
+use Rattle.dist_names.specs.NodeName.{short_of}
+use Rattle.dist_names.specs.Order.{Name, name_cmp}
+use Rattle.dist_messages.specs.declared.message.Side.TheVariants.{Dialler}
+use Rattle.dist_probe.specs.declared.verdict.ProbeVerdict.TheVariants as verdict
+use Rattle.distping_capture.specs.declared.dials.PastDial.{PastDial}
+use Rattle.distping_capture.specs.declared.outcome.AttemptOutcome.{AttemptOutcome}
+use Rattle.distping_capture.specs.declared.outcome.AttemptOutcome.TheVariants as outcome
+use Rattle.distping_capture.specs.Outcomes.{is_outcome_up}
+
+-- THE RULE: of two dials that cross, the one of the greater name has to win
+abbrev pub must_win : PastDial → PastDial → Bool
+must_win winner loser = is_lt (name_cmp loser.name winner.name)
+
+-- a dial that came to this gave way: it was answered `nok`, since the other node dials itself; or its node has the lesser name, and gave
+-- it up or was answered `alive`, since the other dial was there
+abbrev pub gives_way : AttemptOutcome → Bool → Bool
+gives_way (outcome.Verdict verdict.Busy) is_lesser = true
+gives_way (outcome.Verdict verdict.AlreadyUp) is_lesser = is_lesser
+gives_way (outcome.Withdrawn Dialler) is_lesser = is_lesser
+gives_way other is_lesser = false
+
+-- how long after its end the other dial may begin, in nanoseconds: a node that answers `nok` has net_setuptime, 7 seconds, to connect
+abbrev pub leeway : AttemptOutcome → ℕ
+leeway (outcome.Verdict verdict.Busy) = 7 * 10 ^ 9
+leeway other = 0
+
+-- a node of this name may be the one that is known so: by no name, by its whole name, or by the name without the host
+abbrev pub MayBe : Name → Name → Type 0
+MayBe known name = (length known ≡ 0) ⊎ ((known ≡ name) ⊎ (known ≡ short_of name))
+
+-- A DIAL GOES BACK: from the node to which another one went, to the node from which that came
+pub record GoesBack (winner loser : PastDial) : Type 0 where
+  pub to : winner.other ≡ loser.name
+  pub from : MayBe loser.other winner.name
+  pub to_host : winner.acceptor.address ≡ loser.dialler.address
+  pub from_host : winner.dialler.address ≡ loser.acceptor.address
+
+-- A DIAL CROSSED ANOTHER, and won
+pub record Crosses (winner loser : PastDial) : Type 0 where
+  pub came_up : IsTrue (is_outcome_up winner.outcome)
+  pub goes_back : GoesBack winner loser
+  -- each began before the other came up or ended
+  pub at_once : (loser.began ≤ winner.ended) × (winner.began ≤ loser.ended + leeway loser.outcome)
+  pub gave_way : IsTrue (gives_way loser.outcome (must_win winner loser))
+  -- and to no dial before: its status would be 0
+  pub first : loser.exit ≢ 0

@@ -1,3 +1,0 @@
-mod Fronts
-pub mod OneEnd
-pub mod Showing
