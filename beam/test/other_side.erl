@@ -18,7 +18,7 @@ connect(Port) ->
     Options = [binary, {active, false}],
     {ok, Socket} = case test_nodes:is_tls() of
                        false -> gen_tcp:connect({127, 0, 0, 1}, Port, [{packet, 2} | Options]);
-                       true -> connect_tls(Port, [{packet, 4}, {server_name_indication, "127.0.0.1"} | Options])
+                       true -> connect_tls(Port, [{packet, 4}, {nodelay, true}, {server_name_indication, "127.0.0.1"} | Options])
                    end,
     Socket.
 

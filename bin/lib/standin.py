@@ -9,9 +9,11 @@ as a number with a sign), longreply (takes a reply with bytes behind it), nomap 
 NEW_FLOATS), onepiece (loses what stands behind a message in the same piece), twobytes (goes on with short frames once it is up), notick (a
 tick ends the connection), samechallenge, creation0, saysno (not_allowed behind a wrong digest), forgets (no alive: a second name is answered by
 ok), takeover (a second name ends the first connection). Of its dials: noack (takes any acknowledgement), anyname (a challenge of any name),
-crossing (the lesser name wins), nodoom (what ok_simultaneous gave up comes up). Of the port mapper: stale (keeps a name for
-3 seconds), noextramap (forgets the extra), namesport (4369 in front of the names), cutreg (registers what was cut), serial (one client at a
-time), always6 (a creation of 32 bits to whoever knows version 5), staysopen (no end behind a lookup), onewrite (closes a request in pieces).
+crossing (the lesser name wins), nodoom (what ok_simultaneous gave up comes up), tail (a byte behind its name), nocomplement (none behind an
+old name), oldname (one of version 6 and without HANDSHAKE_23), oldchallenge (takes one behind a name N). Of the port mapper: stale (keeps a
+name for 3 seconds), noextramap (forgets the extra), namesport (4369 in front of the names), cutreg (registers what was cut), serial (one
+client at a time), always6 (a creation of 32 bits to whoever knows version 5), staysopen (no end behind a lookup), onewrite (closes a request
+in pieces).
 """
 import hashlib
 import os
@@ -27,7 +29,7 @@ ME, HOST = b"n@127.0.0.1", "127.0.0.1"
 # EXTENDED_REFERENCES, FUN_TAGS, NEW_FUN_TAGS, EXTENDED_PIDS_PORTS, EXPORT_PTR_TAG, BIT_BINARIES, NEW_FLOATS, UTF8_ATOMS, MAP_TAG,
 # BIG_CREATION, HANDSHAKE_23, UNLINK_ID, V4_NC
 REQUIRED = 0x403070F94
-NEW_FLOATS, MAP_TAG, NAME_ME = 1 << 11, 1 << 17, 1 << 33
+NEW_FLOATS, MAP_TAG, HANDSHAKE_23, NAME_ME = 1 << 11, 1 << 17, 1 << 24, 1 << 33
 ANNOUNCED = REQUIRED & ~(NEW_FLOATS if FAULT == "announces" else 0) | 1
 CREATION = 0 if FAULT == "creation0" else 0x1000007
 # How long a handshake may take, an idle client of the port mapper, and the time between two ticks, in seconds.
@@ -211,26 +213,40 @@ def accept(stream):
         close(stream)
 
 
-def take_challenge(it, name):
+def own_name(is_old):
+    if is_old:
+        wrong = FAULT == "oldname"
+        return b"n" + struct.pack(">HI", 6 if wrong else 5, ANNOUNCED & 0xFFFFFFFF & ~(HANDSHAKE_23 if wrong else 0)) + ME
+    return b"N" + struct.pack(">QIH", ANNOUNCED, CREATION, len(ME)) + ME + (b"\0" if FAULT == "tail" else b"")
+
+
+def take_challenge(it, name, is_old):
+    """The number of a challenge, and whether it is one of version 6."""
     body = it.take(2)
-    if body[:1] != b"N" or len(body) < 19:
+    if body[:1] == b"N" and len(body) >= 19:
+        flags, number, _, length = struct.unpack(">QIIH", body[1:19])
+        came, missing = body[19 : 19 + length], len(body) < 19 + length or lacks(flags, False)
+    elif body[:1] == b"n" and len(body) >= 11 and (is_old and not body[3] & 1 or FAULT == "oldchallenge"):
+        flags, number = struct.unpack(">II", body[3:11])
+        came, missing = body[11:], lacks(flags | HANDSHAKE_23, True)
+    else:
         raise Ended("no challenge")
-    flags, number, _, length = struct.unpack(">QIIH", body[1:19])
-    came = body[19 : 19 + length]
-    if len(came) < length or came != name and FAULT != "anyname" or lacks(flags, False):
+    if came != name and FAULT != "anyname" or missing:
         raise Ended("another node, or one that lacks a flag")
-    return number
+    return number, body[:1] == b"N"
 
 
-def introduce(it, name):
+def introduce(it, name, is_old):
     """Dials a name, as far as to the right acknowledgement."""
-    it.say(b"N" + struct.pack(">QIH", ANNOUNCED, CREATION, len(ME)) + ME)
+    it.say(own_name(is_old))
     status = it.take(2)
     if status == b"salive":
         it.say(b"strue")
     elif status not in (b"sok", b"sok_simultaneous"):
         raise Ended("refused")
-    number, own = take_challenge(it, name), drawn()
+    (number, is_new), own = take_challenge(it, name, is_old), drawn()
+    if is_old and is_new and FAULT != "nocomplement":
+        it.say(b"c" + struct.pack(">II", ANNOUNCED >> 32, CREATION))
     it.say(b"r" + struct.pack(">I", own) + their_digest(number))
     ack = it.take(2)
     if ack[:1] != b"a" or len(ack) != 17 or ack[1:] != digest(own) and FAULT != "noack":
@@ -246,7 +262,7 @@ def dial(name):
         peer["dialled"] = it
     try:
         it.stream.connect((HOST, entry[0]))
-        introduce(it, name)
+        introduce(it, name, entry[3] < 6)
         with LOCK:
             if PEERS[name].get("dialled") is not it and FAULT != "nodoom":
                 raise Ended("given up")

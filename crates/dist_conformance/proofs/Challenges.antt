@@ -1,5 +1,5 @@
 -- A challenge that matches is one.
-use Rattle.std.proofs.Common.{◌≡◌, ℕ, ◌+◌, Bool, true, false, cond, List, length, Option, Some, None, Result, Ok, Err, refl, sym, ap, subst, ◌∙◌}
+use Rattle.std.proofs.Common.{◌≡◌, ℕ, ◌+◌, Bool, true, false, List, length, Option, Some, None, Result, Ok, Err, refl, sym, ap, subst}
 use Rattle.std.specs.Prelude.{if◌then◌else◌}
 use Rattle.std.specs.Int.{w16}
 use Rattle.dist_names.specs.Bytes.{IsBytes}
@@ -11,27 +11,28 @@ use Rattle.dist_messages.specs.declared.message.Side.TheVariants.{Acceptor}
 use Rattle.dist_messages.specs.declared.message_error.MessageError.{MessageError}
 use Rattle.dist_messages.specs.Reading.{read}
 use Rattle.dist_messages.proofs.Messages.{read_is_spelled}
-use Rattle.dist_conformance.specs.declared.patterns.ChallengeCheck.{ChallengeCheck}
+use Rattle.dist_conformance.specs.declared.patterns.FieldCheck.{FieldCheck}
+use Rattle.dist_conformance.specs.declared.patterns.Announcement.TheVariants as kind
 use Rattle.dist_conformance.specs.declared.patterns.Pattern.TheVariants as pattern
 use Rattle.dist_conformance.specs.declared.say.Learned.{Learned}
 use Rattle.dist_conformance.specs.declared.outcomes.Passage.{Passage}
 use Rattle.dist_conformance.specs.declared.outcomes.Deviation.TheVariants as deviation
-use Rattle.dist_conformance.specs.declared.outcomes.PatternOutcome.{PatternOutcome}
 use Rattle.dist_conformance.specs.declared.outcomes.PatternOutcome.TheVariants as outcome
-use Rattle.dist_conformance.specs.Judging.{Observation, ChallengeSaid, by_challenge, challenge_passes, challenge_in, part_outcome, outcome_of}
+use Rattle.dist_conformance.specs.Judging.{Observation, AnnouncementSaid, check_passes, by_announcement, said_in, part_outcome, outcome_of}
 use Rattle.dist_conformance.specs.Later.{IsChallenge}
 use Rattle.dist_conformance.proofs.Fronts.{is_first}
 
 -- a challenge that passes is learned
-passed : (which : ChallengeCheck) (learned : List Learned) (len : ℕ) (c : ChallengeSaid) (p : Passage) → by_challenge which learned len (Some c) ≡ outcome.Matches p → p.challenge ≡ Some c.challenge
-passed which learned len c p =
-    elim (challenge_passes which c learned) as (λ b. (if b then outcome.Matches (record { count = 2 + len; challenge = Some c.challenge }) else outcome.Fails deviation.Field) ≡ outcome.Matches p → p.challenge ≡ Some c.challenge) [
-      | true ↦ λ e. let same : record { count = 2 + len; challenge = Some c.challenge } ≡ p = cc in sym (ap (λ (q : Passage). q.challenge) same)
+passed : (which : FieldCheck) (len : ℕ) (learned : List Learned) (i : AnnouncementSaid) (p : Passage)
+    → (if check_passes which len learned i then outcome.Matches (record { count = 2 + len; challenge = i.challenge }) else outcome.Fails deviation.Field) ≡ outcome.Matches p → p.challenge ≡ i.challenge
+passed which len learned i p =
+    elim (check_passes which len learned i) as (λ b. (if b then outcome.Matches (record { count = 2 + len; challenge = i.challenge }) else outcome.Fails deviation.Field) ≡ outcome.Matches p → p.challenge ≡ i.challenge) [
+      | true ↦ λ e. let same : record { count = 2 + len; challenge = i.challenge } ≡ p = cc in sym (ap (λ (q : Passage). q.challenge) same)
       | false ↦ λ e. absurd cc
     ]
 
-by_message : (which : ChallengeCheck) (learned : List Learned) (came body : List ℕ) (p : Passage) (r : Result Message MessageError) → first_body w16 came ≡ Some body → IsBytes body
-    → read Acceptor body ≡ r → by_challenge which learned (length body) (challenge_in r) ≡ outcome.Matches p → IsChallenge came p
+by_message : (which : FieldCheck) (learned : List Learned) (came body : List ℕ) (p : Passage) (r : Result Message MessageError) → first_body w16 came ≡ Some body → IsBytes body
+    → read Acceptor body ≡ r → by_announcement kind.Challenge which (length body) learned (said_in r) ≡ outcome.Matches p → IsChallenge came p
 by_message which learned came body p (Ok (message.NewChallenge flags challenge creation name)) f b r e = record {
   flags = flags;
   challenge = challenge;
@@ -40,7 +41,7 @@ by_message which learned came body p (Ok (message.NewChallenge flags challenge c
   body = body;
   frame = f;
   spelled = (read_is_spelled Acceptor body (message.NewChallenge flags challenge creation name) b r).0;
-  learned = passed which learned (length body) _ p e;
+  learned = passed which (length body) learned _ p e;
 }
 by_message which learned came body p (Ok other) f b r e = absurd cc
 by_message which learned came body p (Err error) f b r e = absurd cc
@@ -50,12 +51,12 @@ unmatched : (e : Bool) (p : Passage) → part_outcome e ≡ outcome.Matches p �
 unmatched true p h = absurd cc
 unmatched false p h = absurd cc
 
-by_frame : (which : ChallengeCheck) (o : Observation) (came : List ℕ) (p : Passage) (x : Option (List ℕ)) → IsBytes came → first_body w16 came ≡ x → outcome_of (pattern.Challenge which) o came ≡ outcome.Matches p → IsChallenge came p
+by_frame : (which : FieldCheck) (o : Observation) (came : List ℕ) (p : Passage) (x : Option (List ℕ)) → IsBytes came → first_body w16 came ≡ x → outcome_of (pattern.Announcement kind.Challenge which) o came ≡ outcome.Matches p → IsChallenge came p
 by_frame which o came p None b f e = absurd (let g = rw f at e in unmatched o.ended p g)
 by_frame which o came p (Some body) b f e =
     let is = is_first came body f in
     let bytes : IsBytes body = subst IsBytes is.is (IsBytes-take (head w16 came) _ (IsBytes-drop 2 came b)) in
     by_message which o.learned came body p (read Acceptor body) f bytes refl (rw f at e)
 
-pub spelled : (which : ChallengeCheck) (o : Observation) (came : List ℕ) (p : Passage) → IsBytes came → outcome_of (pattern.Challenge which) o came ≡ outcome.Matches p → IsChallenge came p
+pub spelled : (which : FieldCheck) (o : Observation) (came : List ℕ) (p : Passage) → IsBytes came → outcome_of (pattern.Announcement kind.Challenge which) o came ≡ outcome.Matches p → IsChallenge came p
 spelled which o came p b e = by_frame which o came p (first_body w16 came) b refl e

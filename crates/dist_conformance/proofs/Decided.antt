@@ -1,18 +1,18 @@
 -- When the judgement is decided.
-use Rattle.std.proofs.Common.{◌≡◌, ℕ, zero, suc, ◌+◌, ◌≤◌, ◌<◌, Bool, true, false, cond, List, [], ◌∷◌, drop, length, Option, Some, None, refl, sym, ap, ◌∙◌, arith}
-use Rattle.std.specs.Prelude.{◌==◌, ◌||◌, ◌&&◌, not, nat_lt, if◌then◌else◌, map, Contains}
+use Rattle.std.proofs.Common.{◌≡◌, ℕ, suc, ◌+◌, ◌≤◌, Bool, true, false, List, [], ◌∷◌, take, drop, length, Option, Some, None, refl, ap, ◌∙◌, arith}
+use Rattle.std.specs.Prelude.{◌==◌, ◌||◌, ◌&&◌, not, nat_lt, if◌then◌else◌, Contains}
 use Rattle.std.specs.Int.{w16, w32}
 use Rattle.std.specs.List.{list_any}
 use Rattle.dist_names.specs.Fields.{number_at}
+use Rattle.dist_names.specs.Order.{same_name}
 use Rattle.dist_frames.specs.Stream.{first_body}
-use Rattle.dist_messages.specs.declared.message.Side.TheVariants.{Dialler, Acceptor}
-use Rattle.dist_messages.specs.Reading.{read}
+use Rattle.dist_messages.specs.declared.message.Side.TheVariants.{Dialler}
 use Rattle.dist_messages.specs.declared.message.Message.TheVariants as message
+use Rattle.dist_messages.specs.Reading.{read}
 use Rattle.dist_messages.specs.Canonical.{canonical}
 use Rattle.dist_secret.specs.Digest.{digest_of}
-use Rattle.dist_names.specs.Order.{same_name}
-use Rattle.dist_conformance.specs.declared.patterns.ChallengeCheck.{ChallengeCheck}
-use Rattle.dist_conformance.specs.declared.patterns.CreationRange.{CreationRange}
+use Rattle.dist_conformance.specs.declared.patterns.FieldCheck.{FieldCheck}
+use Rattle.dist_conformance.specs.declared.patterns.Announcement.{Announcement}
 use Rattle.dist_conformance.specs.declared.patterns.NamesCheck.{NamesCheck}
 use Rattle.dist_conformance.specs.declared.patterns.Pattern.{Pattern}
 use Rattle.dist_conformance.specs.declared.patterns.Pattern.TheVariants as pattern
@@ -23,10 +23,10 @@ use Rattle.dist_conformance.specs.declared.outcomes.Deviation.{Deviation}
 use Rattle.dist_conformance.specs.declared.outcomes.Deviation.TheVariants as deviation
 use Rattle.dist_conformance.specs.declared.outcomes.PatternOutcome.{PatternOutcome}
 use Rattle.dist_conformance.specs.declared.outcomes.PatternOutcome.TheVariants as outcome
-use Rattle.dist_conformance.specs.declared.judging.Judgement.{Judgement}
 use Rattle.dist_conformance.specs.declared.judging.Judgement.TheVariants as judgement
+use Rattle.dist_conformance.specs.Kinds.{side_of}
 use Rattle.dist_conformance.specs.Words.{begins_with}
-use Rattle.dist_conformance.specs.Judging.{Observation, ChallengeSaid, AnswerSaid, passes, passes_if, part_outcome, open_for, by_body, by_challenge, challenge_passes, challenge_in, name_in, name_passes, reply_in, by_reply, is_in, are_lines, names_pass, answer_in, by_answer, refusal, by_names, body_outcome, outcome_of, joined, behind_match, sequence_of, no_passage, outcomes_of, first_passage, is_open, first_failure, may_match, by_loose, by_wanted, judgement_of}
+use Rattle.dist_conformance.specs.Judging.{Observation, AnnouncementSaid, passes, passes_if, part_outcome, open_for, by_body, place_of, by_announcement, check_passes, said_in, reply_in, by_reply, by_result, by_answer, are_lines, names_pass, by_names, body_outcome, outcome_of, joined, behind_match, sequence_of, no_passage, outcomes_of, first_passage, is_open, first_failure, may_match, by_loose, by_wanted, judgement_of}
 
 -- ---- a pattern is decided once the connection has ended
 
@@ -52,9 +52,12 @@ of_if : (b : Bool) (n : ℕ) → Decided (passes_if b n)
 of_if true n = refl
 of_if false n = refl
 
-of_challenge : (which : ChallengeCheck) (learned : List Learned) (len : ℕ) (c : Option ChallengeSaid) → Decided (by_challenge which learned len c)
-of_challenge which learned len None = refl
-of_challenge which learned len (Some c) = either (challenge_passes which c learned) (outcome.Matches (record { count = 2 + len; challenge = Some c.challenge })) (outcome.Fails deviation.Field) refl refl
+of_announcement : (k : Announcement) (which : FieldCheck) (len : ℕ) (learned : List Learned) (i : Option AnnouncementSaid) → Decided (by_announcement k which len learned i)
+of_announcement k which len learned None = refl
+of_announcement k which len learned (Some i) =
+    let found : PatternOutcome = outcome.Matches (record { count = 2 + len; challenge = i.challenge }) in
+    either (place_of i.form == place_of k) (if check_passes which len learned i then found else outcome.Fails deviation.Field) (outcome.Fails deviation.Other)
+    (either (check_passes which len learned i) found (outcome.Fails deviation.Field) refl refl) refl
 
 of_reply : (wanted : List ℕ) (len : ℕ) (r : Option (ℕ × List ℕ)) → Decided (by_reply wanted len r)
 of_reply wanted len None = refl
@@ -64,16 +67,19 @@ of_body : (says : List ℕ → PatternOutcome) (b : Option (List ℕ)) (e : Bool
 of_body says None e h k = ended_part e h
 of_body says (Some body) e h k = k body
 
-of_answer : (tag count : ℕ) (range : CreationRange) (e : Bool) (a : Option AnswerSaid) → e ≡ true → Decided (by_answer tag count range e a)
-of_answer tag count range e None h = ended_part e h
-of_answer tag count range e (Some a) h =
-    either (a.tag == tag && a.code == 0) (if is_in range a.creation then passes count else outcome.Fails deviation.Field) (outcome.Fails deviation.Other)
-    (either (is_in range a.creation) (passes count) (outcome.Fails deviation.Field) refl refl) refl
+of_result : (good zero creation : Bool) (n : ℕ) → Decided (by_result good zero creation n)
+of_result true true true n = refl
+of_result true true false n = refl
+of_result true false creation n = refl
+of_result false true creation n = refl
+of_result false false creation n = refl
 
-of_refusal : (tag more : ℕ) (e : Bool) (came : List ℕ) → e ≡ true → Decided (refusal tag more e came)
-of_refusal tag more e [] h = ended_part e h
-of_refusal tag more e (x ∷ []) h = ended_part e h
-of_refusal tag more e (x ∷ y ∷ rest) h = either (nat_lt (length rest) more) _ _ (ended_part e h) (of_if (x == tag && not (y == 0)) (2 + more))
+of_answer : (tag : ℕ) (good : Bool) (more : ℕ) (e : Bool) (came : List ℕ) → e ≡ true → Decided (by_answer tag good more e came)
+of_answer tag good more e [] h = ended_part e h
+of_answer tag good more e (x ∷ []) h = ended_part e h
+of_answer tag good more e (x ∷ y ∷ rest) h =
+    either (nat_lt (length rest) more) _ _ (ended_part e h)
+    (either (x == tag) _ (outcome.Fails deviation.Other) (of_result good (y == 0) (list_any (λ byte. not (byte == 0)) (take more rest)) (2 + more)) refl)
 
 of_names : (which : NamesCheck) (count : ℕ) (a : Option (ℕ × List ℕ)) → Decided (by_names which count a)
 of_names which count None = refl
@@ -89,17 +95,13 @@ decided (pattern.Bytes wanted) o came h =
     either (begins_with wanted came) (passes (length wanted)) (if begins_with came wanted then part_outcome o.ended else outcome.Fails deviation.Other) refl
     (either (begins_with came wanted) (part_outcome o.ended) (outcome.Fails deviation.Other) (ended_part o.ended h) refl)
 decided (pattern.Frame front) o came h = of_body (body_outcome (pattern.Frame front) o) (first_body w16 came) o.ended h (λ body. of_if (begins_with front body) (2 + length body))
-decided (pattern.Challenge which) o came h =
-    of_body (body_outcome (pattern.Challenge which) o) (first_body w16 came) o.ended h (λ body. of_challenge which o.learned (length body) (challenge_in (read Acceptor body)))
-decided (pattern.Name which) o came h =
-    of_body (body_outcome (pattern.Name which) o) (first_body w16 came) o.ended h (λ body. of_if (name_passes which (name_in (read Dialler body))) (2 + length body))
+decided (pattern.Announcement k which) o came h =
+    of_body (body_outcome (pattern.Announcement k which) o) (first_body w16 came) o.ended h (λ body. of_announcement k which (length body) o.learned (said_in (read (side_of k) body)))
 decided (pattern.Reply n) o came h =
     of_body (body_outcome (pattern.Reply n) o) (first_body w16 came) o.ended h (λ body. of_reply (digest_of o.cookie n) (length body) (reply_in (read Dialler body)))
 decided (pattern.Ack n) o came h = of_body (body_outcome (pattern.Ack n) o) (first_body w16 came) o.ended h
     (λ body. of_if (same_name body (canonical (message.Ack (digest_of o.cookie n)))) (2 + length body))
-decided (pattern.RegisteredX range) o came h = of_answer 0x76 6 range o.ended (answer_in w32 came) h
-decided (pattern.RegisteredY range) o came h = of_answer 0x79 4 range o.ended (answer_in w16 came) h
-decided (pattern.Denied tag more) o came h = of_refusal tag more o.ended came h
+decided (pattern.Answer tag good more) o came h = of_answer tag good more o.ended came h
 decided (pattern.Names which) o came h = at_end o.ended (by_names which (length came) (number_at w32 came)) h (of_names which (length came) (number_at w32 came))
 
 behind_decided : (x : PatternOutcome) (behind : Passage → PatternOutcome) → Decided x → ((p : Passage) → Decided (behind p)) → Decided (behind_match x behind)

@@ -1,15 +1,13 @@
--- Bytes in front of others, and what stands in them.
-use Rattle.std.proofs.Common.{◌≡◌, ℕ, ◌+◌, ◌≤◌, Bool, true, false, List, [], ◌∷◌, ◌++◌, length, take, drop, Option, Some, None, refl, sym, ap, ◌∙◌, arith, length-append, length-take, length-drop}
-use Rattle.std.specs.Prelude.{◌==◌, ◌&&◌, nat_lt, if◌then◌else◌, option_map}
-use Rattle.std.specs.Int.{Width, w16, byte_len, from_be_bytes}
+-- Bytes in front of others.
+use Rattle.std.proofs.Common.{◌≡◌, ℕ, ◌+◌, ◌≤◌, Bool, true, false, List, [], ◌∷◌, ◌++◌, length, drop, Some, None, refl, sym, ap, ◌∙◌, arith, length-append, length-take, length-drop}
+use Rattle.std.specs.Prelude.{◌==◌, ◌&&◌, if◌then◌else◌}
+use Rattle.std.specs.Int.{w16, from_be_bytes}
 use Rattle.std.proofs.lemmas.Bool.{and_parts, and_from}
 use Rattle.std.proofs.lemmas.Bool.Decides.{Decides-eqb}
 use Rattle.std.proofs.lemmas.List.{take-append-le, drop-append-le}
-use Rattle.dist_names.specs.Fields.{number_at}
 use Rattle.dist_frames.specs.Stream.{first_body, has_first, head, front}
 use Rattle.dist_frames.proofs.Streams.{Starts, starts, starts_true}
 use Rattle.dist_conformance.specs.Words.{begins_with}
-use Rattle.dist_conformance.specs.Judging.{AnswerSaid, answer_in}
 
 same_byte : (x y : ℕ) → (x == y) ≡ true → (y == x) ≡ true
 same_byte x y e = let same : x ≡ y = (Decides-eqb x y).0 e in (Decides-eqb y x).1 (sym same)
@@ -77,47 +75,3 @@ first_within s b e =
     let f = is_first s b e in
     let len : length (front w16 s) ≡ length b = ap length f.is in
     omega (arith, length-take (head w16 s) (drop 2 s), length-drop 2 s, f.stands.long, f.stands.whole, len)
-
--- ---- an answer in front
-
-some_is : {A : Type 0} (x y : A) → Some x ≡ Some y → x ≡ y
-some_is x y e = cc
-
-number_within : (w : Width) (s : List ℕ) (x : ℕ × List ℕ) → number_at w s ≡ Some x → byte_len w ≤ length s
-number_within w s x =
-    elim (nat_lt (length s) (byte_len w)) as (λ b. nat_lt (length s) (byte_len w) ≡ b → (if b then None else Some (from_be_bytes w (take (byte_len w) s), drop (byte_len w) s)) ≡ Some x → byte_len w ≤ length s) [
-      | true ↦ λ is e. absurd cc
-      | false ↦ λ is e. grind (arith, is)
-    ] refl
-
--- a number where there are bytes enough
-there : (w : Width) (s : List ℕ) → byte_len w ≤ length s → number_at w s ≡ Some (from_be_bytes w (take (byte_len w) s), drop (byte_len w) s)
-there w s long = let no : nat_lt (length s) (byte_len w) ≡ false = grind (arith, long) in rw no refl
-
-number_more : (w : Width) (s more : List ℕ) (x : ℕ × List ℕ) → number_at w s ≡ Some x → number_at w (s ++ more) ≡ Some (x.0, x.1 ++ more)
-number_more w s more x e =
-    let long = number_within w s x e in
-    let same : (from_be_bytes w (take (byte_len w) s), drop (byte_len w) s) ≡ x = some_is _ _ (sym (there w s long) ∙ e) in
-    there w (s ++ more) (omega (arith, length-append s more, long))
-    ∙ rw (take-append-le (byte_len w) s more long, drop-append-le (byte_len w) s more long) (ap (λ (y : ℕ × List ℕ). Some (y.0, y.1 ++ more)) same)
-
-some_answer : (w : Width) (tag code : ℕ) (rest more : List ℕ) (a : AnswerSaid) (o : Option (ℕ × List ℕ)) → number_at w rest ≡ o
-    → option_map (λ n. record { tag = tag; code = code; creation = n.0 }) o ≡ Some a → answer_in w (tag ∷ code ∷ rest ++ more) ≡ Some a
-some_answer w tag code rest more a None h e = absurd cc
-some_answer w tag code rest more a (Some x) h e =
-    ap (option_map (λ n. record { tag = tag; code = code; creation = n.0 })) (number_more w rest more x h) ∙ e
-
-pub answer_more : (w : Width) (s more : List ℕ) (a : AnswerSaid) → answer_in w s ≡ Some a → answer_in w (s ++ more) ≡ Some a
-answer_more w [] more a e = absurd cc
-answer_more w (x ∷ []) more a e = absurd cc
-answer_more w (x ∷ y ∷ rest) more a e = some_answer w x y rest more a (number_at w rest) refl e
-
-answer_long : (w : Width) (tag code : ℕ) (rest : List ℕ) (a : AnswerSaid) (o : Option (ℕ × List ℕ)) → number_at w rest ≡ o
-    → option_map (λ n. record { tag = tag; code = code; creation = n.0 }) o ≡ Some a → 2 + byte_len w ≤ length (tag ∷ code ∷ rest)
-answer_long w tag code rest a None h e = absurd cc
-answer_long w tag code rest a (Some x) h e = let long = number_within w rest x h in omega (arith, long)
-
-pub answer_within : (w : Width) (s : List ℕ) (a : AnswerSaid) → answer_in w s ≡ Some a → 2 + byte_len w ≤ length s
-answer_within w [] a e = absurd cc
-answer_within w (x ∷ []) a e = absurd cc
-answer_within w (x ∷ y ∷ rest) a e = answer_long w x y rest a (number_at w rest) refl e

@@ -1,17 +1,15 @@
 -- What is decided stays so as more comes.
-use Rattle.std.proofs.Common.{◌≡◌, ℕ, ◌+◌, ◌≤◌, ◌<◌, Bool, true, false, List, [], ◌∷◌, ◌++◌, length, drop, Option, Some, None, refl, sym, ap, subst, ◌∙◌, arith, length-append, length-drop}
+use Rattle.std.proofs.Common.{◌≡◌, ℕ, ◌+◌, ◌≤◌, ◌<◌, Bool, true, false, List, [], ◌∷◌, ◌++◌, length, take, drop, Option, Some, None, refl, sym, ap, subst, ◌∙◌, arith, length-append, length-drop}
 use Rattle.std.specs.Prelude.{◌==◌, ◌||◌, ◌&&◌, not, nat_lt, nat_le, if◌then◌else◌}
-use Rattle.std.specs.Int.{w16, w32}
+use Rattle.std.specs.Int.{w16}
 use Rattle.std.specs.List.{list_any, list_all}
 use Rattle.std.proofs.lemmas.Bool.{and_parts}
-use Rattle.std.proofs.lemmas.List.{drop-append-le, drop-drop, drop_all}
+use Rattle.std.proofs.lemmas.List.{take-append-le, drop-append-le, drop-drop, drop_all}
 use lib.Seq.{drop-nil}
 use Rattle.dist_frames.specs.Stream.{first_body}
-use Rattle.dist_messages.specs.declared.message.Side.TheVariants.{Acceptor}
 use Rattle.dist_messages.specs.Reading.{read}
 use Rattle.dist_conformance.specs.declared.patterns.Pattern.{Pattern}
 use Rattle.dist_conformance.specs.declared.patterns.Pattern.TheVariants as pattern
-use Rattle.dist_conformance.specs.declared.patterns.CreationRange.{CreationRange}
 use Rattle.dist_conformance.specs.declared.steps.Demand.{Demand}
 use Rattle.dist_conformance.specs.declared.outcomes.Passage.{Passage}
 use Rattle.dist_conformance.specs.declared.outcomes.Deviation.{Deviation}
@@ -19,11 +17,12 @@ use Rattle.dist_conformance.specs.declared.outcomes.Deviation.TheVariants as dev
 use Rattle.dist_conformance.specs.declared.outcomes.PatternOutcome.{PatternOutcome}
 use Rattle.dist_conformance.specs.declared.outcomes.PatternOutcome.TheVariants as outcome
 use Rattle.dist_conformance.specs.declared.judging.Judgement.TheVariants as judgement
+use Rattle.dist_conformance.specs.Kinds.{side_of}
 use Rattle.dist_conformance.specs.Words.{begins_with}
 use Rattle.dist_conformance.specs.Outcomes.{IsWithin}
-use Rattle.dist_conformance.specs.Judging.{Observation, AnswerSaid, passes, passes_if, part_outcome, open_for, by_bytes, by_body, by_challenge, challenge_in, answer_in, by_answer, refusal, body_outcome, outcome_of, joined, behind_match, sequence_of, no_passage, outcomes_of, first_passage, is_open, first_failure, may_match, by_loose, by_wanted, judgement_of}
+use Rattle.dist_conformance.specs.Judging.{Observation, passes, part_outcome, open_for, by_bytes, by_body, by_announcement, said_in, by_result, by_answer, body_outcome, outcome_of, joined, behind_match, sequence_of, no_passage, outcomes_of, first_passage, is_open, first_failure, may_match, by_loose, by_wanted, judgement_of}
 use Rattle.dist_conformance.specs.Later.{IsLater, looks_at_bytes}
-use Rattle.dist_conformance.proofs.Fronts.{begins_more, begins_never, begins_longer, first_more, answer_more}
+use Rattle.dist_conformance.proofs.Fronts.{begins_more, begins_never, begins_longer, first_more}
 use Rattle.dist_conformance.proofs.Within.{within}
 
 -- what is not open at first is the same later on
@@ -44,19 +43,16 @@ of_body : (says others : List ℕ → PatternOutcome) (b c : Option (List ℕ)) 
 of_body says others None c e f g h = absurd cc
 of_body says others (Some x) c e f g h = ap (λ y. by_body others y e) (f x refl) ∙ g x
 
-of_answer : (tag count : ℕ) (range : CreationRange) (a b : Option AnswerSaid) (e : Bool) → ((x : AnswerSaid) → a ≡ Some x → b ≡ Some x) → Stays (by_answer tag count range false a) (by_answer tag count range e b)
-of_answer tag count range None b e f h = absurd cc
-of_answer tag count range (Some x) b e f h = ap (by_answer tag count range e) (f x refl)
-
-of_refusal : (tag n : ℕ) (e : Bool) (came more : List ℕ) → Stays (refusal tag n false came) (refusal tag n e (came ++ more))
-of_refusal tag n e [] more = λ h. absurd cc
-of_refusal tag n e (x ∷ []) more = λ h. absurd cc
-of_refusal tag n e (x ∷ y ∷ rest) more =
-    elim (nat_lt (length rest) n) as (λ b. nat_lt (length rest) n ≡ b → Stays (if b then part_outcome false else passes_if (x == tag && not (y == 0)) (2 + n)) (refusal tag n e (x ∷ y ∷ (rest ++ more)))) [
+of_answer : (tag : ℕ) (good : Bool) (n : ℕ) (e : Bool) (came more : List ℕ) → Stays (by_answer tag good n false came) (by_answer tag good n e (came ++ more))
+of_answer tag good n e [] more = λ h. absurd cc
+of_answer tag good n e (x ∷ []) more = λ h. absurd cc
+of_answer tag good n e (x ∷ y ∷ rest) more =
+    let by = λ (bytes : List ℕ). if x == tag then by_result good (y == 0) (list_any (λ byte. not (byte == 0)) bytes) (2 + n) else outcome.Fails deviation.Other in
+    elim (nat_lt (length rest) n) as (λ b. nat_lt (length rest) n ≡ b → Stays (if b then part_outcome false else by (take n rest)) (by_answer tag good n e (x ∷ y ∷ (rest ++ more)))) [
       | true ↦ λ is h. absurd cc
       | false ↦ λ is h.
           let long : n ≤ length rest = grind (arith, is) in
-          let longer : nat_lt (length (rest ++ more)) n ≡ false = grind (arith, length-append rest more, long) in rw longer refl
+          let longer : nat_lt (length (rest ++ more)) n ≡ false = grind (arith, length-append rest more, long) in rw (longer, take-append-le n rest more long) refl
     ] refl
 
 module _ (o later : Observation) (l : IsLater o later) where
@@ -74,18 +70,12 @@ module _ (o later : Observation) (l : IsLater o later) where
   settled (pattern.Bytes wanted) came more b =
       subst (λ v. Stays (by_bytes wanted came v) (by_bytes wanted (came ++ more) later.ended)) (sym l.was_open) (of_bytes wanted came more later.ended)
   settled (pattern.Frame front) came more b = framed (pattern.Frame front) came more (λ x. refl)
-  settled (pattern.Challenge which) came more b = framed (pattern.Challenge which) came more (λ x. ap (λ learned. by_challenge which learned (length x) (challenge_in (read Acceptor x))) l.learned)
-  settled (pattern.Name which) came more b = framed (pattern.Name which) came more (λ x. refl)
+  settled (pattern.Announcement k which) came more b =
+      framed (pattern.Announcement k which) came more (λ x. ap (λ learned. by_announcement k which (length x) learned (said_in (read (side_of k) x))) l.learned)
   settled (pattern.Reply n) came more b = framed (pattern.Reply n) came more (λ x. rw l.cookie refl)
   settled (pattern.Ack n) came more b = framed (pattern.Ack n) came more (λ x. rw l.cookie refl)
-  settled (pattern.RegisteredX range) came more b =
-      subst (λ v. Stays (by_answer 0x76 6 range v (answer_in w32 came)) (by_answer 0x76 6 range later.ended (answer_in w32 (came ++ more)))) (sym l.was_open)
-      (of_answer 0x76 6 range (answer_in w32 came) (answer_in w32 (came ++ more)) later.ended (answer_more w32 came more))
-  settled (pattern.RegisteredY range) came more b =
-      subst (λ v. Stays (by_answer 0x79 4 range v (answer_in w16 came)) (by_answer 0x79 4 range later.ended (answer_in w16 (came ++ more)))) (sym l.was_open)
-      (of_answer 0x79 4 range (answer_in w16 came) (answer_in w16 (came ++ more)) later.ended (answer_more w16 came more))
-  settled (pattern.Denied tag n) came more b =
-      subst (λ v. Stays (refusal tag n v came) (refusal tag n later.ended (came ++ more))) (sym l.was_open) (of_refusal tag n later.ended came more)
+  settled (pattern.Answer tag good n) came more b =
+      subst (λ v. Stays (by_answer tag good n v came) (by_answer tag good n later.ended (came ++ more))) (sym l.was_open) (of_answer tag good n later.ended came more)
 
 -- ---- patterns that look at the end or at the time
 

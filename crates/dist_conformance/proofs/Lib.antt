@@ -6,4 +6,3 @@ pub mod Later
 pub mod Challenges
 pub mod Readers
 pub mod Ranks
-pub mod Lines

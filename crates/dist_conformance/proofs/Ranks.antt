@@ -1,5 +1,5 @@
 -- The worst of several verdicts.
-use Rattle.std.proofs.Common.{◌≡◌, ℕ, zero, suc, ◌+◌, ◌≤◌, ◌<◌, Bool, true, false, cond, List, [], ◌∷◌, length, refl, sym, ap, subst, ◌∙◌, ◌⊎◌, inl, inr, arith}
+use Rattle.std.proofs.Common.{◌≡◌, ℕ, zero, suc, ◌≤◌, ◌<◌, true, false, List, [], ◌∷◌, length, refl, sym, ◌∙◌, ◌⊎◌, inl, inr, arith}
 use Rattle.std.specs.Prelude.{◌≢◌, All, Contains, nat_le, if◌then◌else◌, slice_index_or}
 use Rattle.dist_conformance.specs.declared.verdicts.TalkVerdict.{TalkVerdict}
 use Rattle.dist_conformance.specs.declared.verdicts.TalkVerdict.TheVariants as verdict

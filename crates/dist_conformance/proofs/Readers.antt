@@ -1,6 +1,6 @@
 -- What single words say.
-use Rattle.std.proofs.Common.{◌≡◌, ℕ, ◌<◌, ◌≤◌, true, false, ◌&&◌, List, Option, Some, None, refl, sym, arith}
-use Rattle.std.specs.Prelude.{SomeIff, IfSome, ◌^◌, nat_lt, if◌then◌else◌}
+use Rattle.std.proofs.Common.{◌≡◌, ℕ, ◌<◌, ◌&&◌, List, Option, Some, None, refl, sym}
+use Rattle.std.specs.Prelude.{SomeIff, IfSome, ◌^◌, nat_lt}
 use Rattle.std.specs.Str.Parse.{IsNumeral, digits_value}
 use Rattle.std.proofs.lemmas.Bool.{and_parts}
 use Rattle.dist_names.specs.Digits.{is_numeral}
@@ -19,6 +19,7 @@ flag_read word (Some flag) f g = sym (every word flag f)
 flag_read word None f g = no_flag word (flag_named word) (found word) g
 
 pub number_read : (word : List ℕ) (r : Option ℕ) → SomeIff r (IsNumeral 10 word × (digits_value 10 word < 2 ^ 32)) (digits_value 10 word) → r ≡ number_32 word
+unfolding number_32
 number_read word =
     by_test (IsNumeral 10 word × (digits_value 10 word < 2 ^ 32)) (is_numeral 10 word && nat_lt (digits_value 10 word) (2 ^ 32)) (digits_value 10 word)
     (λ e. let p = and_parts (is_numeral 10 word) (nat_lt (digits_value 10 word) (2 ^ 32)) e in (numeral 10 word p.0, below (digits_value 10 word) (2 ^ 32) p.1))

@@ -1,15 +1,16 @@
 -- No more bytes match than came.
-use Rattle.std.proofs.Common.{◌≡◌, ℕ, ◌+◌, ◌≤◌, Bool, true, false, List, [], ◌∷◌, length, Option, Some, None, refl, arith}
+use Rattle.std.proofs.Common.{◌≡◌, ℕ, ◌+◌, ◌≤◌, Bool, true, false, List, [], ◌∷◌, length, take, Option, Some, None, refl, arith}
 use Rattle.std.specs.Prelude.{◌==◌, ◌&&◌, not, nat_lt, nat_le, if◌then◌else◌}
 use Rattle.std.specs.Int.{w16, w32}
+use Rattle.std.specs.List.{list_any}
 use Rattle.dist_names.specs.Fields.{number_at}
-use Rattle.dist_frames.specs.Stream.{first_body}
-use Rattle.dist_messages.specs.declared.message.Side.TheVariants.{Dialler, Acceptor}
-use Rattle.dist_messages.specs.Reading.{read}
 use Rattle.dist_names.specs.Order.{same_name}
+use Rattle.dist_frames.specs.Stream.{first_body}
+use Rattle.dist_messages.specs.declared.message.Side.TheVariants.{Dialler}
+use Rattle.dist_messages.specs.Reading.{read}
 use Rattle.dist_secret.specs.Digest.{digest_of}
-use Rattle.dist_conformance.specs.declared.patterns.ChallengeCheck.{ChallengeCheck}
-use Rattle.dist_conformance.specs.declared.patterns.CreationRange.{CreationRange}
+use Rattle.dist_conformance.specs.declared.patterns.FieldCheck.{FieldCheck}
+use Rattle.dist_conformance.specs.declared.patterns.Announcement.{Announcement}
 use Rattle.dist_conformance.specs.declared.patterns.NamesCheck.{NamesCheck}
 use Rattle.dist_conformance.specs.declared.patterns.Pattern.{Pattern}
 use Rattle.dist_conformance.specs.declared.patterns.Pattern.TheVariants as pattern
@@ -17,10 +18,11 @@ use Rattle.dist_conformance.specs.declared.say.Learned.{Learned}
 use Rattle.dist_conformance.specs.declared.outcomes.Deviation.TheVariants as deviation
 use Rattle.dist_conformance.specs.declared.outcomes.PatternOutcome.{PatternOutcome}
 use Rattle.dist_conformance.specs.declared.outcomes.PatternOutcome.TheVariants as outcome
+use Rattle.dist_conformance.specs.Kinds.{side_of}
 use Rattle.dist_conformance.specs.Words.{begins_with}
 use Rattle.dist_conformance.specs.Outcomes.{IsWithin}
-use Rattle.dist_conformance.specs.Judging.{Observation, ChallengeSaid, AnswerSaid, passes, passes_if, part_outcome, open_for, by_body, by_challenge, challenge_passes, challenge_in, name_in, name_passes, reply_in, by_reply, is_in, answer_in, by_answer, refusal, are_lines, names_pass, by_names, body_outcome, outcome_of}
-use Rattle.dist_conformance.proofs.Fronts.{begins_within, first_within, answer_within}
+use Rattle.dist_conformance.specs.Judging.{Observation, AnnouncementSaid, passes, passes_if, part_outcome, open_for, by_body, place_of, by_announcement, check_passes, said_in, reply_in, by_reply, by_result, by_answer, are_lines, names_pass, by_names, body_outcome, outcome_of}
+use Rattle.dist_conformance.proofs.Fronts.{begins_within, first_within}
 
 either : (b : Bool) (n : ℕ) (x y : PatternOutcome) → (b ≡ true → IsWithin n x) → IsWithin n y → IsWithin n (if b then x else y)
 either true n x y p q = p refl
@@ -37,9 +39,9 @@ of_if false n m h = tt
 of_open : (ms count : ℕ) (o : Observation) (n : ℕ) → count ≤ n → IsWithin n (open_for ms count o)
 of_open ms count o n h = either o.ended n _ _ (λ _. tt) (either (nat_le ms o.elapsed) n _ _ (λ _. h) tt)
 
-of_challenge : (which : ChallengeCheck) (learned : List Learned) (len : ℕ) (c : Option ChallengeSaid) (n : ℕ) → 2 + len ≤ n → IsWithin n (by_challenge which learned len c)
-of_challenge which learned len None n h = tt
-of_challenge which learned len (Some c) n h = either (challenge_passes which c learned) n _ _ (λ _. h) tt
+of_announcement : (k : Announcement) (which : FieldCheck) (len : ℕ) (learned : List Learned) (i : Option AnnouncementSaid) (n : ℕ) → 2 + len ≤ n → IsWithin n (by_announcement k which len learned i)
+of_announcement k which len learned None n h = tt
+of_announcement k which len learned (Some i) n h = either (place_of i.form == place_of k) n _ _ (λ _. either (check_passes which len learned i) n _ _ (λ _. h) tt) tt
 
 of_reply : (wanted : List ℕ) (len : ℕ) (r : Option (ℕ × List ℕ)) (n : ℕ) → 2 + len ≤ n → IsWithin n (by_reply wanted len r)
 of_reply wanted len None n h = tt
@@ -50,17 +52,21 @@ of_body : (says : List ℕ → PatternOutcome) (came : List ℕ) (b : Option (Li
 of_body says came None e h k = waits e (length came)
 of_body says came (Some body) e h k = k body (first_within came body h)
 
-of_answer : (tag count : ℕ) (range : CreationRange) (e : Bool) (a : Option AnswerSaid) (n : ℕ) → ((x : AnswerSaid) → a ≡ Some x → count ≤ n) → IsWithin n (by_answer tag count range e a)
-of_answer tag count range e None n h = waits e n
-of_answer tag count range e (Some a) n h = either (a.tag == tag && a.code == 0) n _ _ (λ _. either (is_in range a.creation) n _ _ (λ _. h a refl) tt) tt
+of_result : (good zero creation : Bool) (n m : ℕ) → n ≤ m → IsWithin m (by_result good zero creation n)
+of_result true true true n m h = h
+of_result true true false n m h = tt
+of_result true false creation n m h = tt
+of_result false true creation n m h = tt
+of_result false false creation n m h = h
 
-of_refusal : (tag more : ℕ) (e : Bool) (came : List ℕ) → IsWithin (length came) (refusal tag more e came)
-of_refusal tag more e [] = waits e 0
-of_refusal tag more e (x ∷ []) = waits e 1
-of_refusal tag more e (x ∷ y ∷ rest) =
-    elim (nat_lt (length rest) more) as (λ b. nat_lt (length rest) more ≡ b → IsWithin (length (x ∷ y ∷ rest)) (if b then part_outcome e else passes_if (x == tag && not (y == 0)) (2 + more))) [
+of_answer : (tag : ℕ) (good : Bool) (more : ℕ) (e : Bool) (came : List ℕ) → IsWithin (length came) (by_answer tag good more e came)
+of_answer tag good more e [] = waits e 0
+of_answer tag good more e (x ∷ []) = waits e 1
+of_answer tag good more e (x ∷ y ∷ rest) =
+    elim (nat_lt (length rest) more) as (λ b. nat_lt (length rest) more ≡ b → IsWithin (length (x ∷ y ∷ rest)) (if b then part_outcome e else (if x == tag then by_result good (y == 0) (list_any (λ byte. not (byte == 0)) (take more rest)) (2 + more) else outcome.Fails deviation.Other))) [
       | true ↦ λ is. waits e (length (x ∷ y ∷ rest))
-      | false ↦ λ is. let long : more ≤ length rest = grind (arith, is) in of_if (x == tag && not (y == 0)) (2 + more) (length (x ∷ y ∷ rest)) (omega (arith, long))
+      | false ↦ λ is. let long : more ≤ length rest = grind (arith, is) in
+          either (x == tag) (length (x ∷ y ∷ rest)) _ _ (λ _. of_result good (y == 0) (list_any (λ byte. not (byte == 0)) (take more rest)) (2 + more) (length (x ∷ y ∷ rest)) (omega (arith, long))) tt
     ] refl
 
 of_names : (which : NamesCheck) (count : ℕ) (a : Option (ℕ × List ℕ)) → IsWithin count (by_names which count a)
@@ -76,13 +82,10 @@ within (pattern.Open ms) o came = of_open ms (length came) o (length came) (omeg
 within (pattern.Bytes wanted) o came =
     either (begins_with wanted came) (length came) _ _ (λ e. begins_within wanted came e) (either (begins_with came wanted) (length came) _ _ (λ _. waits o.ended (length came)) tt)
 within (pattern.Frame front) o came = of_body (body_outcome (pattern.Frame front) o) came (first_body w16 came) o.ended refl (λ body h. of_if (begins_with front body) (2 + length body) (length came) h)
-within (pattern.Challenge which) o came =
-    of_body (body_outcome (pattern.Challenge which) o) came (first_body w16 came) o.ended refl (λ body h. of_challenge which o.learned (length body) (challenge_in (read Acceptor body)) (length came) h)
-within (pattern.Name which) o came = of_body (body_outcome (pattern.Name which) o) came (first_body w16 came) o.ended refl (λ body h. of_if (name_passes which (name_in (read Dialler body))) (2 + length body) (length came) h)
+within (pattern.Announcement k which) o came =
+    of_body (body_outcome (pattern.Announcement k which) o) came (first_body w16 came) o.ended refl (λ body h. of_announcement k which (length body) o.learned (said_in (read (side_of k) body)) (length came) h)
 within (pattern.Reply n) o came =
     of_body (body_outcome (pattern.Reply n) o) came (first_body w16 came) o.ended refl (λ body h. of_reply (digest_of o.cookie n) (length body) (reply_in (read Dialler body)) (length came) h)
 within (pattern.Ack n) o came = of_body (body_outcome (pattern.Ack n) o) came (first_body w16 came) o.ended refl (λ body h. of_if _ (2 + length body) (length came) h)
-within (pattern.RegisteredX range) o came = of_answer 0x76 6 range o.ended (answer_in w32 came) (length came) (λ a e. let long = answer_within w32 came a e in omega (arith, long))
-within (pattern.RegisteredY range) o came = of_answer 0x79 4 range o.ended (answer_in w16 came) (length came) (λ a e. let long = answer_within w16 came a e in omega (arith, long))
-within (pattern.Denied tag more) o came = of_refusal tag more o.ended came
+within (pattern.Answer tag good more) o came = of_answer tag good more o.ended came
 within (pattern.Names which) o came = either o.ended (length came) _ _ (λ _. of_names which (length came) (number_at w32 came)) tt

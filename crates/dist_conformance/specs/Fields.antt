@@ -1,5 +1,5 @@
 -- What single words of a row say.
-use Rattle.std.specs.Prelude.{ℕ, ◌-◌, ◌^◌, ◌&&◌, ◌==◌, nat_le, nat_lt, if◌then◌else◌, List, [], ◌∷◌, ◌++◌, length, drop, replicate, codes}
+use Rattle.std.specs.Prelude.{ℕ, ◌-◌, ◌^◌, ◌&&◌, nat_le, nat_lt, if◌then◌else◌, List, [], ◌∷◌, ◌++◌, length, drop, replicate, codes}
 use Rattle.std.specs.Prelude.{Option, Some, None, option_map, slice_get, bit_and, bit_or}
 use Rattle.std.specs.Result.{result_ok}
 use Rattle.std.specs.Str.Parse.{digits_value}
@@ -8,11 +8,10 @@ use Rattle.dist_names.specs.Digits.{is_numeral, flags_in}
 use Rattle.dist_names.specs.declared.flags.Flags.{Flags}
 use Rattle.dist_flags.specs.Names.{flag_named, flag_of}
 use Rattle.dist_conformance.specs.Texts.{parts_of}
-use Rattle.dist_conformance.specs.declared.patterns.CreationRange.{CreationRange}
-use Rattle.dist_conformance.specs.Words.{◌>>=◌, Read, begins_with, field, value_in}
+use Rattle.dist_conformance.specs.Words.{◌>>=◌, Read, begins_with, field, field_or}
 
 -- the number below 2^32 that decimal digits write
-abbrev pub number_32 : List ℕ → Option ℕ
+unfoldable pub number_32 : List ℕ → Option ℕ
 number_32 word = if is_numeral 10 word && nat_lt (digits_value 10 word) (2 ^ 32) then Some (digits_value 10 word) else None
 
 -- a number up to this one
@@ -21,11 +20,11 @@ up_to most None = None
 up_to most (Some n) = if nat_le n most then Some n else None
 
 -- the number up to this one, and below 2^32, that decimal digits write
-abbrev pub number_in : ℕ → List ℕ → Option ℕ
+unfoldable pub number_in : ℕ → List ℕ → Option ℕ
 number_in most word = up_to most (number_32 word)
 
 -- the number behind this key, if the first word has it
-abbrev pub optional_number : List ℕ → List (List ℕ) → Read (Option ℕ)
+unfoldable pub optional_number : List ℕ → List (List ℕ) → Read (Option ℕ)
 optional_number key words = field key (λ word. option_map Some (number_in 4294967295 word)) None words
 
 -- the word itself
@@ -43,46 +42,24 @@ bytes_of_parts (digits ∷ count ∷ []) = result_ok (decode_of digits) >>= (λ 
 bytes_of_parts other = None
 
 -- BYTES: hexadecimal digits, of either case, or `HEX*N`
-abbrev pub bytes_in : List ℕ → Option (List ℕ)
+unfoldable pub bytes_in : List ℕ → Option (List ℕ)
 bytes_in word = bytes_of_parts (parts_of 42 word)
 
 -- the flags that are usual: those that releases from OTP 26 on require
 abbrev pub usual_flags : Flags
 usual_flags = record { 0 = 0x403070f94 }
 
--- FLAGS: `FLAG` and `-FLAG`, the usual ones with or without this one; `0x` and digits
-abbrev pub flags_said : List ℕ → Option Flags
-flags_said word =
-    if begins_with (codes "-") word then option_map (λ flag. record { 0 = bit_and 0x403070f94 (2 ^ 64 - 1 - flag_of flag) }) (flag_named (drop 1 word))
-    else (if begins_with (codes "0x") word then flags_in (drop 2 word)
-    else option_map (λ flag. record { 0 = bit_or 0x403070f94 (flag_of flag) }) (flag_named word))
-
 -- the flag that has this name
-abbrev pub flag_in : List ℕ → Option Flags
+unfoldable pub flag_in : List ℕ → Option Flags
 flag_in name = option_map (λ flag. record { 0 = flag_of flag }) (flag_named name)
 
--- ---- creations
-
--- creations: `LOW-HIGH`
-abbrev pub range_of_parts : List (List ℕ) → Option CreationRange
-range_of_parts (low ∷ high ∷ []) =
-    number_in 4294967295 low >>= (λ l. option_map (λ h. record { lowest = l; highest = h }) (number_in 4294967295 high))
-range_of_parts other = None
-
-abbrev pub range_in : List ℕ → Option CreationRange
-range_in word = range_of_parts (parts_of 45 word)
-
--- any creation but 0
-abbrev pub usual_range : CreationRange
-usual_range = record { lowest = 1; highest = 4294967295 }
-
--- ---- names
-
--- a name in hexadecimal digits, where this stands behind their key; else one as it is, or what is usual
-abbrev pub name_behind : List ℕ → List (List ℕ) → Option (List ℕ) → Read (List ℕ)
-name_behind usual words None = field (codes "name=") text_in usual words
-name_behind usual words (Some value) = option_map (λ name. (name, drop 1 words)) (bytes_in value)
+-- FLAGS: `FLAG` and `-FLAG`, the usual ones with or without this one; `0x` and digits
+unfoldable pub flags_said : List ℕ → Option Flags
+flags_said word =
+    if begins_with (codes "-") word then option_map (λ (f : Flags). record { 0 = bit_and 0x403070f94 (2 ^ 64 - 1 - f.0) }) (flag_in (drop 1 word))
+    else (if begins_with (codes "0x") word then flags_in (drop 2 word)
+    else option_map (λ (f : Flags). record { 0 = bit_or 0x403070f94 f.0 }) (flag_in word))
 
 -- A NAME: `namehex=BYTES` or `name=TEXT`, or what is usual
-abbrev pub name_in : List ℕ → List (List ℕ) → Read (List ℕ)
-name_in usual words = name_behind usual words (value_in (codes "namehex=") words)
+unfoldable pub name_in : List ℕ → List (List ℕ) → Read (List ℕ)
+name_in usual words = field_or (codes "namehex=") bytes_in (field (codes "name=") text_in usual words) words

@@ -1,24 +1,26 @@
 -- THE JUDGEMENT: what it means that this came.
 use Rattle.std.specs.Prelude.{ℕ, ◌+◌, ◌==◌, Bool, true, false, not, ◌&&◌, ◌||◌, nat_le, nat_lt, if◌then◌else◌}
-use Rattle.std.specs.Prelude.{List, [], ◌∷◌, length, drop, map, Option, Some, None, option_map, unwrap_or, Result, Ok}
+use Rattle.std.specs.Prelude.{List, [], ◌∷◌, length, take, drop, map, Option, Some, None, Result, Ok, Err}
 use Rattle.std.specs.List.{list_any, list_all, ends_with}
-use Rattle.std.specs.Int.{Width, w16, w32}
+use Rattle.std.specs.Int.{w16, w32}
 use Rattle.dist_names.specs.Fields.{number_at}
-use Rattle.dist_names.specs.Flags.{has_all}
+use Rattle.dist_names.specs.Flags.{of_halves, has_all}
 use Rattle.dist_names.specs.Order.{same_name}
 use Rattle.dist_frames.specs.Stream.{first_body}
 use Rattle.dist_secret.specs.Digest.{digest_of}
 use Rattle.dist_messages.specs.declared.message.Message.{Message}
 use Rattle.dist_messages.specs.declared.message.Message.TheVariants as message
-use Rattle.dist_messages.specs.declared.message.Side.TheVariants.{Dialler, Acceptor}
+use Rattle.dist_messages.specs.declared.message.Side.TheVariants.{Dialler}
 use Rattle.dist_messages.specs.declared.message_error.MessageError.{MessageError}
 use Rattle.dist_messages.specs.Canonical.{canonical}
 use Rattle.dist_messages.specs.Reading.{read}
+use Rattle.dist_conformance.specs.Kinds.{side_of}
 use Rattle.dist_conformance.specs.Texts.{lines_of}
 use Rattle.dist_conformance.specs.Words.{begins_with}
-use Rattle.dist_conformance.specs.declared.patterns.CreationRange.{CreationRange}
-use Rattle.dist_conformance.specs.declared.patterns.ChallengeCheck.{ChallengeCheck}
-use Rattle.dist_conformance.specs.declared.patterns.ChallengeCheck.TheVariants as check
+use Rattle.dist_conformance.specs.declared.patterns.Announcement.{Announcement}
+use Rattle.dist_conformance.specs.declared.patterns.Announcement.TheVariants as kind
+use Rattle.dist_conformance.specs.declared.patterns.FieldCheck.{FieldCheck}
+use Rattle.dist_conformance.specs.declared.patterns.FieldCheck.TheVariants as check
 use Rattle.dist_conformance.specs.declared.patterns.NamesCheck.{NamesCheck}
 use Rattle.dist_conformance.specs.declared.patterns.NamesCheck.TheVariants as names
 use Rattle.dist_conformance.specs.declared.patterns.Pattern.{Pattern}
@@ -81,50 +83,69 @@ abbrev pub by_body : (List ℕ → PatternOutcome) → Option (List ℕ) → Boo
 by_body says None ended = part_outcome ended
 by_body says (Some body) ended = says body
 
--- ---- creations and challenges
+-- ---- names, challenges and complements
 
-abbrev pub is_in : CreationRange → ℕ → Bool
-is_in range n = nat_le range.lowest n && nat_le n range.highest
-
-abbrev pub is_fresh : ℕ → List Learned → Bool
-is_fresh n learned = list_all (λ (l : Learned). not (unwrap_or (option_map (λ m. m == n) l.challenge) false)) learned
-
--- what a challenge of version 6 says
-pub record ChallengeSaid : Type 0 where
+-- what such a message says, of which kind it is, and how many bytes it has where none stand behind the name
+pub record AnnouncementSaid : Type 0 where
+  pub form : Announcement
   pub flags : ℕ
-  pub challenge : ℕ
+  pub challenge : Option ℕ
   pub creation : ℕ
   pub name : List ℕ
+  pub size : ℕ
 
-abbrev pub challenge_in : Result Message MessageError → Option ChallengeSaid
-challenge_in (Ok (message.NewChallenge flags challenge creation name)) =
-    Some (record { flags = flags.0; challenge = challenge; creation = creation.0; name = name })
-challenge_in other = None
+abbrev pub announcement_of : Message → Option AnnouncementSaid
+announcement_of (message.NewName flags creation name) =
+    Some (record { form = kind.Name; flags = flags.0; challenge = None; creation = creation.0; name = name; size = length name + 15 })
+announcement_of (message.OldName flags name) =
+    Some (record { form = kind.OldName; flags = flags; challenge = None; creation = 0; name = name; size = length name + 7 })
+announcement_of (message.NewChallenge flags challenge creation name) =
+    Some (record { form = kind.Challenge; flags = flags.0; challenge = Some challenge; creation = creation.0; name = name; size = length name + 19 })
+announcement_of (message.OldChallenge flags challenge name) =
+    Some (record { form = kind.OldChallenge; flags = flags; challenge = Some challenge; creation = 0; name = name; size = length name + 11 })
+announcement_of (message.Complement high creation) =
+    Some (record { form = kind.Complement; flags = of_halves high 0; challenge = None; creation = creation.0; name = []; size = 9 })
+announcement_of other = None
 
-abbrev pub challenge_passes : ChallengeCheck → ChallengeSaid → List Learned → Bool
-challenge_passes check.Any c learned = true
-challenge_passes (check.Name name) c learned = same_name c.name name
-challenge_passes check.Fresh c learned = is_fresh c.challenge learned
-challenge_passes (check.Creation range) c learned = is_in range c.creation
-challenge_passes (check.Has flags) c learned = has_all c.flags flags.0
+-- the place of a kind among the five
+abbrev pub place_of : Announcement → ℕ
+place_of kind.Name = 0
+place_of kind.OldName = 1
+place_of kind.Challenge = 2
+place_of kind.OldChallenge = 3
+place_of kind.Complement = 4
 
--- a challenge, where the body is one
-abbrev pub by_challenge : ChallengeCheck → List Learned → ℕ → Option ChallengeSaid → PatternOutcome
-by_challenge which learned len None = outcome.Fails deviation.Other
-by_challenge which learned len (Some c) =
-    if challenge_passes which c learned then outcome.Matches (record { count = 2 + len; challenge = Some c.challenge })
-    else outcome.Fails deviation.Field
+-- this challenge is none of those that came before
+abbrev pub is_new : ℕ → List Learned → Bool
+is_new n learned = list_all (λ (l : Learned). not (l.challenge == n)) learned
 
--- ---- names and replies
+abbrev pub is_fresh : Option ℕ → List Learned → Bool
+is_fresh None learned = true
+is_fresh (Some n) learned = is_new n learned
 
--- what a name of version 6 says, whose number is 0
-abbrev pub name_in : Result Message MessageError → Option ChallengeSaid
-name_in (Ok (message.NewName flags creation name)) = Some (record { flags = flags.0; challenge = 0; creation = creation.0; name = name })
-name_in other = None
+-- the check of such a message of so many bytes
+abbrev pub check_passes : FieldCheck → ℕ → List Learned → AnnouncementSaid → Bool
+check_passes check.Any len learned i = true
+check_passes (check.Name name) len learned i = same_name i.name name
+check_passes (check.Creation least) len learned i = nat_le least i.creation
+check_passes (check.Has flags) len learned i = has_all i.flags flags.0
+check_passes check.Fresh len learned i = is_fresh i.challenge learned
+check_passes check.Bare len learned i = len == i.size
 
-abbrev pub name_passes : ChallengeCheck → Option ChallengeSaid → Bool
-name_passes which None = false
-name_passes which (Some n) = challenge_passes which n []
+-- a message of this kind, where the body is one
+abbrev pub by_announcement : Announcement → FieldCheck → ℕ → List Learned → Option AnnouncementSaid → PatternOutcome
+by_announcement k which len learned None = outcome.Fails deviation.Other
+by_announcement k which len learned (Some i) =
+    if place_of i.form == place_of k
+    then (if check_passes which len learned i then outcome.Matches (record { count = 2 + len; challenge = i.challenge }) else outcome.Fails deviation.Field)
+    else outcome.Fails deviation.Other
+
+-- what a body says of its node, if this side sends it
+abbrev pub said_in : Result Message MessageError → Option AnnouncementSaid
+said_in (Ok m) = announcement_of m
+said_in (Err e) = None
+
+-- ---- replies
 
 -- the challenge and the digest of a reply
 abbrev pub reply_in : Result Message MessageError → Option (ℕ × List ℕ)
@@ -139,28 +160,19 @@ by_reply wanted len (Some reply) =
 
 -- ---- answers of a port mapper
 
--- the answer to a registration: its first byte, its result, and a creation of this width
-pub record AnswerSaid : Type 0 where
-  pub tag : ℕ
-  pub code : ℕ
-  pub creation : ℕ
+-- whether the result has to be 0, whether it is, and whether a creation that is not 0 stands behind it
+abbrev pub by_result : Bool → Bool → Bool → ℕ → PatternOutcome
+by_result true true true n = passes n
+by_result true true false n = outcome.Fails deviation.Field
+by_result false false creation n = passes n
+by_result good zero creation n = outcome.Fails deviation.Other
 
-abbrev pub answer_in : Width → List ℕ → Option AnswerSaid
-answer_in w (tag ∷ code ∷ rest) = option_map (λ n. record { tag = tag; code = code; creation = n.0 }) (number_at w rest)
-answer_in w other = None
-
--- it has this first byte, result 0, and a creation that is so
-abbrev pub by_answer : ℕ → ℕ → CreationRange → Bool → Option AnswerSaid → PatternOutcome
-by_answer tag count range ended None = part_outcome ended
-by_answer tag count range ended (Some a) =
-    if a.tag == tag && a.code == 0 then (if is_in range a.creation then passes count else outcome.Fails deviation.Field)
-    else outcome.Fails deviation.Other
-
--- this first byte, a result that is not 0, and so many bytes more
-abbrev pub refusal : ℕ → ℕ → Bool → List ℕ → PatternOutcome
-refusal tag more ended (first ∷ code ∷ rest) =
-    if nat_lt (length rest) more then part_outcome ended else passes_if (first == tag && not (code == 0)) (2 + more)
-refusal tag more ended other = part_outcome ended
+-- this first byte, a result, and so many bytes more
+abbrev pub by_answer : ℕ → Bool → ℕ → Bool → List ℕ → PatternOutcome
+by_answer tag good more ended (first ∷ code ∷ rest) =
+    if nat_lt (length rest) more then part_outcome ended
+    else (if first == tag then by_result good (code == 0) (list_any (λ byte. not (byte == 0)) (take more rest)) (2 + more) else outcome.Fails deviation.Other)
+by_answer tag good more ended other = part_outcome ended
 
 -- all lines of the answer to a question for names end in a line feed
 abbrev pub are_lines : List ℕ → Bool
@@ -191,8 +203,7 @@ by_names which count (Some answer) =
 -- what a pattern makes of the body of a frame
 abbrev pub body_outcome : Pattern → Observation → List ℕ → PatternOutcome
 body_outcome (pattern.Frame front) o body = passes_if (begins_with front body) (2 + length body)
-body_outcome (pattern.Challenge which) o body = by_challenge which o.learned (length body) (challenge_in (read Acceptor body))
-body_outcome (pattern.Name which) o body = passes_if (name_passes which (name_in (read Dialler body))) (2 + length body)
+body_outcome (pattern.Announcement k which) o body = by_announcement k which (length body) o.learned (said_in (read (side_of k) body))
 body_outcome (pattern.Reply challenge) o body = by_reply (digest_of o.cookie challenge) (length body) (reply_in (read Dialler body))
 body_outcome (pattern.Ack challenge) o body = passes_if (same_name body (canonical (message.Ack (digest_of o.cookie challenge)))) (2 + length body)
 body_outcome other o body = outcome.Open
@@ -203,9 +214,7 @@ outcome_of pattern.End o came = if_nothing came (if o.ended then passes 0 else o
 outcome_of (pattern.Silence ms) o came = if_nothing came (open_for ms 0 o)
 outcome_of (pattern.Open ms) o came = open_for ms (length came) o
 outcome_of (pattern.Bytes wanted) o came = by_bytes wanted came o.ended
-outcome_of (pattern.RegisteredX range) o came = by_answer 0x76 6 range o.ended (answer_in w32 came)
-outcome_of (pattern.RegisteredY range) o came = by_answer 0x79 4 range o.ended (answer_in w16 came)
-outcome_of (pattern.Denied tag more) o came = refusal tag more o.ended came
+outcome_of (pattern.Answer tag good more) o came = by_answer tag good more o.ended came
 outcome_of (pattern.Names which) o came = if o.ended then by_names which (length came) (number_at w32 came) else outcome.Open
 outcome_of framed o came = by_body (body_outcome framed o) (first_body w16 came) o.ended
 

@@ -8,7 +8,7 @@ pub mod Saying
 pub mod Messages
 pub mod Patterns
 pub mod Steps
-pub mod Rows
+pub mod Kinds
 pub mod Sections
 pub mod Judging
 pub mod Outcomes

@@ -4,9 +4,8 @@ use Rattle.dist_conformance.specs.declared.outcomes.Deviation.{Deviation}
 use Rattle.dist_conformance.specs.declared.outcomes.Deviation.TheVariants as deviation
 use Rattle.dist_conformance.specs.declared.outcomes.PatternOutcome.{PatternOutcome}
 use Rattle.dist_conformance.specs.declared.outcomes.PatternOutcome.TheVariants as outcome
-use Rattle.dist_conformance.specs.declared.outcomes.ChallengeFields.{ChallengeFields}
-use Rattle.dist_conformance.specs.declared.outcomes.AnswerFields.{AnswerFields}
-use Rattle.dist_conformance.specs.Judging.{ChallengeSaid, AnswerSaid}
+use Rattle.dist_conformance.specs.declared.outcomes.AnnouncementFields.{AnnouncementFields}
+use Rattle.dist_conformance.specs.Judging.{AnnouncementSaid}
 
 -- the word of a deviation in reports
 abbrev pub deviation_word : Deviation → List ℕ
@@ -20,10 +19,6 @@ abbrev pub IsWithin : ℕ → PatternOutcome → Type 0
 IsWithin n (outcome.Matches p) = p.count ≤ n
 IsWithin n other = Unit {0}
 
--- what a challenge says
-abbrev pub said_of : ChallengeFields → ChallengeSaid
-said_of c = record { flags = c.flags.0; challenge = c.challenge; creation = c.creation.0; name = c.name.now }
-
--- what an answer says
-abbrev pub answer_of : AnswerFields → AnswerSaid
-answer_of a = record { tag = a.tag; code = a.code; creation = a.creation }
+-- what a name, a challenge or a complement says
+abbrev pub said_of : AnnouncementFields → AnnouncementSaid
+said_of i = record { form = i.form; flags = i.flags.0; challenge = i.challenge; creation = i.creation; name = i.name.now; size = i.size }

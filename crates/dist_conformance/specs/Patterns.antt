@@ -1,63 +1,45 @@
 -- What a row demands, as it writes it.
-use Rattle.std.specs.Prelude.{ℕ, Bool, true, false, if◌then◌else◌, List, [], ◌∷◌, ◌++◌, drop, codes, map, Option, Some, None, option_map, Ok}
+use Rattle.std.specs.Prelude.{ℕ, Bool, true, false, List, [], ◌∷◌, ◌++◌, drop, codes, map, Option, Some, None, option_map, Ok}
 use Rattle.std.specs.Result.{result_ok}
-use Rattle.dist_names.specs.Order.{same_name}
 use Rattle.dist_epmd.specs.declared.message.Answer.TheVariants as answer
 use Rattle.dist_epmd.specs.Layout.{written_answer}
-use Rattle.dist_conformance.specs.declared.patterns.CreationRange.{CreationRange}
-use Rattle.dist_conformance.specs.declared.patterns.ChallengeCheck.{ChallengeCheck}
-use Rattle.dist_conformance.specs.declared.patterns.ChallengeCheck.TheVariants as check
+use Rattle.dist_conformance.specs.declared.patterns.FieldCheck.{FieldCheck}
+use Rattle.dist_conformance.specs.declared.patterns.FieldCheck.TheVariants as check
+use Rattle.dist_conformance.specs.declared.patterns.Announcement.TheVariants as kind
 use Rattle.dist_conformance.specs.declared.patterns.NamesCheck.{NamesCheck}
 use Rattle.dist_conformance.specs.declared.patterns.NamesCheck.TheVariants as names
 use Rattle.dist_conformance.specs.declared.patterns.Pattern.{Pattern}
 use Rattle.dist_conformance.specs.declared.patterns.Pattern.TheVariants as pattern
 use Rattle.dist_conformance.specs.declared.steps.Demand.{Demand}
 use Rattle.dist_conformance.specs.declared.demands.PatternWord.{PatternWord}
-use Rattle.dist_conformance.specs.declared.demands.PatternWord.TheVariants as kind
-use Rattle.dist_conformance.specs.declared.demands.CheckWord.{CheckWord}
-use Rattle.dist_conformance.specs.declared.demands.CheckWord.TheVariants as key
+use Rattle.dist_conformance.specs.declared.demands.PatternWord.TheVariants as word
 use Rattle.dist_conformance.specs.Texts.{parts_of, words_of}
 use Rattle.dist_conformance.specs.Terms.{Terms}
 use Rattle.dist_conformance.specs.Lists.{all_in, good}
-use Rattle.dist_conformance.specs.Words.{◌>>=◌, Read, next_in, field, value_in, whole, meaning_in}
-use Rattle.dist_conformance.specs.Fields.{number_in, text_in, bytes_in, flag_in, range_in, usual_range}
+use Rattle.dist_conformance.specs.Words.{◌>>=◌, Read, give, next_in, field, field_or, mark_in, value_in, whole, meaning_in}
+use Rattle.dist_conformance.specs.Fields.{number_in, bytes_in, flag_in}
 use Rattle.dist_conformance.specs.Messages.{info, status_said}
 
--- this pattern, and the words that are left
-abbrev pub give : Pattern → List (List ℕ) → Read Pattern
-give p words = Some (p, words)
+-- ---- names, challenges and complements
 
--- ---- challenges
+-- the check of two marks
+abbrev pub marked : Bool → Bool → FieldCheck
+marked true bare = check.Fresh
+marked false true = check.Bare
+marked false false = check.Any
 
--- the fields of a challenge or a name
-abbrev pub check_words : List (List ℕ × CheckWord)
-check_words =
-    (codes "name", key.Name) ∷ (codes "challenge", key.Challenge) ∷ (codes "creation", key.Creation) ∷ (codes "has", key.Has) ∷ []
+-- no check, or one of two marks
+unfoldable pub mark_check : List (List ℕ) → Read FieldCheck
+mark_check words = mark_in (codes "fresh") words >>= (λ fresh. mark_in (codes "bare") fresh.1 >>= (λ bare. give (marked fresh.0 bare.0) bare.1))
 
--- the value of a field of this kind
-abbrev pub check_of : CheckWord → List ℕ → Option ChallengeCheck
-check_of key.Name value = Some (check.Name value)
-check_of key.Challenge value = if same_name value (codes "fresh") then Some check.Fresh else None
-check_of key.Creation value = option_map (λ range. check.Creation range) (range_in value)
-check_of key.Has value = option_map (λ f. check.Has f) (flag_in value)
+-- what such a message has to be
+unfoldable pub field_check : List (List ℕ) → Read FieldCheck
+field_check words =
+    field_or (codes "name=") (λ value. Some (check.Name value))
+    (field_or (codes "creation>=") (λ value. option_map (λ n. check.Creation n) (number_in 4294967295 value))
+    (field_or (codes "has=") (λ value. option_map (λ f. check.Has f) (flag_in value)) (mark_check words) words) words) words
 
--- a key and its value
-unfoldable pub check_behind : List ℕ → List ℕ → Option ChallengeCheck
-check_behind word value = meaning_in check_words word >>= (λ k. check_of k value)
-
-abbrev pub check_of_parts : List (List ℕ) → Option ChallengeCheck
-check_of_parts (word ∷ value ∷ []) = check_behind word value
-check_of_parts other = None
-
-abbrev pub check_in : List ℕ → Option ChallengeCheck
-check_in word = check_of_parts (parts_of 61 word)
-
--- the check of a challenge or a name, where there is a word
-abbrev pub challenge_check : List (List ℕ) → Read ChallengeCheck
-challenge_check [] = Some (check.Any, [])
-challenge_check (word ∷ words) = option_map (λ c. (c, words)) (check_in word)
-
--- ---- names
+-- ---- the port mapper
 
 -- the line of a node at this port
 abbrev pub names_line : List ℕ → List ℕ → List ℕ
@@ -74,77 +56,58 @@ behind_names words None (Some name) hasnot = with_port name (drop 1 words)
 behind_names words None None (Some name) = Some (names.Lacks (names_line name []), drop 1 words)
 behind_names words None None None = Some (names.Any, words)
 
-abbrev pub names_check : List (List ℕ) → Read NamesCheck
+unfoldable pub names_check : List (List ℕ) → Read NamesCheck
 names_check words = behind_names words (value_in (codes "port=") words) (value_in (codes "has=") words) (value_in (codes "hasnot=") words)
-
--- ---- answers
 
 -- whether an answer is good, by its word
 abbrev pub answer_words : List (List ℕ × Bool)
 answer_words = (codes "ok", true) ∷ (codes "known", true) ∷ (codes "refused", false) ∷ (codes "unknown", false) ∷ []
 
-abbrev pub is_good : List (List ℕ) → Read Bool
-is_good words = next_in (meaning_in answer_words) words
-
--- the creations that will do in an answer to a registration
-abbrev pub creations : List (List ℕ) → Read CreationRange
-creations words = field (codes "creation=") range_in usual_range words
-
--- an answer to a registration, good or refused, whether it is of the form with a creation of 4 bytes
-abbrev pub of_form : Bool → Bool → List (List ℕ) → Read Pattern
-of_form true true words = creations words >>= (λ c. give (pattern.RegisteredX c.0) c.1)
-of_form false true words = creations words >>= (λ c. give (pattern.RegisteredY c.0) c.1)
-of_form true false words = give (pattern.Denied 0x76 4) words
-of_form false false words = give (pattern.Denied 0x79 2) words
-
-abbrev pub registered : Bool → List (List ℕ) → Read Pattern
-registered is_x words = is_good words >>= (λ g. of_form is_x g.0 g.1)
-
--- an answer to a lookup, known or unknown
+-- the answer to a lookup: a node, or none
 abbrev pub looked_up : Terms → Bool → List (List ℕ) → Read Pattern
 looked_up t true words = info t words >>= (λ i. result_ok (written_answer (answer.Port (Ok i.0))) >>= (λ bytes. give (pattern.Bytes bytes) i.1))
-looked_up t false words = give (pattern.Denied 0x77 0) words
+looked_up t false words = give (pattern.Answer 0x77 false 0) words
 
 -- the frame of a status
 abbrev pub status_frame : List ℕ → Option Pattern
-status_frame word = option_map (λ frame. pattern.Bytes frame) (status_said word)
+status_frame text = option_map (λ frame. pattern.Bytes frame) (status_said text)
 
 -- ---- patterns
 
 abbrev pub pattern_words : List (List ℕ × PatternWord)
 pattern_words =
-    (codes "end", kind.End) ∷ (codes "silence", kind.Silence) ∷ (codes "open", kind.Open) ∷ (codes "bytes", kind.Bytes)
-    ∷ (codes "frame", kind.Frame) ∷ (codes "status", kind.Status) ∷ (codes "challenge", kind.Challenge) ∷ (codes "name", kind.Name)
-    ∷ (codes "reply", kind.Reply) ∷ (codes "ack", kind.Ack)
-    ∷ (codes "alive2x", kind.Alive2X) ∷ (codes "alive2y", kind.Alive2Y) ∷ (codes "port2", kind.Port2) ∷ (codes "names", kind.Names) ∷ []
+    (codes "end", word.End) ∷ (codes "silence", word.Silence) ∷ (codes "open", word.Open) ∷ (codes "bytes", word.Bytes)
+    ∷ (codes "frame", word.Frame) ∷ (codes "status", word.Status)
+    ∷ (codes "name", word.Announcement kind.Name) ∷ (codes "oldname", word.Announcement kind.OldName)
+    ∷ (codes "challenge", word.Announcement kind.Challenge) ∷ (codes "complement", word.Announcement kind.Complement)
+    ∷ (codes "reply", word.Reply) ∷ (codes "ack", word.Ack) ∷ (codes "alive2x", word.Answer 0x76 4) ∷ (codes "alive2y", word.Answer 0x79 2)
+    ∷ (codes "port2", word.Port2) ∷ (codes "names", word.Names) ∷ []
 
--- a pattern of this kind
-abbrev pub behind_kind : Terms → PatternWord → List (List ℕ) → Read Pattern
-behind_kind t kind.End words = give pattern.End words
-behind_kind t kind.Silence words = next_in (number_in 4294967295) words >>= (λ n. give (pattern.Silence n.0) n.1)
-behind_kind t kind.Open words = next_in (number_in 4294967295) words >>= (λ n. give (pattern.Open n.0) n.1)
-behind_kind t kind.Bytes words = field [] bytes_in [] words >>= (λ b. give (pattern.Bytes b.0) b.1)
-behind_kind t kind.Frame words = field [] bytes_in [] words >>= (λ b. give (pattern.Frame b.0) b.1)
-behind_kind t kind.Status words = next_in status_frame words
-behind_kind t kind.Challenge words = challenge_check words >>= (λ c. give (pattern.Challenge c.0) c.1)
-behind_kind t kind.Name words = challenge_check words >>= (λ c. give (pattern.Name c.0) c.1)
-behind_kind t kind.Reply words = field (codes "challenge=") (number_in 4294967295) 123456789 words >>= (λ n. give (pattern.Reply n.0) n.1)
-behind_kind t kind.Ack words = field (codes "challenge=") (number_in 4294967295) 123456789 words >>= (λ n. give (pattern.Ack n.0) n.1)
-behind_kind t kind.Alive2X words = registered true words
-behind_kind t kind.Alive2Y words = registered false words
-behind_kind t kind.Port2 words = is_good words >>= (λ g. looked_up t g.0 g.1)
-behind_kind t kind.Names words = names_check words >>= (λ c. give (pattern.Names c.0) c.1)
+-- a pattern of this word
+abbrev pub behind_word : Terms → PatternWord → List (List ℕ) → Read Pattern
+behind_word t word.End words = give pattern.End words
+behind_word t word.Silence words = field [] (number_in 4294967295) 0 words >>= (λ n. give (pattern.Silence n.0) n.1)
+behind_word t word.Open words = field [] (number_in 4294967295) 0 words >>= (λ n. give (pattern.Open n.0) n.1)
+behind_word t word.Bytes words = field [] bytes_in [] words >>= (λ b. give (pattern.Bytes b.0) b.1)
+behind_word t word.Frame words = field [] bytes_in [] words >>= (λ b. give (pattern.Frame b.0) b.1)
+behind_word t word.Status words = next_in status_frame words
+behind_word t (word.Announcement k) words = field_check words >>= (λ c. give (pattern.Announcement k c.0) c.1)
+behind_word t word.Reply words = field (codes "challenge=") (number_in 4294967295) 123456789 words >>= (λ n. give (pattern.Reply n.0) n.1)
+behind_word t word.Ack words = field (codes "challenge=") (number_in 4294967295) 123456789 words >>= (λ n. give (pattern.Ack n.0) n.1)
+behind_word t (word.Answer tag count) words = next_in (meaning_in answer_words) words >>= (λ g. give (pattern.Answer tag g.0 count) g.1)
+behind_word t word.Port2 words = next_in (meaning_in answer_words) words >>= (λ g. looked_up t g.0 g.1)
+behind_word t word.Names words = names_check words >>= (λ c. give (pattern.Names c.0) c.1)
 
 -- A PATTERN: its word, what stands behind it, and no word more
-abbrev pub pattern_in : Terms → List ℕ → Option Pattern
-pattern_in t text = whole (next_in (meaning_in pattern_words) (words_of text) >>= (λ k. behind_kind t k.0 k.1))
+unfoldable pub pattern_in : Terms → List ℕ → Option Pattern
+pattern_in t text = whole (next_in (meaning_in pattern_words) (words_of text) >>= (λ k. behind_word t k.0 k.1))
 
 -- PATTERNS ONE BEHIND THE OTHER, with commas between them
-abbrev pub sequence_in : Terms → List ℕ → Option (List Pattern)
+unfoldable pub sequence_in : Terms → List ℕ → Option (List Pattern)
 sequence_in t text = good (all_in (map (pattern_in t) (parts_of 44 text)))
 
 -- ALTERNATIVES, with bars between them
-abbrev pub alternatives_in : Terms → List ℕ → Option (List (List Pattern))
+unfoldable pub alternatives_in : Terms → List ℕ → Option (List (List Pattern))
 alternatives_in t text = good (all_in (map (sequence_in t) (parts_of 124 text)))
 
 -- wanted alternatives, and loose ones where a slash stands before them
@@ -154,5 +117,5 @@ demand_of_parts t (wanted ∷ loose ∷ []) = alternatives_in t wanted >>= (λ w
 demand_of_parts t other = None
 
 -- A DEMAND
-abbrev pub demand_in : Terms → List ℕ → Option Demand
+unfoldable pub demand_in : Terms → List ℕ → Option Demand
 demand_in t text = demand_of_parts t (parts_of 47 text)

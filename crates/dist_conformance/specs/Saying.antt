@@ -39,7 +39,7 @@ digest_said digest.Zero cookie challenge earlier = replicate 16 0
 
 -- the challenge that came last on this connection, where one came behind this one
 abbrev pub newer : ℕ → ℕ → Learned → ℕ
-newer conn challenge learned = if learned.conn == conn then unwrap_or learned.challenge challenge else challenge
+newer conn challenge learned = if learned.conn == conn then learned.challenge else challenge
 
 -- the challenge that came last on this connection, or this one where none came
 abbrev pub last_challenge : ℕ → ℕ → List Learned → ℕ
@@ -49,7 +49,7 @@ last_challenge conn challenge (learned ∷ others) = last_challenge conn (newer 
 -- the challenge that came first on any connection, or 0
 abbrev pub first_challenge : List Learned → ℕ
 first_challenge [] = 0
-first_challenge (learned ∷ others) = unwrap_or learned.challenge (first_challenge others)
+first_challenge (learned ∷ others) = learned.challenge
 
 -- ---- bytes
 
@@ -64,14 +64,12 @@ frame_said body = number w16 (length body % 2 ^ 16) ++ body
 -- the bytes of one message
 abbrev pub part_said : ℕ → List Learned → List ℕ → SaidPart → List ℕ
 part_said conn learned cookie (part.Bytes bytes) = bytes
-part_said conn learned cookie (part.Reply reply) = frame_said (edited
-    (canonical (message.Reply reply.challenge
-    (digest_said reply.digest cookie (last_challenge conn 0 learned) (first_challenge learned))))
-    reply.less reply.extra)
-part_said conn learned cookie (part.Ack ack) = frame_said (edited
-    (canonical (message.Ack
-    (digest_said ack.digest cookie (unwrap_or ack.challenge (last_challenge conn 0 learned)) (first_challenge learned))))
-    ack.less ack.extra)
+part_said conn learned cookie (part.Reply reply) =
+    let digest = digest_said reply.digest cookie (last_challenge conn 0 learned) (first_challenge learned) in
+    frame_said (edited (canonical (message.Reply (unwrap_or reply.challenge 123456789) digest)) reply.less reply.extra)
+part_said conn learned cookie (part.Ack ack) =
+    let digest = digest_said ack.digest cookie (unwrap_or ack.challenge (last_challenge conn 0 learned)) (first_challenge learned) in
+    frame_said (edited (canonical (message.Ack digest)) ack.less ack.extra)
 
 -- so many of the bytes, where there are more than that
 abbrev pub cut_at : Option ℕ → List ℕ → Option (List ℕ)

@@ -1,6 +1,7 @@
 -- THE SECTION OF A TEXT.
-use Rattle.std.specs.Prelude.{◌≡◌, ℕ, ◌+◌, ◌-◌, ◌==◌, ◌&&◌, Bool, true, false, not, if◌then◌else◌, List, [], ◌∷◌, ◌++◌, length, take, drop, map, codes, decimal}
+use Rattle.std.specs.Prelude.{◌≡◌, ℕ, ◌-◌, ◌==◌, ◌&&◌, Bool, not, if◌then◌else◌, List, [], ◌∷◌, ◌++◌, length, take, drop, map, codes, decimal}
 use Rattle.std.specs.Prelude.{Option, Some, None, option_map, Result, Ok, Err}
+use Rattle.std.specs.Cmp.Lexicographic.{pointwise}
 use Rattle.dist_names.specs.Order.{same_name}
 use Rattle.dist_conformance.specs.declared.faults.RowError.{RowError}
 use Rattle.dist_conformance.specs.declared.faults.RowError.TheVariants as error
@@ -12,17 +13,14 @@ use Rattle.dist_conformance.specs.declared.rows.Marks.{Marks}
 use Rattle.dist_conformance.specs.declared.rows.RowTalk.{RowTalk}
 use Rattle.dist_conformance.specs.declared.rows.SuiteRow.{SuiteRow}
 use Rattle.dist_conformance.specs.declared.rows.Section.{Section}
+use Rattle.dist_conformance.specs.declared.talks.RowTerms.{RowTerms}
 use Rattle.dist_conformance.specs.declared.terms.SuiteNames.{SuiteNames}
 use Rattle.dist_conformance.specs.Texts.{parts_of, words_of, lines_of}
 use Rattle.dist_conformance.specs.Terms.{Terms}
-use Rattle.dist_conformance.specs.Lists.{all_in, behind_items}
-use Rattle.dist_conformance.specs.Words.{◌>>=◌, Read, begins_with, field, whole, meaning_in}
+use Rattle.dist_conformance.specs.Lists.{all_in}
+use Rattle.dist_conformance.specs.Words.{◌>>=◌, Read, give, begins_with, field, mark_in, whole, meaning_in}
 use Rattle.dist_conformance.specs.Fields.{number_in}
 use Rattle.dist_conformance.specs.Steps.{step_in}
-use Rattle.dist_conformance.specs.declared.heads.RowHead.{RowHead}
-use Rattle.dist_conformance.specs.declared.talks.Family.{Family}
-use Rattle.dist_conformance.specs.declared.talks.RowTerms.{RowTerms}
-use Rattle.std.specs.Cmp.Lexicographic.{pointwise}
 
 -- ---- heads
 
@@ -31,13 +29,11 @@ abbrev pub quoted_parts : List (List ℕ) → Option (List (List ℕ) × List �
 quoted_parts (front ∷ title ∷ [] ∷ []) = Some (words_of front, title)
 quoted_parts other = None
 
-abbrev pub quoted : List ℕ → Option (List (List ℕ) × List ℕ)
+unfoldable pub quoted : List ℕ → Option (List (List ℕ) × List ℕ)
 quoted line = quoted_parts (parts_of 34 line)
 
 abbrev pub kind_words : List (List ℕ × SectionKind)
-kind_words =
-    (codes "accepts", kind.Accepts) ∷ (codes "dials", kind.Dials) ∷ (codes "both", kind.Both) ∷ (codes "mapper", kind.Mapper)
-    ∷ (codes "registers", kind.Registers) ∷ []
+kind_words = (codes "node", kind.Node) ∷ (codes "mapper", kind.Mapper) ∷ []
 
 -- a section of this number and kind
 unfoldable pub section_of : List ℕ → List ℕ → List ℕ → Option Section
@@ -49,87 +45,37 @@ section_of_words (word ∷ number ∷ which ∷ []) title = if same_name word (c
 section_of_words other title = None
 
 -- a section without its rows: `section NUMBER KIND "TITLE"`
-abbrev pub section_in : List ℕ → Option Section
+unfoldable pub section_in : List ℕ → Option Section
 section_in line = quoted line >>= (λ q. section_of_words q.0 q.1)
 
 abbrev pub level_words : List (List ℕ × Level)
 level_words = (codes "must", level.Must) ∷ (codes "should", level.Should) ∷ (codes "otp", level.Otp) ∷ (codes "may", level.May) ∷ []
 
--- nothing stands behind a mark
-abbrev pub is_bare : List ℕ → Option Bool
-is_bare [] = Some true
-is_bare (c ∷ cs) = None
-
--- whether the next word is this mark
-abbrev pub mark_in : List ℕ → List (List ℕ) → Read Bool
-mark_in key words = field key is_bare false words
-
--- how a row is played: four marks, in this order, each of which may be left out
-abbrev pub marks_in : List (List ℕ) → Read Marks
+-- how a row is played: three marks, in this order, each of which may be left out
+unfoldable pub marks_in : List (List ℕ) → Read Marks
 marks_in words =
     field (codes "slow=") (number_in 4294967295) 5000 words >>= (λ limit.
     mark_in (codes "harsh") limit.1 >>= (λ harsh.
     mark_in (codes "alone") harsh.1 >>= (λ alone.
-    field (codes "since=") (number_in 4294967295) 0 alone.1 >>= (λ since.
-    Some (record { limit = limit.0; harsh = harsh.0; alone = alone.0; since = since.0 }, since.1)))))
+    give (record { limit = limit.0; harsh = harsh.0; alone = alone.0 }) alone.1)))
 
 -- the same, and no word more
 unfoldable pub all_marks : List (List ℕ) → Option Marks
 all_marks words = whole (marks_in words)
 
--- what the head of a row says
-pub record Head : Type 0 where
-  pub id : List ℕ
-  pub level : Level
-  pub source : List ℕ
-  pub marks : Marks
-  pub title : List ℕ
+-- a row of this level, and with these marks, without its talks
+unfoldable pub row_of : List ℕ → List ℕ → List ℕ → List ℕ → List (List ℕ) → Option SuiteRow
+row_of id which source title marks =
+    meaning_in level_words which >>= (λ l.
+    option_map (λ m. record { id = id; level = l; source = source; title = title; marks = m; talks = [] }) (all_marks marks))
 
-abbrev pub head_said : RowHead → Head
-head_said h = record { id = h.id.now; level = h.level; source = h.source.now; marks = h.marks; title = h.title.now }
+abbrev pub row_of_words : List (List ℕ) → List ℕ → Option SuiteRow
+row_of_words (word ∷ id ∷ which ∷ source ∷ marks) title = if same_name word (codes "row") then row_of id which source title marks else None
+row_of_words other title = None
 
--- the head of a row of this level, and with these marks
-unfoldable pub head_of : List ℕ → List ℕ → List ℕ → List ℕ → List (List ℕ) → Option Head
-head_of id source title which marks =
-    meaning_in level_words which >>= (λ l. option_map (λ m. record { id = id; level = l; source = source; marks = m; title = title }) (all_marks marks))
-
-abbrev pub head_of_words : List (List ℕ) → List ℕ → Option Head
-head_of_words (word ∷ id ∷ which ∷ source ∷ marks) title = if same_name word (codes "row") then head_of id source title which marks else None
-head_of_words other title = None
-
--- the head of a row: `row ID LEVEL SOURCE MARKS "TITLE"`
-abbrev pub head_in : List ℕ → Option Head
-head_in line = quoted line >>= (λ q. head_of_words q.0 q.1)
-
--- ---- families
-
--- what the first line says, which is then taken; what is usual where it says nothing
-abbrev pub took : {T : Type 0} → T → List ℕ → List (List ℕ) → Option T → T × List (List ℕ)
-took usual line lines None = (usual, line ∷ lines)
-took usual line lines (Some x) = (x, lines)
-
-abbrev pub taken : {T : Type 0} → (List ℕ → Option T) → T → List (List ℕ) → T × List (List ℕ)
-taken says usual [] = (usual, [])
-taken says usual (line ∷ lines) = took usual line lines (says line)
-
-abbrev pub family_of_words : List (List ℕ) → Option (List ℕ × List (List ℕ))
-family_of_words (each ∷ variable ∷ between ∷ values) =
-    if same_name each (codes "each") && same_name between (codes "in") then Some (variable, values) else None
-family_of_words other = None
-
--- a family: `each VAR in VALUE..`
-abbrev pub family_in : List ℕ → Option (List ℕ × List (List ℕ))
-family_in line = family_of_words (words_of line)
-
-abbrev pub family_said : Family → List ℕ × List (List ℕ)
-family_said f = (f.variable.now, map (λ value. value.now) f.values.items)
-
--- none: a single value, for a word that no text has
-abbrev pub no_family : List ℕ × List (List ℕ)
-no_family = (codes "$", [] ∷ [])
-
-abbrev pub is_family : List ℕ → Bool
-is_family variable = not (same_name variable (codes "$"))
+-- a row without its talks: `row ID LEVEL SOURCE MARKS "TITLE"`
+unfoldable pub head_in : List ℕ → Option SuiteRow
+head_in line = quoted line >>= (λ q. row_of_words q.0 q.1)
 
 -- ---- talks
 
@@ -145,12 +91,11 @@ row_said r = record { names = r.names; id = r.id.now; variable = r.variable.now;
 
 -- the short name of the talk in this place
 abbrev pub short_name : RowSaid → ℕ → List ℕ
-short_name r place =
-    codes "0c" ++ map (λ c. if c == 46 then 45 else c) r.id ++ (if is_family r.variable then 0x78 ∷ decimal place else []) ++ r.names.tag.now
+short_name r place = codes "0c" ++ map (λ c. if c == 46 then 45 else c) r.id ++ (0x78 ∷ decimal place) ++ r.names.tag.now
 
 -- the id of the talk with this value
 abbrev pub talk_id : RowSaid → List ℕ → List ℕ
-talk_id r value = r.id ++ (if is_family r.variable then 47 ∷ value else [])
+talk_id r value = r.id ++ (if length value == 0 then [] else 47 ∷ value)
 
 -- what the `$` words stand for in it
 abbrev pub talk_terms : RowSaid → ℕ → List ℕ → Terms
@@ -170,8 +115,7 @@ map_good f (Err n) = Err n
 
 -- A TALK: all its steps
 unfoldable pub talk_in : RowSaid → ℕ → List ℕ → Result RowTalk ℕ
-talk_in r place value = map_good (λ steps. record { id = talk_id r value; short = short_name r place; steps = steps })
-    (all_in (map (step_in (talk_terms r place value)) r.steps))
+talk_in r place value = map_good (λ steps. record { id = talk_id r value; steps = steps }) (all_in (map (step_in (talk_terms r place value)) r.steps))
 
 -- what comes behind something good
 abbrev pub behind_good : {A B : Type 0} → Result A ℕ → (A → Result B ℕ) → Result B ℕ
@@ -183,32 +127,47 @@ abbrev pub talks_behind : RowSaid → List RowTalk → List (List ℕ) → Resul
 talks_behind r talks [] = Ok talks
 talks_behind r talks (value ∷ values) = behind_good (talk_in r (length talks) value) (λ talk. talks_behind r (talks ++ talk ∷ []) values)
 
--- ---- rows
+-- the only talk of a row that is no family
+abbrev pub talk_alone : RowSaid → Result (List RowTalk) ℕ
+talk_alone r = talks_behind r [] ([] ∷ [])
+
+-- the talks of a row whose first line has these words, behind which these lines stand: a family's where they are `each VAR in VALUE..`
+abbrev pub talks_by : RowSaid → List (List ℕ) → List (List ℕ) → Result (List RowTalk) ℕ
+talks_by r lines (each ∷ variable ∷ between ∷ values) =
+    if same_name each (codes "each") && same_name between (codes "in") then talks_behind (record r { variable = variable; steps = lines }) [] values
+    else talk_alone r
+talks_by r lines other = talk_alone r
+
+-- what the talks of a row share that is no family: its word is one that no text has
+abbrev pub row_alone : SuiteNames → List ℕ → List (List ℕ) → RowSaid
+row_alone names id lines = record { names = names; id = id; variable = codes "$"; steps = lines }
 
 -- the talks of a row
-abbrev pub body_in : SuiteNames → List ℕ → List (List ℕ) → Result (List RowTalk) ℕ
-body_in names id lines =
-    let family = taken family_in no_family lines in
-    talks_behind (record { names = names; id = id; variable = family.0.0; steps = family.1 }) [] family.0.1
+unfoldable pub body_in : SuiteNames → List ℕ → List (List ℕ) → Result (List RowTalk) ℕ
+body_in names id [] = talk_alone (row_alone names id [])
+body_in names id (line ∷ lines) = talks_by (row_alone names id (line ∷ lines)) lines (words_of line)
+
+-- ---- rows
 
 abbrev pub is_indented : List ℕ → Bool
 is_indented line = begins_with (codes "  ") line
 
--- the lines in front that are indented
-abbrev pub indented : List (List ℕ) → List (List ℕ)
-indented [] = []
-indented (line ∷ lines) = if is_indented line then line ∷ indented lines else []
+-- the lines behind those in front that begin so
+abbrev pub behind_front : List ℕ → List (List ℕ) → List (List ℕ)
+behind_front key [] = []
+behind_front key (line ∷ lines) = if begins_with key line then behind_front key lines else line ∷ lines
 
--- a row of this head and these talks, or the bad line, which so many lines follow; the last line of the row has this number
-abbrev pub row_of_body : Head → ℕ → Result (List RowTalk) ℕ → Result SuiteRow RowError
-row_of_body h last (Ok talks) = Ok (record { id = h.id; level = h.level; source = h.source; title = h.title; marks = h.marks; talks = talks })
-row_of_body h last (Err n) = Err (error.BadStep (last - n))
+-- a row with these talks, or the bad line, which so many lines follow; the last line of the row has this number
+abbrev pub with_talks : SuiteRow → ℕ → Result (List RowTalk) ℕ → Result SuiteRow RowError
+with_talks row last (Ok talks) = Ok (record row { talks = talks })
+with_talks row last (Err n) = Err (error.BadStep (last - n))
 
--- the row of this head, of so many lines
-abbrev pub row_of_head : SuiteNames → ℕ → List (List ℕ) → Option Head → Result SuiteRow RowError
+-- the row of this head, of so many lines, with these behind it
+abbrev pub row_of_head : SuiteNames → ℕ → List (List ℕ) → Option SuiteRow → Result SuiteRow RowError
 row_of_head names total behind None = Err (error.BadRow (total - length behind))
-row_of_head names total behind (Some h) =
-    let body = indented behind in row_of_body h (total - (length behind - length body)) (body_in names h.id body)
+row_of_head names total behind (Some row) =
+    let rest = length (behind_front (codes "  ") behind) in
+    with_talks row (total - rest) (body_in names row.id (take (length behind - rest) behind))
 
 -- A ROW: its head, and the indented lines behind it
 unfoldable pub row_in : SuiteNames → ℕ → List ℕ → List (List ℕ) → Result SuiteRow RowError
@@ -232,11 +191,6 @@ rows_behind names total rows (line ∷ lines) =
 
 -- ---- the section
 
--- the lines behind the comments in front
-abbrev pub behind_comments : List (List ℕ) → List (List ℕ)
-behind_comments [] = []
-behind_comments (line ∷ lines) = if begins_with (codes "#") line then behind_comments lines else line ∷ lines
-
 abbrev pub with_rows : Section → Result (List SuiteRow) RowError → Result Section RowError
 with_rows s (Ok rows) = Ok (record s { rows = rows })
 with_rows s (Err e) = Err e
@@ -254,7 +208,7 @@ abbrev pub without_line_feed : List ℕ → List ℕ
 without_line_feed text = if pointwise ◌==◌ (drop (length text - 1) text) (10 ∷ []) then take (length text - 1) text else text
 
 abbrev pub section_said : SuiteNames → List (List ℕ) → Result Section RowError
-section_said names lines = section_of_lines names (length lines) (behind_comments lines)
+section_said names lines = section_of_lines names (length lines) (behind_front (codes "#") lines)
 
 -- THE SECTION OF A TEXT, or its first bad line
 abbrev pub section_of_text : SuiteNames → List ℕ → Result Section RowError

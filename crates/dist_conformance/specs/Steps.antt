@@ -1,58 +1,62 @@
 -- The steps of a talk, as a row writes them.
 use Rattle.std.specs.Prelude.{ℕ, if◌then◌else◌, List, [], ◌∷◌, length, drop, codes, map, Option, Some, None, option_map, unwrap_or}
+use Rattle.dist_epmd.specs.declared.message.NodeInfo.{NodeInfo}
 use Rattle.dist_conformance.specs.declared.steps.Action.{Action}
 use Rattle.dist_conformance.specs.declared.steps.Action.TheVariants as action
 use Rattle.dist_conformance.specs.declared.steps.TalkStep.{TalkStep}
 use Rattle.dist_conformance.specs.declared.steps.Saying.{Saying}
 use Rattle.dist_conformance.specs.declared.steps.SaidPart.{SaidPart}
 use Rattle.dist_conformance.specs.declared.actions.ActionWord.{ActionWord}
-use Rattle.dist_conformance.specs.declared.actions.ActionWord.TheVariants as kind
-use Rattle.dist_conformance.specs.declared.actions.SayingTerms.{SayingTerms}
+use Rattle.dist_conformance.specs.declared.actions.ActionWord.TheVariants as word
 use Rattle.dist_conformance.specs.Texts.{parts_of, words_of}
 use Rattle.dist_conformance.specs.Terms.{Terms, expanded}
 use Rattle.dist_conformance.specs.Lists.{all_in, good}
-use Rattle.dist_conformance.specs.Words.{◌>>=◌, Read, field, whole, meaning_in, begins_with}
+use Rattle.dist_conformance.specs.Words.{◌>>=◌, Read, give, field, whole, begins_with}
 use Rattle.dist_conformance.specs.Fields.{number_in, optional_number}
 use Rattle.dist_conformance.specs.Messages.{info, part_in}
 use Rattle.dist_conformance.specs.Patterns.{demand_in}
 
 -- ---- say
 
--- how a saying is written
-abbrev pub saying_terms : List (List ℕ) → Read SayingTerms
-saying_terms words =
+-- how a saying is written, with no messages
+unfoldable pub way_fields : List (List ℕ) → Read Saying
+way_fields words =
     optional_number (codes "cut=") words >>= (λ cut.
     field (codes "pieces=") (number_in 4294967295) 0 cut.1 >>= (λ pieces.
     field (codes "pause=") (number_in 4294967295) 0 pieces.1 >>= (λ pause.
-    Some (record { cut = cut.0; pieces = pieces.0; pause = pause.0 }, pause.1))))
+    give (record { parts = []; cut = cut.0; pieces = pieces.0; pause = pause.0 }) pause.1)))
+
+-- the same, and no word more
+unfoldable pub way_of : List ℕ → Option Saying
+way_of text = whole (way_fields (words_of text))
 
 -- the messages, with plus signs between them
-abbrev pub parts_said : Terms → List ℕ → Option (List SaidPart)
-parts_said t text = good (all_in (map (part_in t) (parts_of 43 text)))
+unfoldable pub messages_in : Terms → List ℕ → Option (List SaidPart)
+messages_in t text = good (all_in (map (part_in t) (parts_of 43 text)))
 
--- these messages, written so
-abbrev pub saying_of : Terms → List ℕ → SayingTerms → Option Saying
-saying_of t text how = option_map (λ parts. record { parts = parts; cut = how.cut; pieces = how.pieces; pause = how.pause }) (parts_said t text)
+-- messages, written so
+unfoldable pub with_way : Terms → List ℕ → List ℕ → Option Saying
+with_way t text way = way_of way >>= (λ s. option_map (λ parts. record s { parts = parts }) (messages_in t text))
 
--- messages, and how they are written where a comma stands before it
+-- messages, and how they are written where a comma stands before that
 abbrev pub saying_of_parts : Terms → List (List ℕ) → Option Saying
-saying_of_parts t (text ∷ []) = saying_of t text (record { cut = None; pieces = 0; pause = 0 })
-saying_of_parts t (text ∷ how ∷ []) = whole (saying_terms (words_of how)) >>= (λ terms. saying_of t text terms)
+saying_of_parts t (text ∷ []) = with_way t text []
+saying_of_parts t (text ∷ way ∷ []) = with_way t text way
 saying_of_parts t other = None
 
-abbrev pub saying_in : Terms → List ℕ → Option Saying
+unfoldable pub saying_in : Terms → List ℕ → Option Saying
 saying_in t text = saying_of_parts t (parts_of 44 text)
 
 -- ---- actions
 
 abbrev pub action_words : List (List ℕ × ActionWord)
 action_words =
-    (codes "dial", kind.Dial) ∷ (codes "ask", kind.Ask) ∷ (codes "call", kind.Call) ∷ (codes "half", kind.Half) ∷ (codes "close", kind.Close)
-    ∷ (codes "reset", kind.Reset) ∷ (codes "wait ", kind.Wait) ∷ (codes "say ", kind.Say) ∷ (codes "hear ", kind.Hear)
-    ∷ (codes "want ", kind.Want) ∷ (codes "tell ", kind.Tell) ∷ []
+    (codes "dial", word.Dial) ∷ (codes "ask", word.Ask) ∷ (codes "call", word.Call) ∷ (codes "half", word.Half) ∷ (codes "close", word.Close)
+    ∷ (codes "reset", word.Reset) ∷ (codes "wait ", word.Wait) ∷ (codes "say ", word.Say) ∷ (codes "hear ", word.Hear)
+    ∷ (codes "want ", word.Want) ∷ (codes "tell ", word.Tell) ∷ []
 
 -- the first row of a table with whose word a text begins, and what stands behind that
-abbrev pub keyed_in : {K : Type 0} → List (List ℕ × K) → List ℕ → Option (K × List ℕ)
+unfoldable pub keyed_in : {K : Type 0} → List (List ℕ × K) → List ℕ → Option (K × List ℕ)
 keyed_in [] text = None
 keyed_in (row ∷ rows) text = if begins_with row.0 text then Some (row.1, drop (length row.0) text) else keyed_in rows text
 
@@ -61,19 +65,23 @@ abbrev pub if_none : List ℕ → Action → Option Action
 if_none [] a = Some a
 if_none (c ∷ cs) a = None
 
+-- what is registered for a call
+unfoldable pub call_in : Terms → List ℕ → Option NodeInfo
+call_in t text = whole (info t (words_of text))
+
 -- what stands behind the word of an action
 abbrev pub behind_word : Terms → ActionWord → List ℕ → Option Action
-behind_word t kind.Dial text = if_none text action.Dial
-behind_word t kind.Ask text = if_none text action.Ask
-behind_word t kind.Call text = option_map (λ i. action.Call i) (whole (info t (words_of text)))
-behind_word t kind.Half text = if_none text action.Half
-behind_word t kind.Close text = if_none text action.Close
-behind_word t kind.Reset text = if_none text action.Reset
-behind_word t kind.Wait text = option_map (λ n. action.Wait n) (number_in 4294967295 text)
-behind_word t kind.Say text = option_map (λ s. action.Say s) (saying_in t text)
-behind_word t kind.Hear text = option_map (λ d. action.Hear d) (demand_in t text)
-behind_word t kind.Want text = option_map (λ d. action.Want d) (demand_in t text)
-behind_word t kind.Tell text = option_map (λ n. action.Tell n) (number_in 4294967295 text)
+behind_word t word.Dial text = if_none text action.Dial
+behind_word t word.Ask text = if_none text action.Ask
+behind_word t word.Call text = option_map (λ i. action.Call i) (call_in t text)
+behind_word t word.Half text = if_none text action.Half
+behind_word t word.Close text = if_none text action.Close
+behind_word t word.Reset text = if_none text action.Reset
+behind_word t word.Wait text = option_map (λ n. action.Wait n) (number_in 4294967295 text)
+behind_word t word.Say text = option_map (λ s. action.Say s) (saying_in t text)
+behind_word t word.Hear text = option_map (λ d. action.Hear d) (demand_in t text)
+behind_word t word.Want text = option_map (λ d. action.Want d) (demand_in t text)
+behind_word t word.Tell text = option_map (λ n. action.Tell n) (number_in 4294967295 text)
 
 unfoldable pub action_in : Terms → List ℕ → Option Action
 action_in t text = keyed_in action_words text >>= (λ k. behind_word t k.0 k.1)
@@ -92,5 +100,5 @@ abbrev pub step_of : Terms → List ℕ → Option TalkStep
 step_of t text = let conn = conn_in text in option_map (λ a. record { conn = conn.0; text = text; action = a }) (action_in t conn.1)
 
 -- A STEP: a line that two spaces begin
-abbrev pub step_in : Terms → List ℕ → Option TalkStep
+unfoldable pub step_in : Terms → List ℕ → Option TalkStep
 step_in t line = expanded t (drop 2 line) >>= (λ text. step_of t text)

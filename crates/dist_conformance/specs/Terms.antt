@@ -35,16 +35,16 @@ abbrev pub own_name : Terms → List ℕ
 own_name t = t.short ++ (64 ∷ t.host)
 
 -- each word, and what it stands for
-abbrev pub table_of : Terms → List (List ℕ × List ℕ)
+unfoldable pub table_of : Terms → List (List ℕ × List ℕ)
 table_of t = (codes "short", t.short) ∷ (codes "host", t.host) ∷ (codes "node", t.node) ∷ (codes "mapper", t.mapper) ∷ (t.variable, t.value) ∷ []
 
 -- a text that begins with a word of the table: what the word stands for, and what stands behind it
-abbrev pub filled : List (List ℕ × List ℕ) → List ℕ → Option (List ℕ)
+unfoldable pub filled : List (List ℕ × List ℕ) → List ℕ → Option (List ℕ)
 filled [] text = None
 filled (row ∷ rows) text = if begins_with row.0 text then Some (row.1 ++ drop (length row.0) text) else filled rows text
 
 -- this text, and then each of these, filled
-abbrev pub filled_behind : List (List ℕ × List ℕ) → List ℕ → List (List ℕ) → Option (List ℕ)
+unfoldable pub filled_behind : List (List ℕ × List ℕ) → List ℕ → List (List ℕ) → Option (List ℕ)
 filled_behind table front [] = Some front
 filled_behind table front (part ∷ parts) = filled table part >>= (λ more. filled_behind table (front ++ more) parts)
 
@@ -54,5 +54,5 @@ expanded_parts table [] = Some []
 expanded_parts table (part ∷ parts) = filled_behind table part parts
 
 -- A TEXT FOR ONE TALK: each word behind a `$` replaced by what it stands for; nothing where one stands for nothing
-abbrev pub expanded : Terms → List ℕ → Option (List ℕ)
+unfoldable pub expanded : Terms → List ℕ → Option (List ℕ)
 expanded t text = expanded_parts (table_of t) (parts_of 36 text)

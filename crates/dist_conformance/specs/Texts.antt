@@ -26,7 +26,7 @@ abbrev pub has_bytes : List ℕ → Bool
 has_bytes text = not (length text == 0)
 
 -- the words of a line: what stands between its spaces, where that has some bytes
-abbrev pub words_of : List ℕ → List (List ℕ)
+unfoldable pub words_of : List ℕ → List (List ℕ)
 words_of line = filter has_bytes (parts_of 32 line)
 
 -- the lines of a text: what stands between its line feeds

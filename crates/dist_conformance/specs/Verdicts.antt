@@ -6,6 +6,13 @@ use Rattle.dist_conformance.specs.declared.verdicts.TalkVerdict.{TalkVerdict}
 use Rattle.dist_conformance.specs.declared.verdicts.TalkVerdict.TheVariants as verdict
 use Rattle.dist_conformance.specs.declared.verdicts.RowResult.{RowResult}
 
+-- the word of a level in rows
+abbrev pub level_word : Level → List ℕ
+level_word level.Must = codes "must"
+level_word level.Should = codes "should"
+level_word level.Otp = codes "otp"
+level_word level.May = codes "may"
+
 -- the word of a verdict in reports
 abbrev pub verdict_word : TalkVerdict → List ℕ
 verdict_word verdict.Skipped = codes "skipped"

@@ -1,19 +1,18 @@
 //! The steps of a talk, as a row writes them.
 
-ghost use Rattle.std.specs.Prelude.{◌≡◌, map, option_map, drop, IfOk};
+ghost use Rattle.std.specs.Prelude.{◌≡◌, map, option_map};
 ghost use Rattle.dist_conformance.specs.Terms.{terms_of};
-ghost use Rattle.dist_conformance.specs.Messages.{info};
-ghost use Rattle.dist_conformance.specs.Texts.{words_of};
-ghost use Rattle.dist_conformance.specs.Words.{Reads, whole};
-ghost use Rattle.dist_conformance.specs.Steps.{saying_terms, saying_of, saying_in, keyed_in};
-ghost use Rattle.dist_conformance.specs.Steps.{if_none, behind_word, action_in, conn_in, step_of, step_in};
+ghost use Rattle.dist_conformance.specs.Words.{Reads, ReadsUpTo};
+ghost use Rattle.dist_conformance.specs.Steps.{way_fields, way_of, messages_in, with_way, saying_in};
+ghost use Rattle.dist_conformance.specs.Steps.{keyed_in, action_words, if_none, call_in, behind_word, action_in, conn_in, step_in};
 
+use crate::demands::demand_of;
 use crate::faults::ReadFault;
 use crate::fields::{number_field, number_of, optional_number};
 use crate::from_text::{FromText, all_of};
 use crate::lists::SuiteList;
 use crate::messages::info_of;
-use crate::steps::{Action, Demand, Saying, TalkStep};
+use crate::steps::{Action, SaidPart, Saying, TalkStep};
 use crate::terms::{TalkTerms, expand};
 use crate::texts::{split, words_of};
 use crate::words::LineWords;
@@ -21,65 +20,71 @@ use dist_epmd::NodeInfo;
 use dist_names::ByteString;
 use std::alloc::Global;
 
-// How a saying is written.
-#[derive(Clone, Copy)]
-struct SayingTerms {
-    cut: Option<u32>,
-    pieces: u32,
-    pause: u32,
-}
-
-fn saying_terms(alloc: Global, text: &[u8]) -> Result<SayingTerms, ReadFault>
-    ensures { Reads result (whole (saying_terms (words_of text.now))) }
+// How a saying is written, with no messages.
+#[tactic(auto, unfolding(crate::specs::Steps::way_fields))]
+fn way_fields(alloc: Global, words: &mut LineWords<'_>) -> Result<Saying, ReadFault>
+    ensures { ReadsUpTo result words.new (way_fields words.old) }
 {
-    let words = words_of(alloc, text)?;
-    let mut words = LineWords::new(&words);
-    let cut = optional_number(&mut words, b"cut=")?;
-    let pieces = number_field(&mut words, b"pieces=", 0, u32::MAX)?;
-    let pause = number_field(&mut words, b"pause=", 0, u32::MAX)?;
-    if !words.is_done() {
-        return Err(ReadFault::Bad);
-    }
-    Ok(SayingTerms { cut, pieces, pause })
-}
-
-// These messages, written so.
-fn saying_of(
-    alloc: Global,
-    terms: &TalkTerms<'_>,
-    text: &[u8],
-    how: SayingTerms,
-) -> Result<Saying, ReadFault>
-    ensures { Reads result (saying_of (terms_of terms.now) text.now how) }
-{
-    let parts = split(alloc, text, b'+')?;
+    let cut = optional_number(words, b"cut=")?;
+    let pieces = number_field(words, b"pieces=", 0, u32::MAX)?;
+    let pause = number_field(words, b"pause=", 0, u32::MAX)?;
     Ok(Saying {
-        parts: SuiteList::from_vec(all_of(alloc, terms, &parts)?),
-        cut: how.cut,
-        pieces: how.pieces,
-        pause: how.pause,
+        parts: SuiteList::from_vec(Vec::new(alloc)),
+        cut,
+        pieces,
+        pause,
     })
 }
 
-/// Messages, and how they are written where a comma stands before that.
-impl FromText for Saying {
-    ghost says = { saying_in };
+// The same, and no word more.
+#[tactic(auto, unfolding(crate::specs::Steps::way_of))]
+fn way_of(alloc: Global, text: &[u8]) -> Result<Saying, ReadFault>
+    ensures { Reads result (way_of text.now) }
+{
+    let words = words_of(alloc, text)?;
+    let mut words = LineWords::new(&words);
+    let saying = way_fields(alloc, &mut words)?;
+    words.whole(saying)
+}
 
-    fn from_text(alloc: Global, terms: &TalkTerms<'_>, text: &[u8]) -> Result<Saying, ReadFault> {
-        let at_once = SayingTerms {
-            cut: None,
-            pieces: 0,
-            pause: 0,
-        };
-        let parts = split(alloc, text, b',')?;
-        match parts.as_slice() {
-            [messages] => saying_of(alloc, terms, *messages, at_once),
-            [messages, how] => {
-                let how = saying_terms(alloc, *how)?;
-                saying_of(alloc, terms, *messages, how)
-            }
-            _ => Err(ReadFault::Bad),
-        }
+// The messages, with plus signs between them.
+#[tactic(auto, unfolding(crate::specs::Steps::messages_in))]
+fn messages_in(
+    alloc: Global,
+    terms: &TalkTerms<'_>,
+    text: &[u8],
+) -> Result<SuiteList<SaidPart>, ReadFault>
+    ensures { Reads result (messages_in (terms_of terms.now) text.now) }
+{
+    let parts = split(alloc, text, b'+')?;
+    Ok(SuiteList::from_vec(all_of(alloc, terms, &parts)?))
+}
+
+// Messages, written so.
+#[tactic(auto, unfolding(crate::specs::Steps::with_way))]
+fn with_way(
+    alloc: Global,
+    terms: &TalkTerms<'_>,
+    text: &[u8],
+    way: &[u8],
+) -> Result<Saying, ReadFault>
+    ensures { Reads result (with_way (terms_of terms.now) text.now way.now) }
+{
+    let mut saying = way_of(alloc, way)?;
+    saying.parts = messages_in(alloc, terms, text)?;
+    Ok(saying)
+}
+
+// Messages, and how they are written where a comma stands before that.
+#[tactic(auto, unfolding(crate::specs::Steps::saying_in))]
+fn saying_in(alloc: Global, terms: &TalkTerms<'_>, text: &[u8]) -> Result<Saying, ReadFault>
+    ensures { Reads result (saying_in (terms_of terms.now) text.now) }
+{
+    let parts = split(alloc, text, b',')?;
+    match parts.as_slice() {
+        [messages] => with_way(alloc, terms, *messages, &[]),
+        [messages, way] => with_way(alloc, terms, *messages, *way),
+        _ => Err(ReadFault::Bad),
     }
 }
 
@@ -118,6 +123,7 @@ const ACTIONS: [(&str, ActionWord); 11] = [
 const CONNECTIONS: [(&str, u8); 4] = [("b: ", 1), ("c: ", 2), ("d: ", 3), ("e: ", 4)];
 
 // The first row of a table with whose word a text begins, and what stands behind that.
+#[tactic(auto, unfolding(crate::specs::Steps::keyed_in))]
 fn first_key<'t, K: Copy>(table: &[(&'static str, K)], text: &'t [u8]) -> Option<(K, &'t [u8])>
     ensures { option_map (λ found. (found.0, found.1.now)) result ≡ keyed_in (map (λ row. (row.0.now, row.1)) table.now) text.now }
 {
@@ -127,6 +133,13 @@ fn first_key<'t, K: Copy>(table: &[(&'static str, K)], text: &'t [u8]) -> Option
         }
     }
     None
+}
+
+// The word with which an action begins, and what stands behind that.
+fn action_word(text: &[u8]) -> Option<(ActionWord, &[u8])>
+    ensures { option_map (λ found. (found.0, found.1.now)) result ≡ keyed_in action_words text.now }
+{
+    first_key(&ACTIONS, text)
 }
 
 // This action, where nothing is left.
@@ -141,17 +154,14 @@ fn if_none(text: &[u8], action: Action) -> Result<Action, ReadFault>
 }
 
 // What is registered for a call.
-fn call_of(alloc: Global, terms: &TalkTerms<'_>, text: &[u8]) -> Result<NodeInfo, ReadFault>
-    ensures { Reads result (whole (info (terms_of terms.now) (words_of text.now))) }
+#[tactic(auto, unfolding(crate::specs::Steps::call_in))]
+fn call_in(alloc: Global, terms: &TalkTerms<'_>, text: &[u8]) -> Result<NodeInfo, ReadFault>
+    ensures { Reads result (call_in (terms_of terms.now) text.now) }
 {
     let words = words_of(alloc, text)?;
     let mut words = LineWords::new(&words);
     let info = info_of(alloc, terms, &mut words)?;
-    if words.is_done() {
-        Ok(info)
-    } else {
-        Err(ReadFault::Bad)
-    }
+    words.whole(info)
 }
 
 // What stands behind the word of an action.
@@ -166,14 +176,14 @@ fn action_behind(
     match word {
         ActionWord::Dial => if_none(text, Action::Dial),
         ActionWord::Ask => if_none(text, Action::Ask),
-        ActionWord::Call => Ok(Action::Call(call_of(alloc, terms, text)?)),
+        ActionWord::Call => Ok(Action::Call(call_in(alloc, terms, text)?)),
         ActionWord::Half => if_none(text, Action::Half),
         ActionWord::Close => if_none(text, Action::Close),
         ActionWord::Reset => if_none(text, Action::Reset),
         ActionWord::Wait => Ok(Action::Wait(number_of(text, u32::MAX)?)),
-        ActionWord::Say => Ok(Action::Say(Saying::from_text(alloc, terms, text)?)),
-        ActionWord::Hear => Ok(Action::Hear(Demand::from_text(alloc, terms, text)?)),
-        ActionWord::Want => Ok(Action::Want(Demand::from_text(alloc, terms, text)?)),
+        ActionWord::Say => Ok(Action::Say(saying_in(alloc, terms, text)?)),
+        ActionWord::Hear => Ok(Action::Hear(demand_of(alloc, terms, text)?)),
+        ActionWord::Want => Ok(Action::Want(demand_of(alloc, terms, text)?)),
         ActionWord::Tell => Ok(Action::Tell(number_of(text, u32::MAX)?)),
     }
 }
@@ -182,7 +192,7 @@ fn action_behind(
 fn action_of(alloc: Global, terms: &TalkTerms<'_>, text: &[u8]) -> Result<Action, ReadFault>
     ensures { Reads result (action_in (terms_of terms.now) text.now) }
 {
-    match first_key(&ACTIONS, text) {
+    match action_word(text) {
         Some((word, rest)) => action_behind(alloc, terms, word, rest),
         None => Err(ReadFault::Bad),
     }
@@ -200,6 +210,7 @@ fn conn_in(text: &[u8]) -> (u8, &[u8])
 impl FromText for TalkStep {
     ghost says = { step_in };
 
+    #[tactic(auto, unfolding(crate::specs::Steps::step_in))]
     fn from_text(alloc: Global, terms: &TalkTerms<'_>, text: &[u8]) -> Result<TalkStep, ReadFault> {
         let text = expand(alloc, terms, text.get(2..).unwrap_or(&[]))?;
         let (conn, rest) = conn_in(&text);

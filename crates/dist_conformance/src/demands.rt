@@ -1,26 +1,25 @@
 //! What a row demands, as it writes it.
 
-ghost use Rattle.std.specs.Prelude.{◌≡◌, ◌++◌, IfOk};
+ghost use Rattle.std.specs.Prelude.{◌≡◌, IfOk};
 ghost use Rattle.dist_conformance.specs.Terms.{terms_of};
 ghost use Rattle.dist_conformance.specs.Words.{Reads, ReadsUpTo};
-ghost use Rattle.dist_conformance.specs.Patterns.{check_of, check_behind, check_in, challenge_check, names_line, with_port, names_check, is_good};
-ghost use Rattle.dist_conformance.specs.Patterns.{registered, looked_up, status_frame, behind_kind, pattern_in, sequence_in, alternatives_in, demand_in};
+ghost use Rattle.dist_conformance.specs.Patterns.{mark_check, field_check, names_line, names_check, looked_up, status_frame, behind_word};
+ghost use Rattle.dist_conformance.specs.Patterns.{pattern_in, sequence_in, alternatives_in, demand_in};
 
 use crate::faults::ReadFault;
 use crate::fields::{
-    bytes_field, challenge_field, flag_of, meaning_of, meaning_word, number_of, number_word,
-    range_field, range_of,
+    bytes_field, challenge_field, flag_of, mark, meaning_word, number_field, number_of,
 };
 use crate::from_text::{FromText, all_of};
 use crate::lists::SuiteList;
 use crate::messages::{info_of, status_said};
-use crate::patterns::{ChallengeCheck, NamesCheck, Pattern};
+use crate::patterns::{Announcement, FieldCheck, NamesCheck, Pattern};
 use crate::steps::Demand;
 use crate::terms::TalkTerms;
 use crate::texts::{split, words_of};
 use crate::words::LineWords;
 use dist_epmd::{Answer, EpmdError, encode_answer};
-use dist_names::{ByteString, is_same_text};
+use dist_names::ByteString;
 use std::alloc::{AllocError, Global};
 
 // The word of a pattern.
@@ -32,47 +31,38 @@ enum PatternWord {
     Bytes,
     Frame,
     Status,
-    Challenge,
-    Name,
+    Announcement(Announcement),
     Reply,
     Ack,
-    Alive2X,
-    Alive2Y,
+    // An answer to a registration: its first byte, and the bytes of its creation.
+    Answer(u8, usize),
     Port2,
     Names,
 }
 
-const PATTERNS: [(&str, PatternWord); 14] = [
+const PATTERNS: [(&str, PatternWord); 16] = [
     ("end", PatternWord::End),
     ("silence", PatternWord::Silence),
     ("open", PatternWord::Open),
     ("bytes", PatternWord::Bytes),
     ("frame", PatternWord::Frame),
     ("status", PatternWord::Status),
-    ("challenge", PatternWord::Challenge),
-    ("name", PatternWord::Name),
+    ("name", PatternWord::Announcement(Announcement::Name)),
+    ("oldname", PatternWord::Announcement(Announcement::OldName)),
+    (
+        "challenge",
+        PatternWord::Announcement(Announcement::Challenge),
+    ),
+    (
+        "complement",
+        PatternWord::Announcement(Announcement::Complement),
+    ),
     ("reply", PatternWord::Reply),
     ("ack", PatternWord::Ack),
-    ("alive2x", PatternWord::Alive2X),
-    ("alive2y", PatternWord::Alive2Y),
+    ("alive2x", PatternWord::Answer(0x76, 4)),
+    ("alive2y", PatternWord::Answer(0x79, 2)),
     ("port2", PatternWord::Port2),
     ("names", PatternWord::Names),
-];
-
-// The key of a field of a challenge or a name.
-#[derive(Clone, Copy)]
-enum CheckWord {
-    Name,
-    Challenge,
-    Creation,
-    Has,
-}
-
-const CHECKS: [(&str, CheckWord); 4] = [
-    ("name", CheckWord::Name),
-    ("challenge", CheckWord::Challenge),
-    ("creation", CheckWord::Creation),
-    ("has", CheckWord::Has),
 ];
 
 // Whether an answer is good.
@@ -83,46 +73,34 @@ const ANSWERS: [(&str, bool); 4] = [
     ("unknown", false),
 ];
 
-fn check_of(alloc: Global, key: CheckWord, value: &[u8]) -> Result<ChallengeCheck, ReadFault>
-    ensures { Reads result (check_of key value.now) }
+// No check, or one of two marks.
+#[tactic(auto, unfolding(crate::specs::Patterns::mark_check))]
+fn mark_check(words: &mut LineWords<'_>) -> Result<FieldCheck, ReadFault>
+    ensures { ReadsUpTo result words.new (mark_check words.old) }
 {
-    match key {
-        CheckWord::Name => Ok(ChallengeCheck::Name(ByteString::from_slice(alloc, value)?)),
-        CheckWord::Challenge if is_same_text(value, b"fresh") => Ok(ChallengeCheck::Fresh),
-        CheckWord::Challenge => Err(ReadFault::Bad),
-        CheckWord::Creation => Ok(ChallengeCheck::Creation(range_of(alloc, value)?)),
-        CheckWord::Has => Ok(ChallengeCheck::Has(flag_of(value)?)),
+    let is_fresh = mark(words, b"fresh")?;
+    let is_bare = mark(words, b"bare")?;
+    match (is_fresh, is_bare) {
+        (true, _) => Ok(FieldCheck::Fresh),
+        (false, true) => Ok(FieldCheck::Bare),
+        (false, false) => Ok(FieldCheck::Any),
     }
 }
 
-#[tactic(auto, unfolding(crate::specs::Patterns::check_behind))]
-fn check_behind(alloc: Global, key: &[u8], value: &[u8]) -> Result<ChallengeCheck, ReadFault>
-    ensures { Reads result (check_behind key.now value.now) }
+// What a name, a challenge or a complement has to be.
+#[tactic(auto, unfolding(crate::specs::Words::field_or, crate::specs::Patterns::field_check))]
+fn field_check(alloc: Global, words: &mut LineWords<'_>) -> Result<FieldCheck, ReadFault>
+    ensures { ReadsUpTo result words.new (field_check words.old) }
 {
-    match meaning_of(&CHECKS, key) {
-        Some(key) => check_of(alloc, key, value),
-        None => Err(ReadFault::Bad),
+    if let Some(name) = words.value(b"name=") {
+        return Ok(FieldCheck::Name(ByteString::from_slice(alloc, name)?));
     }
-}
-
-// What a challenge or a name has to be: a key and a value.
-fn check_in(alloc: Global, word: &[u8]) -> Result<ChallengeCheck, ReadFault>
-    ensures { Reads result (check_in word.now) }
-{
-    let parts = split(alloc, word, b'=')?;
-    match parts.as_slice() {
-        [key, value] => check_behind(alloc, *key, *value),
-        _ => Err(ReadFault::Bad),
+    if let Some(least) = words.value(b"creation>=") {
+        return Ok(FieldCheck::Creation(number_of(least, u32::MAX)?));
     }
-}
-
-// The same of the next word, where there is one.
-fn challenge_check(alloc: Global, words: &mut LineWords<'_>) -> Result<ChallengeCheck, ReadFault>
-    ensures { ReadsUpTo result words.new (challenge_check words.old) }
-{
-    match words.next() {
-        Some(word) => check_in(alloc, word),
-        None => Ok(ChallengeCheck::Any),
+    match words.value(b"has=") {
+        Some(flag) => Ok(FieldCheck::Has(flag_of(flag)?)),
+        None => mark_check(words),
     }
 }
 
@@ -138,6 +116,7 @@ fn names_line(alloc: Global, name: &[u8], port: &[u8]) -> Result<ByteString, All
 }
 
 // What the answer to a question for names has to be.
+#[tactic(auto, unfolding(crate::specs::Patterns::names_check))]
 fn names_check(alloc: Global, words: &mut LineWords<'_>) -> Result<NamesCheck, ReadFault>
     ensures { ReadsUpTo result words.new (names_check words.old) }
 {
@@ -171,7 +150,7 @@ fn lookup_answer(
     ensures { ReadsUpTo result words.new (looked_up (terms_of terms.now) is_known words.old) }
 {
     if !is_known {
-        return Ok(Pattern::Denied(0x77, 0));
+        return Ok(Pattern::Answer(0x77, false, 0));
     }
     let info = info_of(alloc, terms, words)?;
     match encode_answer(alloc, &Answer::Port(Ok(info))) {
@@ -181,45 +160,30 @@ fn lookup_answer(
     }
 }
 
-// The answer to a registration, in one of its two forms.
-fn registration_answer(
-    alloc: Global,
-    is_x: bool,
-    words: &mut LineWords<'_>,
-) -> Result<Pattern, ReadFault>
-    ensures { ReadsUpTo result words.new (registered is_x words.old) }
-{
-    let is_good = meaning_word(&ANSWERS, words)?;
-    match (is_x, is_good) {
-        (true, true) => Ok(Pattern::RegisteredX(range_field(alloc, words)?)),
-        (false, true) => Ok(Pattern::RegisteredY(range_field(alloc, words)?)),
-        (true, false) => Ok(Pattern::Denied(0x76, 4)),
-        (false, false) => Ok(Pattern::Denied(0x79, 2)),
-    }
-}
-
-// A pattern of this kind.
+// A pattern of this word.
 fn pattern_of(
     alloc: Global,
     terms: &TalkTerms<'_>,
     word: PatternWord,
     words: &mut LineWords<'_>,
 ) -> Result<Pattern, ReadFault>
-    ensures { ReadsUpTo result words.new (behind_kind (terms_of terms.now) word words.old) }
+    ensures { ReadsUpTo result words.new (behind_word (terms_of terms.now) word words.old) }
 {
     match word {
         PatternWord::End => Ok(Pattern::End),
-        PatternWord::Silence => Ok(Pattern::Silence(number_word(words)?)),
-        PatternWord::Open => Ok(Pattern::Open(number_word(words)?)),
+        PatternWord::Silence => Ok(Pattern::Silence(number_field(words, b"", 0, u32::MAX)?)),
+        PatternWord::Open => Ok(Pattern::Open(number_field(words, b"", 0, u32::MAX)?)),
         PatternWord::Bytes => Ok(Pattern::Bytes(bytes_field(alloc, words, b"")?)),
         PatternWord::Frame => Ok(Pattern::Frame(bytes_field(alloc, words, b"")?)),
         PatternWord::Status => status_frame(alloc, words.word()?),
-        PatternWord::Challenge => Ok(Pattern::Challenge(challenge_check(alloc, words)?)),
-        PatternWord::Name => Ok(Pattern::Name(challenge_check(alloc, words)?)),
+        PatternWord::Announcement(kind) => {
+            Ok(Pattern::Announcement(kind, field_check(alloc, words)?))
+        }
         PatternWord::Reply => Ok(Pattern::Reply(challenge_field(words)?)),
         PatternWord::Ack => Ok(Pattern::Ack(challenge_field(words)?)),
-        PatternWord::Alive2X => registration_answer(alloc, true, words),
-        PatternWord::Alive2Y => registration_answer(alloc, false, words),
+        PatternWord::Answer(tag, count) => {
+            Ok(Pattern::Answer(tag, meaning_word(&ANSWERS, words)?, count))
+        }
         PatternWord::Port2 => {
             let is_known = meaning_word(&ANSWERS, words)?;
             lookup_answer(alloc, terms, is_known, words)
@@ -231,16 +195,13 @@ fn pattern_of(
 impl FromText for Pattern {
     ghost says = { pattern_in };
 
+    #[tactic(auto, unfolding(crate::specs::Patterns::pattern_in))]
     fn from_text(alloc: Global, terms: &TalkTerms<'_>, text: &[u8]) -> Result<Pattern, ReadFault> {
         let words = words_of(alloc, text)?;
         let mut words = LineWords::new(&words);
         let word = meaning_word(&PATTERNS, &mut words)?;
         let pattern = pattern_of(alloc, terms, word, &mut words)?;
-        if words.is_done() {
-            Ok(pattern)
-        } else {
-            Err(ReadFault::Bad)
-        }
+        words.whole(pattern)
     }
 }
 
@@ -248,6 +209,7 @@ impl FromText for Pattern {
 impl FromText for SuiteList<Pattern> {
     ghost says = { sequence_in };
 
+    #[tactic(auto, unfolding(crate::specs::Patterns::sequence_in))]
     fn from_text(
         alloc: Global,
         terms: &TalkTerms<'_>,
@@ -259,6 +221,7 @@ impl FromText for SuiteList<Pattern> {
 }
 
 // Alternatives, with bars between them.
+#[tactic(auto, unfolding(crate::specs::Patterns::alternatives_in))]
 fn alternatives_of(
     alloc: Global,
     terms: &TalkTerms<'_>,
@@ -271,21 +234,20 @@ fn alternatives_of(
 }
 
 /// Wanted alternatives, and loose ones where a slash stands before them.
-impl FromText for Demand {
-    ghost says = { demand_in };
-
-    fn from_text(alloc: Global, terms: &TalkTerms<'_>, text: &[u8]) -> Result<Demand, ReadFault> {
-        let parts = split(alloc, text, b'/')?;
-        match parts.as_slice() {
-            [wanted] => Ok(Demand {
-                wanted: alternatives_of(alloc, terms, *wanted)?,
-                loose: SuiteList::from_vec(Vec::new(alloc)),
-            }),
-            [wanted, loose] => Ok(Demand {
-                wanted: alternatives_of(alloc, terms, *wanted)?,
-                loose: alternatives_of(alloc, terms, *loose)?,
-            }),
-            _ => Err(ReadFault::Bad),
-        }
+#[tactic(auto, unfolding(crate::specs::Patterns::demand_in))]
+pub fn demand_of(alloc: Global, terms: &TalkTerms<'_>, text: &[u8]) -> Result<Demand, ReadFault>
+    ensures { Reads result (demand_in (terms_of terms.now) text.now) }
+{
+    let parts = split(alloc, text, b'/')?;
+    match parts.as_slice() {
+        [wanted] => Ok(Demand {
+            wanted: alternatives_of(alloc, terms, *wanted)?,
+            loose: SuiteList::from_vec(Vec::new(alloc)),
+        }),
+        [wanted, loose] => Ok(Demand {
+            wanted: alternatives_of(alloc, terms, *wanted)?,
+            loose: alternatives_of(alloc, terms, *loose)?,
+        }),
+        _ => Err(ReadFault::Bad),
     }
 }

@@ -52,14 +52,6 @@ impl From<AllocError> for ReadFault {
     }
 }
 
-impl<T: Drop> From<AllocFailed<T>> for ReadFault {
-    ghost from_gives = { λ _ fault. fault ≡ read.NoMemory };
-
-    fn from(_error: AllocFailed<T>) -> ReadFault {
-        ReadFault::NoMemory
-    }
-}
-
 // In a list, what is bad in one of its parts makes the whole bad.
 impl From<ListFault> for ReadFault {
     ghost from_gives = { λ list fault. fault ≡ read_fault_of list };

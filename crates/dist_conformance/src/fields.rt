@@ -1,16 +1,14 @@
 //! Single words of a row, and fields with a key.
 
 ghost use Rattle.std.specs.Prelude.{◌≡◌, ◌≤◌, [], map, codes, IfOk, MatchResult};
-ghost use Rattle.dist_conformance.specs.declared.faults.ReadFault.TheVariants.{Bad};
-ghost use Rattle.dist_conformance.specs.Words.{Reads, ReadsUpTo, next_in, field, meaning_in};
-ghost use Rattle.dist_conformance.specs.Fields.{number_32, number_in, optional_number, bytes_in, repeated, usual_flags, flags_said, flag_in};
-ghost use Rattle.dist_conformance.specs.Fields.{range_in, usual_range, name_in};
-ghost use Rattle.dist_flags.specs.Names.{flag_named};
-ghost use Rattle.hex.specs.Hex.{decode_of};
 ghost use Rattle.std.specs.Result.{result_ok};
+ghost use Rattle.hex.specs.Hex.{decode_of};
+ghost use Rattle.dist_flags.specs.Names.{flag_named};
+ghost use Rattle.dist_conformance.specs.declared.faults.ReadFault.TheVariants.{Bad};
+ghost use Rattle.dist_conformance.specs.Words.{Reads, ReadsUpTo, next_in, field, mark_in, meaning_in};
+ghost use Rattle.dist_conformance.specs.Fields.{number_32, number_in, optional_number, bytes_in, repeated, usual_flags, flags_said, flag_in, name_in};
 
 use crate::faults::ReadFault;
-use crate::patterns::CreationRange;
 use crate::texts::split;
 use crate::words::LineWords;
 use dist_flags::Dflag;
@@ -30,6 +28,7 @@ fn number_said(word: &[u8]) -> Option<u32>
 }
 
 /// The number up to this one that a word writes in decimal digits.
+#[tactic(auto, unfolding(crate::specs::Fields::number_in))]
 pub fn number_of(word: &[u8], most: u32) -> Result<u32, ReadFault>
     ensures reads { Reads result (number_in most word.now) }
     ensures bound { IfOk result (λ number. number ≤ most) }
@@ -40,14 +39,8 @@ pub fn number_of(word: &[u8], most: u32) -> Result<u32, ReadFault>
     }
 }
 
-/// The number that the next word writes.
-pub fn number_word(words: &mut LineWords<'_>) -> Result<u32, ReadFault>
-    ensures { ReadsUpTo result words.new (next_in (number_in 4294967295) words.old) }
-{
-    number_of(words.word()?, u32::MAX)
-}
-
-/// The number up to `most` behind this key, or the usual one where the next word has another key.
+/// The number up to `most` behind this key, or the usual one where the next word has another key. The empty key stands before each word.
+#[tactic(auto, unfolding(crate::specs::Words::field_or))]
 pub fn number_field(
     words: &mut LineWords<'_>,
     key: &[u8],
@@ -66,6 +59,7 @@ pub fn number_field(
 }
 
 /// The number behind this key, if the next word has it.
+#[tactic(auto, unfolding(crate::specs::Words::field_or, crate::specs::Fields::optional_number))]
 pub fn optional_number(words: &mut LineWords<'_>, key: &[u8]) -> Result<Option<u32>, ReadFault>
     ensures { ReadsUpTo result words.new (optional_number key.now words.old) }
 {
@@ -106,6 +100,7 @@ fn repeat(alloc: Global, mut bytes: Vec<u8>, count: u32) -> Result<ByteString, R
 }
 
 /// The bytes that a word writes: hexadecimal digits, or `HEX*N` with the last byte N times.
+#[tactic(auto, unfolding(crate::specs::Fields::bytes_in))]
 pub fn bytes_of(alloc: Global, word: &[u8]) -> Result<ByteString, ReadFault>
     ensures { Reads result (bytes_in word.now) }
 {
@@ -121,6 +116,7 @@ pub fn bytes_of(alloc: Global, word: &[u8]) -> Result<ByteString, ReadFault>
 }
 
 /// The bytes behind this key, or none where the next word has another key. The empty key stands before each word.
+#[tactic(auto, unfolding(crate::specs::Words::field_or))]
 pub fn bytes_field(
     alloc: Global,
     words: &mut LineWords<'_>,
@@ -142,6 +138,7 @@ fn flag_named(name: &[u8]) -> Option<Dflag>
 }
 
 /// The flags with just the one that has this name.
+#[tactic(auto, unfolding(crate::specs::Fields::flag_in))]
 pub fn flag_of(name: &[u8]) -> Result<Flags, ReadFault>
     ensures { Reads result (flag_in name.now) }
 {
@@ -152,6 +149,7 @@ pub fn flag_of(name: &[u8]) -> Result<Flags, ReadFault>
 }
 
 // The flags that a word writes: `FLAG`, `-FLAG`, or `0x` and hexadecimal digits.
+#[tactic(auto, unfolding(crate::specs::Fields::flags_said))]
 fn flags_of(word: &[u8]) -> Result<Flags, ReadFault>
     ensures { Reads result (flags_said word.now) }
 {
@@ -165,6 +163,7 @@ fn flags_of(word: &[u8]) -> Result<Flags, ReadFault>
 }
 
 /// The flags behind `flags=`, or the usual ones.
+#[tactic(auto, unfolding(crate::specs::Words::field_or))]
 pub fn flags_field(words: &mut LineWords<'_>) -> Result<Flags, ReadFault>
     ensures { ReadsUpTo result words.new (field (codes "flags=") flags_said usual_flags words.old) }
 {
@@ -175,6 +174,7 @@ pub fn flags_field(words: &mut LineWords<'_>) -> Result<Flags, ReadFault>
 }
 
 /// A name behind `name=`, or its bytes behind `namehex=`, or the usual one.
+#[tactic(auto, unfolding(crate::specs::Words::field_or, crate::specs::Fields::name_in))]
 pub fn name_field(
     alloc: Global,
     words: &mut LineWords<'_>,
@@ -189,7 +189,20 @@ pub fn name_field(
     Ok(ByteString::from_slice(alloc, name)?)
 }
 
+/// Whether the next word is this one, and then it is taken.
+#[tactic(auto, unfolding(crate::specs::Words::field_or))]
+pub fn mark(words: &mut LineWords<'_>, key: &[u8]) -> Result<bool, ReadFault>
+    ensures { ReadsUpTo result words.new (mark_in key.now words.old) }
+{
+    match words.value(key) {
+        Some(rest) if rest.is_empty() => Ok(true),
+        Some(_) => Err(ReadFault::Bad),
+        None => Ok(false),
+    }
+}
+
 /// What a word stands for in a table of words.
+#[tactic(auto, unfolding(crate::specs::Words::meaning_in))]
 pub fn meaning_of<T: Copy>(table: &[(&'static str, T)], word: &[u8]) -> Option<T>
     ensures { result ≡ meaning_in (map (λ row. (row.0.now, row.1)) table.now) word.now }
 {
@@ -209,31 +222,4 @@ pub fn meaning_word<T: Copy>(
     ensures { ReadsUpTo result words.new (next_in (meaning_in (map (λ row. (row.0.now, row.1)) table.now)) words.old) }
 {
     meaning_of(table, words.word()?).ok_or(ReadFault::Bad)
-}
-
-/// Which creations will do: `LOW-HIGH`.
-pub fn range_of(alloc: Global, word: &[u8]) -> Result<CreationRange, ReadFault>
-    ensures { Reads result (range_in word.now) }
-{
-    let parts = split(alloc, word, b'-')?;
-    let [low, high] = parts.as_slice() else {
-        return Err(ReadFault::Bad);
-    };
-    Ok(CreationRange {
-        lowest: number_of(*low, u32::MAX)?,
-        highest: number_of(*high, u32::MAX)?,
-    })
-}
-
-/// Which creations will do, behind `creation=`; without it: all but 0.
-pub fn range_field(alloc: Global, words: &mut LineWords<'_>) -> Result<CreationRange, ReadFault>
-    ensures { ReadsUpTo result words.new (field (codes "creation=") range_in usual_range words.old) }
-{
-    match words.value(b"creation=") {
-        Some(value) => range_of(alloc, value),
-        None => Ok(CreationRange {
-            lowest: 1,
-            highest: u32::MAX,
-        }),
-    }
 }

@@ -3,13 +3,12 @@
 ghost use Rattle.std.specs.Prelude.{◌≡◌, map, Some, None, MatchResult};
 ghost use Rattle.dist_conformance.specs.declared.faults.ReadFault.TheVariants.{Bad};
 ghost use Rattle.dist_conformance.specs.Words.{Reads, ReadsUpTo};
-ghost use Rattle.dist_conformance.specs.Sections.{quoted, section_of, section_of_words, section_in, mark_in};
-ghost use Rattle.dist_conformance.specs.Sections.{marks_in, all_marks, head_of, head_of_words, head_in, head_said};
+ghost use Rattle.dist_conformance.specs.Sections.{quoted, section_of, section_in, marks_in, all_marks, row_of, head_in};
 
 use crate::faults::ReadFault;
-use crate::fields::{meaning_of, number_field, number_of};
+use crate::fields::{mark, meaning_of, number_field, number_of};
 use crate::lists::SuiteList;
-use crate::rows::{Level, Marks, Section, SectionKind};
+use crate::rows::{Level, Marks, Section, SectionKind, SuiteRow};
 use crate::texts::{split, words_of};
 use crate::words::LineWords;
 use dist_names::{ByteString, is_same_text};
@@ -22,15 +21,13 @@ const LEVELS: [(&str, Level); 4] = [
     ("may", Level::May),
 ];
 
-const KINDS: [(&str, SectionKind); 5] = [
-    ("accepts", SectionKind::Accepts),
-    ("dials", SectionKind::Dials),
-    ("both", SectionKind::Both),
+const KINDS: [(&str, SectionKind); 2] = [
+    ("node", SectionKind::Node),
     ("mapper", SectionKind::Mapper),
-    ("registers", SectionKind::Registers),
 ];
 
 // The words before a title, and the title, which stands in quotes at the end of the line.
+#[tactic(auto, unfolding(crate::specs::Sections::quoted))]
 fn title_of<'t>(alloc: Global, line: &'t [u8]) -> Result<(Vec<&'t [u8]>, &'t [u8]), ReadFault>
     ensures { MatchResult result (λ found. quoted line.now ≡ Some (map (λ word. word.now) found.0.items, found.1.now))
         (λ fault. fault ≡ Bad → quoted line.now ≡ None) }
@@ -55,54 +52,30 @@ fn section_of(alloc: Global, number: &[u8], kind: &[u8], title: &[u8]) -> Result
     })
 }
 
-fn section_of_words(alloc: Global, words: &[&[u8]], title: &[u8]) -> Result<Section, ReadFault>
-    ensures { Reads result (section_of_words (map (λ word. word.now) words.now) title.now) }
-{
-    match words {
-        [word, number, kind] if is_same_text(*word, b"section") => {
-            section_of(alloc, *number, *kind, title)
-        }
-        _ => Err(ReadFault::Bad),
-    }
-}
-
 /// A section without its rows.
+#[tactic(auto, unfolding(crate::specs::Sections::section_in))]
 pub fn section_in(alloc: Global, line: &[u8]) -> Result<Section, ReadFault>
     ensures { Reads result (section_in line.now) }
 {
     let (words, title) = title_of(alloc, line)?;
-    section_of_words(alloc, &words, title)
-}
-
-/// What the head of a row says.
-#[derive(Clone, Copy)]
-pub struct RowHead<'t> {
-    pub id: &'t [u8],
-    pub level: Level,
-    pub source: &'t [u8],
-    pub marks: Marks,
-    pub title: &'t [u8],
-}
-
-// Whether the next word is this one, and then it is taken.
-fn mark(words: &mut LineWords<'_>, key: &[u8]) -> Result<bool, ReadFault>
-    ensures { ReadsUpTo result words.new (mark_in key.now words.old) }
-{
-    match words.value(key) {
-        Some(rest) if rest.is_empty() => Ok(true),
-        Some(_) => Err(ReadFault::Bad),
-        None => Ok(false),
+    let [word, number, kind] = words.as_slice() else {
+        return Err(ReadFault::Bad);
+    };
+    if is_same_text(*word, b"section") {
+        section_of(alloc, *number, *kind, title)
+    } else {
+        Err(ReadFault::Bad)
     }
 }
 
-fn row_marks(words: &mut LineWords<'_>) -> Result<Marks, ReadFault>
+#[tactic(auto, unfolding(crate::specs::Sections::marks_in))]
+fn marks_in(words: &mut LineWords<'_>) -> Result<Marks, ReadFault>
     ensures { ReadsUpTo result words.new (marks_in words.old) }
 {
     Ok(Marks {
         limit: number_field(words, b"slow=", 5000, u32::MAX)?,
         harsh: mark(words, b"harsh")?,
         alone: mark(words, b"alone")?,
-        since: number_field(words, b"since=", 0, u32::MAX)?,
     })
 }
 
@@ -112,51 +85,44 @@ fn all_marks(words: &[&[u8]]) -> Result<Marks, ReadFault>
     ensures { Reads result (all_marks (map (λ word. word.now) words.now)) }
 {
     let mut words = LineWords::new(words);
-    let marks = row_marks(&mut words)?;
-    if words.is_done() {
-        Ok(marks)
-    } else {
-        Err(ReadFault::Bad)
-    }
+    let marks = marks_in(&mut words)?;
+    words.whole(marks)
 }
 
-// A head whose level and marks are these words.
-#[tactic(auto, unfolding(crate::specs::Sections::head_of))]
-fn head_of<'t>(
-    id: &'t [u8],
-    source: &'t [u8],
-    title: &'t [u8],
+// A row of this level, and with these marks, without its talks.
+#[tactic(auto, unfolding(crate::specs::Sections::row_of))]
+fn row_of(
+    alloc: Global,
+    id: &[u8],
     level: &[u8],
+    source: &[u8],
+    title: &[u8],
     marks: &[&[u8]],
-) -> Result<RowHead<'t>, ReadFault>
-    ensures { let there = head_of id.now source.now title.now level.now (map (λ mark. mark.now) marks.now) in
-        MatchResult result (λ head. there ≡ Some (head_said head)) (λ fault. fault ≡ Bad → there ≡ None) }
+) -> Result<SuiteRow, ReadFault>
+    ensures { Reads result (row_of id.now level.now source.now title.now (map (λ mark. mark.now) marks.now)) }
 {
-    Ok(RowHead {
-        id,
-        level: meaning_of(&LEVELS, level).ok_or(ReadFault::Bad)?,
-        source,
-        marks: all_marks(marks)?,
-        title,
+    let level = meaning_of(&LEVELS, level).ok_or(ReadFault::Bad)?;
+    let marks = all_marks(marks)?;
+    Ok(SuiteRow {
+        id: ByteString::from_slice(alloc, id)?,
+        level,
+        source: ByteString::from_slice(alloc, source)?,
+        title: ByteString::from_slice(alloc, title)?,
+        marks,
+        talks: SuiteList::from_vec(Vec::new(alloc)),
     })
 }
 
-fn head_of_words<'t>(words: &[&'t [u8]], title: &'t [u8]) -> Result<RowHead<'t>, ReadFault>
-    ensures { let there = head_of_words (map (λ word. word.now) words.now) title.now in
-        MatchResult result (λ head. there ≡ Some (head_said head)) (λ fault. fault ≡ Bad → there ≡ None) }
+/// A row without its talks.
+#[tactic(auto, unfolding(crate::specs::Sections::head_in))]
+pub fn head_in(alloc: Global, line: &[u8]) -> Result<SuiteRow, ReadFault>
+    ensures { Reads result (head_in line.now) }
 {
-    match words {
+    let (words, title) = title_of(alloc, line)?;
+    match words.as_slice() {
         [word, id, level, source, marks @ ..] if is_same_text(*word, b"row") => {
-            head_of(*id, *source, title, *level, marks)
+            row_of(alloc, *id, *level, *source, title, marks)
         }
         _ => Err(ReadFault::Bad),
     }
-}
-
-/// The head of a row.
-pub fn head_in<'t>(alloc: Global, line: &'t [u8]) -> Result<RowHead<'t>, ReadFault>
-    ensures { MatchResult result (λ head. head_in line.now ≡ Some (head_said head)) (λ fault. fault ≡ Bad → head_in line.now ≡ None) }
-{
-    let (words, title) = title_of(alloc, line)?;
-    head_of_words(&words, title)
 }

@@ -2,8 +2,8 @@
 
 ghost use Rattle.std.specs.Prelude.{◌≡◌, ◌<◌, ◌+◌, ◌^◌};
 ghost use Rattle.std.specs.List.{list_any};
-ghost use Rattle.dist_conformance.specs.Judging.{observation_of, no_passage, joined, or_else, sequence_of, outcomes_of};
-ghost use Rattle.dist_conformance.specs.Judging.{first_passage, is_open, first_failure, may_match, by_loose, judgement_of};
+ghost use Rattle.dist_conformance.specs.Judging.{observation_of, no_passage, joined, sequence_of, outcomes_of};
+ghost use Rattle.dist_conformance.specs.Judging.{first_passage, is_open, first_failure, judgement_of};
 
 use crate::lists::SuiteList;
 use crate::outcomes::{Deviation, Observed, Passage, PatternOutcome, outcome_of};
@@ -53,65 +53,37 @@ fn sequence_outcome(patterns: &[Pattern], observed: &Observed<'_>) -> PatternOut
     PatternOutcome::Matches(passage)
 }
 
-// The first of these alternatives that matches.
-fn first_passage(alternatives: &[SuiteList<Pattern>], observed: &Observed<'_>) -> Option<Passage>
-    ensures { result ≡ first_passage (outcomes_of (observation_of observed.now) alternatives.now) }
-{
-    for patterns in alternatives {
-        if let PatternOutcome::Matches(passage) = sequence_outcome(patterns.as_slice(), observed) {
-            return Some(passage);
-        }
-    }
-    None
+// What alternatives come to: the first that matches, whether one is not decided yet, and why the first fails that does.
+#[derive(Clone, Copy)]
+struct Alternatives {
+    passage: Option<Passage>,
+    is_undecided: bool,
+    failure: Deviation,
 }
 
-// Why the first of these alternatives fails that does.
-fn first_failure(alternatives: &[SuiteList<Pattern>], observed: &Observed<'_>) -> Deviation
-    ensures { result ≡ first_failure (outcomes_of (observation_of observed.now) alternatives.now) }
+fn alternatives_of(alternatives: &[SuiteList<Pattern>], observed: &Observed<'_>) -> Alternatives
+    ensures passage { result.passage ≡ first_passage (outcomes_of (observation_of observed.now) alternatives.now) }
+    ensures undecided { result.is_undecided ≡ list_any is_open (outcomes_of (observation_of observed.now) alternatives.now) }
+    ensures failure { result.failure ≡ first_failure (outcomes_of (observation_of observed.now) alternatives.now) }
 {
-    for patterns in alternatives {
-        if let PatternOutcome::Fails(why) = sequence_outcome(patterns.as_slice(), observed) {
-            return why;
-        }
-    }
-    Deviation::Silent
-}
-
-// Whether one of these alternatives is not decided yet.
-fn is_any_open(alternatives: &[SuiteList<Pattern>], observed: &Observed<'_>) -> bool
-    ensures { result ≡ list_any is_open (outcomes_of (observation_of observed.now) alternatives.now) }
-{
-    for patterns in alternatives {
-        if let PatternOutcome::Open = sequence_outcome(patterns.as_slice(), observed) {
-            return true;
-        }
-    }
-    false
-}
-
-// Whether one of these alternatives can still match, and there is time.
-fn may_match(alternatives: &[SuiteList<Pattern>], observed: &Observed<'_>) -> bool
-    ensures { result ≡ may_match (observation_of observed.now) (outcomes_of (observation_of observed.now) alternatives.now) }
-{
-    observed.elapsed < observed.limit && is_any_open(alternatives, observed)
-}
-
-// No wanted alternative matches, nor can one that is still awaited.
-fn judge_loose(
-    alternatives: &[SuiteList<Pattern>],
-    observed: &Observed<'_>,
-    why: Deviation,
-) -> Judgement
-    ensures { let o = observation_of observed.now in let loose = outcomes_of o alternatives.now in
-        result ≡ by_loose o why loose (first_passage loose) }
-{
-    if let Some(passage) = first_passage(alternatives, observed) {
-        return Judgement::Loose(passage);
-    }
-    if may_match(alternatives, observed) {
-        Judgement::More
-    } else {
-        Judgement::Deviates(why)
+    let [patterns, others @ ..] = alternatives else {
+        return Alternatives {
+            passage: None,
+            is_undecided: false,
+            failure: Deviation::Silent,
+        };
+    };
+    let rest = alternatives_of(others, observed);
+    match sequence_outcome(patterns.as_slice(), observed) {
+        PatternOutcome::Matches(passage) => Alternatives {
+            passage: Some(passage),
+            ..rest
+        },
+        PatternOutcome::Fails(failure) => Alternatives { failure, ..rest },
+        PatternOutcome::Open => Alternatives {
+            is_undecided: true,
+            ..rest
+        },
     }
 }
 
@@ -124,16 +96,21 @@ fn judge_loose(
 pub fn judge(demand: &Demand, observed: &Observed<'_>) -> Judgement
     ensures { result ≡ judgement_of demand.now (observation_of observed.now) }
 {
-    let wanted = demand.wanted.as_slice();
-    if let Some(passage) = first_passage(wanted, observed) {
+    let wanted = alternatives_of(demand.wanted.as_slice(), observed);
+    let loose = alternatives_of(demand.loose.as_slice(), observed);
+    let in_time = observed.elapsed < observed.limit;
+    if let Some(passage) = wanted.passage {
         return Judgement::Kept(passage);
     }
-    if may_match(wanted, observed) {
+    if in_time && wanted.is_undecided {
         return Judgement::More;
     }
-    judge_loose(
-        demand.loose.as_slice(),
-        observed,
-        first_failure(wanted, observed),
-    )
+    if let Some(passage) = loose.passage {
+        return Judgement::Loose(passage);
+    }
+    if in_time && loose.is_undecided {
+        Judgement::More
+    } else {
+        Judgement::Deviates(wanted.failure)
+    }
 }

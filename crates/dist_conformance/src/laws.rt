@@ -4,7 +4,8 @@ ghost use Rattle.std.specs.Prelude.{◌≡◌, ◌≤◌, ◌<◌, ℕ, true, Li
 ghost use Rattle.std.specs.List.{list_all};
 ghost use Rattle.dist_names.specs.Bytes.{IsBytes};
 ghost use Rattle.dist_conformance.specs.declared.steps.Demand.{Demand};
-ghost use Rattle.dist_conformance.specs.declared.patterns.ChallengeCheck.{ChallengeCheck};
+ghost use Rattle.dist_conformance.specs.declared.patterns.FieldCheck.{FieldCheck};
+ghost use Rattle.dist_conformance.specs.declared.patterns.Announcement.TheVariants as kind;
 ghost use Rattle.dist_conformance.specs.declared.patterns.Pattern.{Pattern};
 ghost use Rattle.dist_conformance.specs.declared.patterns.Pattern.TheVariants as pattern;
 ghost use Rattle.dist_conformance.specs.declared.outcomes.Passage.{Passage};
@@ -41,6 +42,6 @@ pub fn matches_for_good()
 
 /// The pattern of a challenge matches only where a challenge came, as the ERTS User's Guide spells it.
 pub fn challenges_are_spelled()
-    ensures { (which : ChallengeCheck) (o : Observation) (came : List ℕ) (p : Passage) → IsBytes came →
-        outcome_of (pattern.Challenge which) o came ≡ outcome.Matches p → IsChallenge came p }
+    ensures { (which : FieldCheck) (o : Observation) (came : List ℕ) (p : Passage) → IsBytes came →
+        outcome_of (pattern.Announcement kind.Challenge which) o came ≡ outcome.Matches p → IsChallenge came p }
 {}

@@ -39,10 +39,10 @@ pub use laws::{
 };
 pub use lists::SuiteList;
 pub use outcomes::{Deviation, Observed, Passage};
-pub use patterns::{ChallengeCheck, CreationRange, NamesCheck, Pattern};
+pub use patterns::{Announcement, FieldCheck, NamesCheck, Pattern};
 pub use reading::read_section;
 pub use rows::{Level, Marks, RowTalk, Section, SectionKind, SuiteRow};
 pub use say::{Learned, bytes_to_say};
-pub use steps::{AckTerms, Action, Demand, ReplyTerms, SaidPart, Saying, TalkStep};
+pub use steps::{Action, Demand, DigestTerms, SaidPart, Saying, TalkStep};
 pub use terms::SuiteNames;
 pub use verdicts::{RowResult, TalkVerdict, count_of, status, worst};

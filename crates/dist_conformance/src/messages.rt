@@ -1,6 +1,6 @@
 //! The messages of a step `say`, as a row writes them.
 
-ghost use Rattle.std.specs.Prelude.{◌≡◌, ℕ, List, codes, Some, None, is_ok, IfOk, MatchResult};
+ghost use Rattle.std.specs.Prelude.{◌≡◌, Some, None, codes, is_ok, IfOk, MatchResult};
 ghost use Rattle.std.specs.Result.{result_ok};
 ghost use Rattle.dist_messages.specs.Canonical.{own_spelling};
 ghost use Rattle.dist_messages.specs.Reading.{read};
@@ -10,8 +10,8 @@ ghost use Rattle.dist_conformance.specs.declared.digests.ReplyDigest.TheVariants
 ghost use Rattle.dist_conformance.specs.Saying.{edited, frame_said};
 ghost use Rattle.dist_conformance.specs.Terms.{terms_of};
 ghost use Rattle.dist_conformance.specs.Words.{Reads, ReadsUpTo, field, meaning_in};
-ghost use Rattle.dist_conformance.specs.Messages.{edited_part, message_part, new_name, old_name, status_said, new_challenge, complement, reply};
-ghost use Rattle.dist_conformance.specs.Messages.{ack, digest_words, info_numbers, info, request_part, registration, lookup, behind_kind, part_in};
+ghost use Rattle.dist_conformance.specs.Messages.{announcement_terms, message_of, announcement_part, status_said, digest_words, digest_terms};
+ghost use Rattle.dist_conformance.specs.Messages.{info_numbers, info, request_part, behind_word, part_in};
 
 use crate::digests::ReplyDigest;
 use crate::faults::ReadFault;
@@ -20,24 +20,22 @@ use crate::fields::{
     optional_number,
 };
 use crate::from_text::FromText;
+use crate::patterns::Announcement;
 use crate::say::put_frame;
-use crate::steps::{AckTerms, ReplyTerms, SaidPart};
+use crate::steps::{DigestTerms, SaidPart};
 use crate::terms::TalkTerms;
 use crate::texts::words_of;
 use crate::words::LineWords;
 use dist_epmd::{EpmdError, NodeInfo, Request, encode_request};
 use dist_messages::{Message, MessageError, Side, encode, read_in_place};
-use dist_names::{ByteString, Creation};
+use dist_names::{ByteString, Creation, Flags};
 use std::alloc::{AllocError, Global};
 
 // The word of a message.
 #[derive(Clone, Copy)]
 enum MessageWord {
-    Name,
-    OldName,
+    Announcement(Announcement),
     Status,
-    Challenge,
-    Complement,
     Reply,
     Ack,
     Tick,
@@ -48,12 +46,22 @@ enum MessageWord {
     Raw,
 }
 
-const MESSAGES: [(&str, MessageWord); 13] = [
-    ("name", MessageWord::Name),
-    ("oldname", MessageWord::OldName),
+const MESSAGES: [(&str, MessageWord); 14] = [
+    ("name", MessageWord::Announcement(Announcement::Name)),
+    ("oldname", MessageWord::Announcement(Announcement::OldName)),
+    (
+        "challenge",
+        MessageWord::Announcement(Announcement::Challenge),
+    ),
+    (
+        "oldchallenge",
+        MessageWord::Announcement(Announcement::OldChallenge),
+    ),
+    (
+        "complement",
+        MessageWord::Announcement(Announcement::Complement),
+    ),
     ("status", MessageWord::Status),
-    ("challenge", MessageWord::Challenge),
-    ("complement", MessageWord::Complement),
     ("reply", MessageWord::Reply),
     ("ack", MessageWord::Ack),
     ("tick", MessageWord::Tick),
@@ -64,8 +72,7 @@ const MESSAGES: [(&str, MessageWord); 13] = [
     ("raw", MessageWord::Raw),
 ];
 
-const DIGESTS: [(&str, ReplyDigest); 11] = [
-    ("right", ReplyDigest::Right),
+const DIGESTS: [(&str, ReplyDigest); 10] = [
     ("wrong", ReplyDigest::Wrong),
     ("newline", ReplyDigest::Newline),
     ("nocookie", ReplyDigest::NoCookie),
@@ -78,21 +85,82 @@ const DIGESTS: [(&str, ReplyDigest); 11] = [
     ("zero", ReplyDigest::Zero),
 ];
 
-// The frame of a body, with these edits.
-fn frame_part(alloc: Global, body: &[u8], less: u32, extra: &[u8]) -> Result<SaidPart, AllocError>
-    ensures { IfOk result (λ p. p ≡ part.Bytes (frame_said (edited body.now less extra.now))) }
+// The frame of a body, with these bytes behind it.
+fn frame_of(alloc: Global, body: &[u8], extra: &[u8]) -> Result<ByteString, AllocError>
+    ensures { IfOk result (λ frame. frame ≡ frame_said (edited body.now 0 extra.now)) }
 {
     let mut bytes = Vec::new(alloc);
-    put_frame(&mut bytes, body, less as usize, extra)?;
-    Ok(SaidPart::Bytes(ByteString::from_vec(bytes)))
+    put_frame(&mut bytes, body, 0, extra)?;
+    Ok(ByteString::from_vec(bytes))
 }
 
-fn edited_part(alloc: Global, body: &[u8], words: &mut LineWords<'_>) -> Result<SaidPart, ReadFault>
-    ensures { ReadsUpTo result words.new (edited_part body.now words.old) }
+// What a name, a challenge or a complement says.
+#[derive(Drop)]
+struct AnnouncementTerms {
+    flags: Flags,
+    challenge: u32,
+    creation: u32,
+    name: ByteString,
+}
+
+#[tactic(auto, unfolding(crate::specs::Messages::announcement_terms))]
+fn announcement_terms(
+    alloc: Global,
+    terms: &TalkTerms<'_>,
+    words: &mut LineWords<'_>,
+) -> Result<AnnouncementTerms, ReadFault>
+    ensures { ReadsUpTo result words.new (announcement_terms (terms_of terms.now) words.old) }
 {
-    let less = number_field(words, b"less=", 0, 65535)?;
-    let extra = bytes_field(alloc, words, b"extra=")?;
-    Ok(frame_part(alloc, body, less, extra.as_slice())?)
+    let flags = flags_field(words)?;
+    let challenge = challenge_field(words)?;
+    let creation = number_field(words, b"creation=", 77, u32::MAX)?;
+    let usual = terms.own_name(alloc)?;
+    let name = name_field(alloc, words, &usual)?;
+    Ok(AnnouncementTerms {
+        flags,
+        challenge,
+        creation,
+        name,
+    })
+}
+
+// The message of this kind, which says those of the fields that it has.
+fn message_of(kind: Announcement, said: AnnouncementTerms) -> Message
+    ensures { result ≡ message_of kind said }
+{
+    let AnnouncementTerms {
+        flags,
+        challenge,
+        creation,
+        name,
+    } = said;
+    let creation = Creation(creation);
+    match kind {
+        Announcement::Name => Message::NewName {
+            flags,
+            creation,
+            name,
+        },
+        Announcement::OldName => Message::OldName {
+            flags: flags.low(),
+            name,
+        },
+        Announcement::Challenge => Message::NewChallenge {
+            flags,
+            challenge,
+            creation,
+            name,
+        },
+        Announcement::OldChallenge => Message::OldChallenge {
+            flags: flags.low(),
+            challenge,
+            name,
+        },
+        Announcement::Complement => Message::Complement {
+            high: flags.high(),
+            creation,
+        },
+    }
 }
 
 // The body of a message of this side.
@@ -107,52 +175,20 @@ fn body_of(alloc: Global, side: Side, message: &Message) -> Result<Vec<u8>, Read
     }
 }
 
-fn message_part(
-    alloc: Global,
-    side: Side,
-    message: &Message,
-    words: &mut LineWords<'_>,
-) -> Result<SaidPart, ReadFault>
-    ensures { ReadsUpTo result words.new (message_part side message.now words.old) }
-{
-    let body = body_of(alloc, side, message)?;
-    edited_part(alloc, &body, words)
-}
-
-fn new_name(
+#[tactic(auto, unfolding(crate::specs::Messages::announcement_part))]
+fn announcement_part(
     alloc: Global,
     terms: &TalkTerms<'_>,
+    kind: Announcement,
     words: &mut LineWords<'_>,
 ) -> Result<SaidPart, ReadFault>
-    ensures { ReadsUpTo result words.new (new_name (terms_of terms.now) words.old) }
+    ensures { ReadsUpTo result words.new (announcement_part (terms_of terms.now) kind words.old) }
 {
-    let flags = flags_field(words)?;
-    let creation = number_field(words, b"creation=", 77, u32::MAX)?;
-    let usual = terms.own_name(alloc)?;
-    let name = name_field(alloc, words, &usual)?;
-    let message = Message::NewName {
-        flags,
-        creation: Creation(creation),
-        name,
-    };
-    message_part(alloc, Side::Dialler, &message, words)
-}
-
-fn old_name(
-    alloc: Global,
-    terms: &TalkTerms<'_>,
-    words: &mut LineWords<'_>,
-) -> Result<SaidPart, ReadFault>
-    ensures { ReadsUpTo result words.new (old_name (terms_of terms.now) words.old) }
-{
-    let flags = flags_field(words)?;
-    let usual = terms.own_name(alloc)?;
-    let name = name_field(alloc, words, &usual)?;
-    let message = Message::OldName {
-        flags: flags.low(),
-        name,
-    };
-    message_part(alloc, Side::Dialler, &message, words)
+    let said = announcement_terms(alloc, terms, words)?;
+    let message = message_of(kind, said);
+    let body = body_of(alloc, kind.side(), &message)?;
+    let extra = bytes_field(alloc, words, b"extra=")?;
+    Ok(SaidPart::Bytes(frame_of(alloc, &body, extra.as_slice())?))
 }
 
 // Whether a body is a message of this side.
@@ -163,6 +199,7 @@ fn is_said_by(side: Side, body: &[u8]) -> bool
 }
 
 /// The frame of a status, of either side.
+#[tactic(auto, unfolding(crate::specs::Messages::status_said))]
 pub fn status_said(alloc: Global, word: &[u8]) -> Result<ByteString, ReadFault>
     ensures { Reads result (status_said word.now) }
 {
@@ -171,94 +208,45 @@ pub fn status_said(alloc: Global, word: &[u8]) -> Result<ByteString, ReadFault>
     if !is_said_by(Side::Acceptor, &body) && !is_said_by(Side::Dialler, &body) {
         return Err(ReadFault::Bad);
     }
-    let mut frame = Vec::new(alloc);
-    put_frame(&mut frame, &body, 0, &[])?;
-    Ok(ByteString::from_vec(frame))
+    Ok(frame_of(alloc, &body, &[])?)
 }
 
-fn new_challenge(
-    alloc: Global,
-    terms: &TalkTerms<'_>,
-    words: &mut LineWords<'_>,
-) -> Result<SaidPart, ReadFault>
-    ensures { ReadsUpTo result words.new (new_challenge (terms_of terms.now) words.old) }
+fn digest_named(word: &[u8]) -> Option<ReplyDigest>
+    ensures { result ≡ meaning_in digest_words word.now }
 {
-    let flags = flags_field(words)?;
-    let challenge = challenge_field(words)?;
-    let creation = number_field(words, b"creation=", 77, u32::MAX)?;
-    let usual = terms.own_name(alloc)?;
-    let name = name_field(alloc, words, &usual)?;
-    let message = Message::NewChallenge {
-        flags,
-        challenge,
-        creation: Creation(creation),
-        name,
-    };
-    message_part(alloc, Side::Acceptor, &message, words)
+    meaning_of(&DIGESTS, word)
 }
 
-fn complement(alloc: Global, words: &mut LineWords<'_>) -> Result<SaidPart, ReadFault>
-    ensures { ReadsUpTo result words.new (complement words.old) }
-{
-    let flags = flags_field(words)?;
-    let creation = number_field(words, b"creation=", 77, u32::MAX)?;
-    let message = Message::Complement {
-        high: flags.high(),
-        creation: Creation(creation),
-    };
-    message_part(alloc, Side::Dialler, &message, words)
-}
-
+#[tactic(auto, unfolding(crate::specs::Words::field_or))]
 fn digest_field(words: &mut LineWords<'_>) -> Result<ReplyDigest, ReadFault>
     ensures { ReadsUpTo result words.new (field (codes "digest=") (meaning_in digest_words) digest.Right words.old) }
 {
     match words.value(b"digest=") {
-        Some(value) => meaning_of(&DIGESTS, value).ok_or(ReadFault::Bad),
+        Some(value) => digest_named(value).ok_or(ReadFault::Bad),
         None => Ok(ReplyDigest::Right),
     }
 }
 
-fn reply(alloc: Global, words: &mut LineWords<'_>) -> Result<SaidPart, ReadFault>
-    ensures { ReadsUpTo result words.new (reply words.old) }
-{
-    let challenge = challenge_field(words)?;
-    let digest = digest_field(words)?;
-    let less = number_field(words, b"less=", 0, 65535)?;
-    let extra = bytes_field(alloc, words, b"extra=")?;
-    Ok(SaidPart::Reply(ReplyTerms {
-        challenge,
-        digest,
-        less: less as usize,
-        extra,
-    }))
-}
-
-fn ack(alloc: Global, words: &mut LineWords<'_>) -> Result<SaidPart, ReadFault>
-    ensures { ReadsUpTo result words.new (ack words.old) }
+// The fields of a reply or an acknowledgement.
+#[tactic(auto, unfolding(crate::specs::Messages::digest_terms))]
+fn digest_terms(alloc: Global, words: &mut LineWords<'_>) -> Result<DigestTerms, ReadFault>
+    ensures { ReadsUpTo result words.new (digest_terms words.old) }
 {
     let challenge = optional_number(words, b"challenge=")?;
     let digest = digest_field(words)?;
     let less = number_field(words, b"less=", 0, 65535)?;
     let extra = bytes_field(alloc, words, b"extra=")?;
-    Ok(SaidPart::Ack(AckTerms {
+    Ok(DigestTerms {
         challenge,
         digest,
         less: less as usize,
         extra,
-    }))
+    })
 }
 
-// The numbers of a registration.
-#[derive(Clone, Copy)]
-struct InfoNumbers {
-    port: u16,
-    node_type: u8,
-    protocol: u8,
-    highest: u16,
-    lowest: u16,
-}
-
-fn info_numbers(words: &mut LineWords<'_>) -> Result<InfoNumbers, ReadFault>
+// The numbers of a registration, with no name and no extra.
+#[tactic(auto, unfolding(crate::specs::Messages::info_numbers))]
+fn info_numbers(alloc: Global, words: &mut LineWords<'_>) -> Result<NodeInfo, ReadFault>
     ensures { ReadsUpTo result words.new (info_numbers words.old) }
 {
     let port = number_field(words, b"port=", 9009, 65535)?;
@@ -266,16 +254,19 @@ fn info_numbers(words: &mut LineWords<'_>) -> Result<InfoNumbers, ReadFault>
     let protocol = number_field(words, b"protocol=", 0, 255)?;
     let highest = number_field(words, b"high=", 6, 65535)?;
     let lowest = number_field(words, b"low=", 5, 65535)?;
-    Ok(InfoNumbers {
+    Ok(NodeInfo {
         port: port as u16,
         node_type: node_type as u8,
         protocol: protocol as u8,
         highest: highest as u16,
         lowest: lowest as u16,
+        name: ByteString::new(alloc),
+        extra: ByteString::new(alloc),
     })
 }
 
 /// What a registration says, and what a lookup answers.
+#[tactic(auto, unfolding(crate::specs::Messages::info))]
 pub fn info_of(
     alloc: Global,
     terms: &TalkTerms<'_>,
@@ -283,77 +274,51 @@ pub fn info_of(
 ) -> Result<NodeInfo, ReadFault>
     ensures { ReadsUpTo result words.new (info (terms_of terms.now) words.old) }
 {
-    let numbers = info_numbers(words)?;
-    let name = name_field(alloc, words, terms.short)?;
-    let extra = bytes_field(alloc, words, b"extra=")?;
-    Ok(NodeInfo {
-        port: numbers.port,
-        node_type: numbers.node_type,
-        protocol: numbers.protocol,
-        highest: numbers.highest,
-        lowest: numbers.lowest,
-        name,
-        extra,
-    })
+    let mut info = info_numbers(alloc, words)?;
+    info.name = name_field(alloc, words, terms.short)?;
+    info.extra = bytes_field(alloc, words, b"extra=")?;
+    Ok(info)
 }
 
 // The frame of a request.
+#[tactic(auto, unfolding(crate::specs::Messages::request_part))]
 fn request_part(alloc: Global, request: &Request) -> Result<SaidPart, ReadFault>
-    ensures { (words : List (List ℕ)) → ReadsUpTo result words (request_part request.now words) }
+    ensures { Reads result (request_part request.now) }
 {
     match encode_request(alloc, request) {
-        Ok(body) => Ok(frame_part(alloc, &body, 0, &[])?),
+        Ok(body) => Ok(SaidPart::Bytes(frame_of(alloc, &body, &[])?)),
         Err(EpmdError::NoMemory) => Err(ReadFault::NoMemory),
         Err(_) => Err(ReadFault::Bad),
     }
 }
 
-fn registration(
-    alloc: Global,
-    terms: &TalkTerms<'_>,
-    words: &mut LineWords<'_>,
-) -> Result<SaidPart, ReadFault>
-    ensures { ReadsUpTo result words.new (registration (terms_of terms.now) words.old) }
-{
-    let info = info_of(alloc, terms, words)?;
-    request_part(alloc, &Request::Alive(info))
-}
-
-fn lookup(
-    alloc: Global,
-    terms: &TalkTerms<'_>,
-    words: &mut LineWords<'_>,
-) -> Result<SaidPart, ReadFault>
-    ensures { ReadsUpTo result words.new (lookup (terms_of terms.now) words.old) }
-{
-    let name = name_field(alloc, words, terms.short)?;
-    request_part(alloc, &Request::PortPlease(name))
-}
-
-// A message of this kind.
+// A message of this word.
 fn part_of(
     alloc: Global,
     terms: &TalkTerms<'_>,
     word: MessageWord,
     words: &mut LineWords<'_>,
 ) -> Result<SaidPart, ReadFault>
-    ensures { ReadsUpTo result words.new (behind_kind (terms_of terms.now) word words.old) }
+    ensures { ReadsUpTo result words.new (behind_word (terms_of terms.now) word words.old) }
 {
     match word {
-        MessageWord::Name => new_name(alloc, terms, words),
-        MessageWord::OldName => old_name(alloc, terms, words),
+        MessageWord::Announcement(kind) => announcement_part(alloc, terms, kind, words),
         MessageWord::Status => Ok(SaidPart::Bytes(status_said(alloc, words.word()?)?)),
-        MessageWord::Challenge => new_challenge(alloc, terms, words),
-        MessageWord::Complement => complement(alloc, words),
-        MessageWord::Reply => reply(alloc, words),
-        MessageWord::Ack => ack(alloc, words),
-        MessageWord::Alive2 => registration(alloc, terms, words),
-        MessageWord::Lookup => lookup(alloc, terms, words),
-        MessageWord::Names => request_part(alloc, &Request::Names),
+        MessageWord::Reply => Ok(SaidPart::Reply(digest_terms(alloc, words)?)),
+        MessageWord::Ack => Ok(SaidPart::Ack(digest_terms(alloc, words)?)),
         MessageWord::Tick => Ok(SaidPart::Bytes(ByteString::from_slice(alloc, &[0; 4])?)),
+        MessageWord::Alive2 => {
+            let info = info_of(alloc, terms, words)?;
+            request_part(alloc, &Request::Alive(info))
+        }
+        MessageWord::Lookup => {
+            let name = name_field(alloc, words, terms.short)?;
+            request_part(alloc, &Request::PortPlease(name))
+        }
+        MessageWord::Names => request_part(alloc, &Request::Names),
         MessageWord::Frame => {
             let body = bytes_field(alloc, words, b"")?;
-            Ok(frame_part(alloc, body.as_slice(), 0, &[])?)
+            Ok(SaidPart::Bytes(frame_of(alloc, body.as_slice(), &[])?))
         }
         MessageWord::Raw => Ok(SaidPart::Bytes(bytes_field(alloc, words, b"")?)),
     }
@@ -362,15 +327,12 @@ fn part_of(
 impl FromText for SaidPart {
     ghost says = { part_in };
 
+    #[tactic(auto, unfolding(crate::specs::Messages::part_in))]
     fn from_text(alloc: Global, terms: &TalkTerms<'_>, text: &[u8]) -> Result<SaidPart, ReadFault> {
         let words = words_of(alloc, text)?;
         let mut words = LineWords::new(&words);
         let word = meaning_word(&MESSAGES, &mut words)?;
         let part = part_of(alloc, terms, word, &mut words)?;
-        if words.is_done() {
-            Ok(part)
-        } else {
-            Err(ReadFault::Bad)
-        }
+        words.whole(part)
     }
 }

@@ -1,29 +1,29 @@
 //! What a single pattern makes of what came.
 
-ghost use Rattle.std.specs.Prelude.{◌≡◌, ◌<◌, ◌^◌, ◌==◌, false, length, option_map, unwrap_or, if◌then◌else◌};
-ghost use Rattle.std.specs.Int.{w16, w32};
+ghost use Rattle.std.specs.Prelude.{◌≡◌, ◌==◌, not, length, option_map, if◌then◌else◌};
+ghost use Rattle.std.specs.Int.{w32};
 ghost use Rattle.std.specs.List.{list_any};
 ghost use Rattle.dist_names.specs.Fields.{number_at};
 ghost use Rattle.dist_names.specs.Order.{same_name};
-ghost use Rattle.dist_frames.specs.Stream.{first_body};
 ghost use Rattle.dist_secret.specs.Digest.{digest_of};
 ghost use Rattle.dist_messages.specs.declared.message.Message.TheVariants as message;
-ghost use Rattle.dist_messages.specs.declared.message.Side.TheVariants.{Dialler, Acceptor};
+ghost use Rattle.dist_messages.specs.declared.message.Side.TheVariants.{Dialler};
 ghost use Rattle.dist_messages.specs.Canonical.{canonical};
 ghost use Rattle.dist_messages.specs.Reading.{read};
+ghost use Rattle.dist_messages.specs.Views.{message_of};
 ghost use Rattle.dist_conformance.specs.declared.outcomes.PatternOutcome.TheVariants as outcome;
-ghost use Rattle.dist_conformance.specs.Words.{begins_with};
-ghost use Rattle.dist_conformance.specs.Judging.{observation_of, passes, part_outcome, open_for, if_nothing, by_bytes, passes_if, by_body, body_outcome};
-ghost use Rattle.dist_conformance.specs.Judging.{is_in, is_fresh, challenge_in, challenge_passes, by_challenge, name_in, name_passes, reply_in, by_reply};
-ghost use Rattle.dist_conformance.specs.Judging.{answer_in, by_answer, refusal, are_lines, is_line, has_line, names_pass, by_names, outcome_of};
-ghost use Rattle.dist_conformance.specs.Outcomes.{IsWithin, deviation_word, said_of, answer_of};
+ghost use Rattle.dist_conformance.specs.Kinds.{side_of};
+ghost use Rattle.dist_conformance.specs.Judging.{observation_of, passes, part_outcome, open_for, if_nothing, by_bytes, passes_if, body_outcome};
+ghost use Rattle.dist_conformance.specs.Judging.{announcement_of, said_in, is_new, is_fresh, check_passes, by_announcement, reply_in, by_reply};
+ghost use Rattle.dist_conformance.specs.Judging.{by_result, by_answer, are_lines, is_line, has_line, names_pass, by_names, outcome_of};
+ghost use Rattle.dist_conformance.specs.Outcomes.{IsWithin, deviation_word, said_of};
 
-use crate::patterns::{ChallengeCheck, CreationRange, NamesCheck, Pattern};
+use crate::patterns::{Announcement, FieldCheck, NamesCheck, Pattern};
 use crate::say::Learned;
 use crate::texts::first_part;
 use dist_frames::first_body;
 use dist_messages::{MessageView, Side, read_in_place};
-use dist_names::{Creation, Flags, is_same_text};
+use dist_names::{Flags, is_same_text};
 use dist_secret::{Cookie, digest};
 
 /// What is judged.
@@ -37,7 +37,7 @@ pub struct Observed<'a> {
     pub elapsed: u32,
     /// How many milliseconds the step waits.
     pub limit: u32,
-    /// What was learned in this talk so far, in order.
+    /// The challenges that came in this talk so far, in order.
     pub learned: &'a [Learned],
     /// The cookie of the node under test.
     pub cookie: &'a Cookie,
@@ -166,118 +166,145 @@ fn bytes_outcome(wanted: &[u8], came: &[u8], ended: bool) -> PatternOutcome
     }
 }
 
-fn is_in(range: CreationRange, creation: u32) -> bool
-    ensures { result ≡ is_in range creation }
-{
-    range.lowest <= creation && creation <= range.highest
-}
-
-// Whether the challenge that came before is this one.
-fn is_challenge(one: &Learned, challenge: u32) -> bool
-    ensures { result ≡ unwrap_or (option_map (λ m. m == challenge) one.now.challenge) false }
-{
-    match one.challenge {
-        Some(before) => before == challenge,
-        None => false,
-    }
-}
-
-fn is_fresh(challenge: u32, learned: &[Learned]) -> bool
-    ensures { result ≡ is_fresh challenge learned.now }
-{
-    learned.iter().all(|one| !is_challenge(one, challenge))
-}
-
-// A challenge of version 6, or a name, whose number is 0.
+// What a name, a challenge or a complement says.
 #[derive(Clone, Copy)]
-struct ChallengeFields<'a> {
+struct AnnouncementFields<'a> {
+    form: Announcement,
     flags: Flags,
-    challenge: u32,
-    creation: Creation,
+    challenge: Option<u32>,
+    creation: u32,
     name: &'a [u8],
+    // How many bytes it has where none stand behind the name.
+    size: usize,
 }
 
-// The challenge of version 6 that a body is.
-fn challenge_in(body: &[u8]) -> Option<ChallengeFields<'_>>
-    ensures { option_map said_of result ≡ challenge_in (read Acceptor body.now) }
+// What a message says, if it is one of these.
+fn announcement_of(view: MessageView<'_>) -> Option<AnnouncementFields<'_>>
+    ensures { option_map said_of result ≡ announcement_of (message_of view.entry) }
 {
-    match read_in_place(Side::Acceptor, body) {
-        Ok(
-            MessageView::NewChallenge {
-                flags,
-                challenge,
-                creation,
-                name,
-            },
-        ) => Some(ChallengeFields {
+    match view {
+        MessageView::NewName {
+            flags,
+            creation,
+            name,
+        } => Some(AnnouncementFields {
+            form: Announcement::Name,
+            flags,
+            challenge: None,
+            creation: creation.0,
+            name,
+            size: name.len() + 15,
+        }),
+        MessageView::OldName { flags, name } => Some(AnnouncementFields {
+            form: Announcement::OldName,
+            flags: Flags(u64::from(flags)),
+            challenge: None,
+            creation: 0,
+            name,
+            size: name.len() + 7,
+        }),
+        MessageView::NewChallenge {
             flags,
             challenge,
             creation,
             name,
+        } => Some(AnnouncementFields {
+            form: Announcement::Challenge,
+            flags,
+            challenge: Some(challenge),
+            creation: creation.0,
+            name,
+            size: name.len() + 19,
+        }),
+        MessageView::OldChallenge {
+            flags,
+            challenge,
+            name,
+        } => Some(AnnouncementFields {
+            form: Announcement::OldChallenge,
+            flags: Flags(u64::from(flags)),
+            challenge: Some(challenge),
+            creation: 0,
+            name,
+            size: name.len() + 11,
+        }),
+        MessageView::Complement { high, creation } => Some(AnnouncementFields {
+            form: Announcement::Complement,
+            flags: Flags::of_halves(high, 0),
+            challenge: None,
+            creation: creation.0,
+            name: &[],
+            size: 9,
         }),
         _ => None,
     }
 }
 
-fn challenge_passes(
-    check: &ChallengeCheck,
-    fields: ChallengeFields<'_>,
+fn said_in(side: Side, body: &[u8]) -> Option<AnnouncementFields<'_>>
+    ensures { option_map said_of result ≡ said_in (read side body.now) }
+{
+    match read_in_place(side, body) {
+        Ok(view) => announcement_of(view),
+        Err(_) => None,
+    }
+}
+
+// Whether this challenge is none of those that came before.
+fn is_new(challenge: u32, learned: &[Learned]) -> bool
+    ensures { result ≡ is_new challenge learned.now }
+{
+    learned.iter().all(|one| one.challenge != challenge)
+}
+
+fn is_fresh(challenge: Option<u32>, learned: &[Learned]) -> bool
+    ensures { result ≡ is_fresh challenge learned.now }
+{
+    match challenge {
+        Some(challenge) => is_new(challenge, learned),
+        None => true,
+    }
+}
+
+fn check_passes(
+    check: &FieldCheck,
+    len: usize,
     learned: &[Learned],
+    fields: AnnouncementFields<'_>,
 ) -> bool
-    ensures { result ≡ challenge_passes check.now (said_of fields.entry) learned.now }
+    ensures { result ≡ check_passes check.now len learned.now (said_of fields.entry) }
 {
     match check {
-        ChallengeCheck::Any => true,
-        ChallengeCheck::Name(name) => is_same_text(fields.name, name.as_slice()),
-        ChallengeCheck::Fresh => is_fresh(fields.challenge, learned),
-        ChallengeCheck::Creation(range) => is_in(*range, fields.creation.0),
-        ChallengeCheck::Has(flags) => fields.flags.has(*flags),
+        FieldCheck::Any => true,
+        FieldCheck::Name(name) => is_same_text(fields.name, name.as_slice()),
+        FieldCheck::Creation(least) => *least <= fields.creation,
+        FieldCheck::Has(flags) => fields.flags.has(*flags),
+        FieldCheck::Fresh => is_fresh(fields.challenge, learned),
+        FieldCheck::Bare => len == fields.size,
     }
 }
 
-fn challenge_outcome(check: &ChallengeCheck, body: &[u8], learned: &[Learned]) -> PatternOutcome
-    ensures { result ≡ by_challenge check.now learned.now (length body.now) (challenge_in (read Acceptor body.now)) }
+// What a body means where a name, a challenge or a complement is awaited.
+fn announcement_outcome(
+    kind: Announcement,
+    check: &FieldCheck,
+    body: &[u8],
+    learned: &[Learned],
+) -> PatternOutcome
+    ensures { result ≡ by_announcement kind check.now (length body.now) learned.now (said_in (read (side_of kind) body.now)) }
 {
-    let Some(fields) = challenge_in(body) else {
+    let Some(fields) = said_in(kind.side(), body) else {
         return PatternOutcome::Fails(Deviation::Other);
     };
-    if !challenge_passes(check, fields, learned) {
-        return PatternOutcome::Fails(Deviation::Field);
+    if fields.form != kind {
+        return PatternOutcome::Fails(Deviation::Other);
     }
-    PatternOutcome::Matches(Passage {
-        count: 2 + body.len(),
-        challenge: Some(fields.challenge),
-    })
-}
-
-// The name of version 6 that a body is.
-fn name_in(body: &[u8]) -> Option<ChallengeFields<'_>>
-    ensures { option_map said_of result ≡ name_in (read Dialler body.now) }
-{
-    match read_in_place(Side::Dialler, body) {
-        Ok(
-            MessageView::NewName {
-                flags,
-                creation,
-                name,
-            },
-        ) => Some(ChallengeFields {
-            flags,
-            challenge: 0,
-            creation,
-            name,
-        }),
-        _ => None,
-    }
-}
-
-// Whether a body is a name that is so.
-fn name_passes(check: &ChallengeCheck, body: &[u8]) -> bool
-    ensures { result ≡ name_passes check.now (name_in (read Dialler body.now)) }
-{
-    match name_in(body) {
-        Some(fields) => challenge_passes(check, fields, &[]),
-        None => false,
+    if check_passes(check, body.len(), learned, fields) {
+        PatternOutcome::Matches(Passage {
+            count: 2 + body.len(),
+            challenge: fields.challenge,
+        })
+    } else {
+        PatternOutcome::Fails(Deviation::Field)
     }
 }
 
@@ -318,88 +345,38 @@ fn is_ack(body: &[u8], cookie: &Cookie, challenge: u32) -> bool
 fn body_outcome(pattern: &Pattern, observed: &Observed<'_>, body: &[u8]) -> PatternOutcome
     ensures { result ≡ body_outcome pattern.now (observation_of observed.now) body.now }
 {
+    let len = 2 + body.len();
     match pattern {
-        Pattern::Frame(front) => {
-            passes_if(
-                body.strip_prefix(front.as_slice()).is_some(),
-                2 + body.len(),
-            )
+        Pattern::Frame(front) => passes_if(body.strip_prefix(front.as_slice()).is_some(), len),
+        Pattern::Announcement(kind, check) => {
+            announcement_outcome(*kind, check, body, observed.learned)
         }
-        Pattern::Challenge(check) => challenge_outcome(check, body, observed.learned),
-        Pattern::Name(check) => passes_if(name_passes(check, body), 2 + body.len()),
         Pattern::Reply(challenge) => reply_outcome(body, observed.cookie, *challenge),
-        Pattern::Ack(challenge) => passes_if(
-            is_ack(body, observed.cookie, *challenge),
-            2 + body.len(),
-        ),
+        Pattern::Ack(challenge) => passes_if(is_ack(body, observed.cookie, *challenge), len),
         _ => PatternOutcome::Open,
     }
 }
 
-// The answer to a registration.
-#[derive(Clone, Copy)]
-struct AnswerFields {
-    tag: u8,
-    code: u8,
-    creation: u32,
-}
-
-// The answer with a creation of 4 bytes.
-fn answer_x(came: &[u8]) -> Option<AnswerFields>
-    ensures { option_map answer_of result ≡ answer_in w32 came.now }
+// What it means that the result has to be 0, that it is, and that a creation that is not 0 stands behind it.
+fn result_outcome(is_good: bool, is_zero: bool, has_creation: bool, count: usize) -> PatternOutcome
+    ensures { result ≡ by_result is_good is_zero has_creation count }
 {
-    let [tag, code, rest @ ..] = came else {
-        return None;
-    };
-    let (creation, _) = rest.split_first_chunk::<4>()?;
-    Some(AnswerFields {
-        tag: *tag,
-        code: *code,
-        creation: u32::from_be_bytes(*creation),
-    })
-}
-
-// The answer with a creation of 2 bytes.
-fn answer_y(came: &[u8]) -> Option<AnswerFields>
-    ensures { option_map answer_of result ≡ answer_in w16 came.now }
-{
-    let [tag, code, rest @ ..] = came else {
-        return None;
-    };
-    let (creation, _) = rest.split_first_chunk::<2>()?;
-    Some(AnswerFields {
-        tag: *tag,
-        code: *code,
-        creation: u32::from(u16::from_be_bytes(*creation)),
-    })
-}
-
-// An answer with this first byte, result 0, and a creation that is so; it has so many bytes.
-fn answer_outcome(
-    tag: u8,
-    count: usize,
-    range: CreationRange,
-    ended: bool,
-    answer: Option<AnswerFields>,
-) -> PatternOutcome
-    ensures { result ≡ by_answer tag count range ended (option_map answer_of answer) }
-{
-    let Some(fields) = answer else {
-        return part_outcome(ended);
-    };
-    if fields.tag != tag || fields.code != 0 {
-        return PatternOutcome::Fails(Deviation::Other);
-    }
-    if is_in(range, fields.creation) {
-        passes(count)
-    } else {
-        PatternOutcome::Fails(Deviation::Field)
+    match (is_good, is_zero, has_creation) {
+        (true, true, false) => PatternOutcome::Fails(Deviation::Field),
+        (true, true, true) | (false, false, _) => passes(count),
+        _ => PatternOutcome::Fails(Deviation::Other),
     }
 }
 
-// An answer with this first byte, another result than 0, and so many bytes more.
-fn refusal(tag: u8, more: usize, ended: bool, came: &[u8]) -> PatternOutcome
-    ensures { result ≡ refusal tag more ended came.now }
+fn has_creation(bytes: &[u8]) -> bool
+    ensures { result ≡ list_any (λ byte. not (byte == 0)) bytes.now }
+{
+    bytes.iter().any(|byte| *byte != 0)
+}
+
+// An answer with this first byte, a result and so many bytes more.
+fn answer_outcome(tag: u8, is_good: bool, more: usize, ended: bool, came: &[u8]) -> PatternOutcome
+    ensures { result ≡ by_answer tag is_good more ended came.now }
 {
     let [first, code, rest @ ..] = came else {
         return part_outcome(ended);
@@ -407,7 +384,11 @@ fn refusal(tag: u8, more: usize, ended: bool, came: &[u8]) -> PatternOutcome
     if rest.len() < more {
         return part_outcome(ended);
     }
-    passes_if(*first == tag && *code != 0, 2 + more)
+    if *first == tag {
+        result_outcome(is_good, *code == 0, has_creation(&rest[..more]), 2 + more)
+    } else {
+        PatternOutcome::Fails(Deviation::Other)
+    }
 }
 
 // Whether a line is this one, or begins so.
@@ -479,9 +460,7 @@ pub fn outcome_of(pattern: &Pattern, observed: &Observed<'_>, came: &[u8]) -> Pa
         Pattern::Silence(limit) => if_nothing(came, open_for(*limit, 0, observed)),
         Pattern::Open(limit) => open_for(*limit, came.len(), observed),
         Pattern::Bytes(wanted) => bytes_outcome(wanted.as_slice(), came, ended),
-        Pattern::RegisteredX(range) => answer_outcome(0x76, 6, *range, ended, answer_x(came)),
-        Pattern::RegisteredY(range) => answer_outcome(0x79, 4, *range, ended, answer_y(came)),
-        Pattern::Denied(tag, more) => refusal(*tag, *more, ended, came),
+        Pattern::Answer(tag, is_good, more) => answer_outcome(*tag, *is_good, *more, ended, came),
         Pattern::Names(check) if ended => names_outcome(check, came),
         Pattern::Names(_) => PatternOutcome::Open,
         framed => match first_body(came) {

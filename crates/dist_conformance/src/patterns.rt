@@ -1,27 +1,53 @@
 //! What a row demands of the bytes that come.
 
+ghost use Rattle.std.specs.Prelude.{◌≡◌};
+ghost use Rattle.dist_conformance.specs.Kinds.{side_of};
+
+use dist_messages::Side;
 use dist_names::{ByteString, Flags};
 
-/// Which creations will do: those from the lowest to the highest.
-#[derive(Clone, Copy)]
-pub struct CreationRange {
-    pub lowest: u32,
-    pub highest: u32,
+/// A message in which a node announces its flags.
+#[derive(Clone, Copy, PartialEq, Eq)]
+pub enum Announcement {
+    /// A name of version 6.
+    Name,
+    /// A name of version 5.
+    OldName,
+    /// A challenge of version 6.
+    Challenge,
+    /// A challenge of version 5.
+    OldChallenge,
+    /// What an old name left out.
+    Complement,
 }
 
-/// What a challenge or a name has to be, beside that it is one.
+impl Announcement {
+    /// Who sends it.
+    pub fn side(self) -> Side
+        ensures { result ≡ side_of self }
+    {
+        match self {
+            Announcement::Name | Announcement::OldName | Announcement::Complement => Side::Dialler,
+            Announcement::Challenge | Announcement::OldChallenge => Side::Acceptor,
+        }
+    }
+}
+
+/// What such a message has to be, beside that it is one.
 #[derive(Drop)]
-pub enum ChallengeCheck {
+pub enum FieldCheck {
     /// Any will do.
     Any,
     /// It has this name.
     Name(ByteString),
-    /// Its number is none of those that came before in this talk.
-    Fresh,
-    /// Its creation is one of these.
-    Creation(CreationRange),
+    /// Its creation is this one or a higher one.
+    Creation(u32),
     /// It announces these flags.
     Has(Flags),
+    /// Its challenge is none of those that came before in this talk.
+    Fresh,
+    /// No bytes stand behind its name.
+    Bare,
 }
 
 /// What the answer to a question for all names has to be, beside a port in 4 bytes and lines that all end in a line feed.
@@ -47,11 +73,10 @@ pub enum NamesCheck {
 /// | `bytes BYTES` | these bytes |
 /// | `frame BYTES` | a frame of the handshake whose body begins with these bytes |
 /// | `status WORD` | the frame of this status |
-/// | `challenge` | the frame of a challenge of version 6: `name=NAME`, `challenge=fresh`, `creation=LOW-HIGH` or `has=FLAG` |
-/// | `name` | the frame of a name of version 6: `name=NAME`, `creation=LOW-HIGH` or `has=FLAG` |
+/// | `name`, `oldname`, `challenge`, `complement` | the frame of this message: `name=NAME`, `creation>=N`, `has=FLAG`, `fresh` or `bare` |
 /// | `reply` | the frame of a reply to our challenge, 123456789 or `challenge=N`, by the cookie |
 /// | `ack` | the frame of the acknowledgement of our challenge, 123456789 or `challenge=N`, by the cookie |
-/// | `alive2x ok`, `alive2y ok` | an answer to a registration: result 0, and a creation of 4 or of 2 bytes that is not 0, or `creation=LOW-HIGH` |
+/// | `alive2x ok`, `alive2y ok` | an answer to a registration: result 0, and a creation of 4 or of 2 bytes that is not 0 |
 /// | `alive2x refused`, `alive2y refused` | the same with another result, and any creation |
 /// | `port2 known` | the answer to a lookup: a node with just these fields, which are those of `alive2` ([`SaidPart`](crate::SaidPart)) |
 /// | `port2 unknown` | the answer to a lookup with a result that is not 0 |
@@ -70,20 +95,14 @@ pub enum Pattern {
     Bytes(ByteString),
     /// `frame`.
     Frame(ByteString),
-    /// `challenge`.
-    Challenge(ChallengeCheck),
-    /// `name`.
-    Name(ChallengeCheck),
+    /// `name`, `oldname`, `challenge`, `complement`.
+    Announcement(Announcement, FieldCheck),
     /// `reply`, with our challenge.
     Reply(u32),
     /// `ack`, with our challenge.
     Ack(u32),
-    /// `alive2x ok`.
-    RegisteredX(CreationRange),
-    /// `alive2y ok`.
-    RegisteredY(CreationRange),
-    /// A first byte, a result that is not 0, and so many bytes more: `alive2x refused`, `alive2y refused`, `port2 unknown`.
-    Denied(u8, usize),
+    /// A first byte, a result and so many bytes: whether the result has to be 0 and the bytes a creation, or another one.
+    Answer(u8, bool, usize),
     /// `names`.
     Names(NamesCheck),
 }

@@ -1,18 +1,17 @@
 //! The rows of a section, as a text has them.
 
-ghost use Rattle.std.specs.Prelude.{◌≡◌, [], length, map, Ok, IfOk, MatchResult};
-ghost use Rattle.dist_conformance.specs.Sections.{head_said, is_indented, indented, row_in, rows_behind};
-ghost use Rattle.dist_conformance.specs.Sections.{behind_comments, section_of_lines, without_line_feed, section_of_text, IsRowError};
+ghost use Rattle.std.specs.Prelude.{◌≡◌, ◌-◌, [], length, map, take, Ok, MatchResult};
+ghost use Rattle.dist_conformance.specs.Sections.{is_indented, behind_front, row_in, rows_behind};
+ghost use Rattle.dist_conformance.specs.Sections.{section_of_lines, without_line_feed, section_of_text, IsRowError};
 
 use crate::faults::{ListFault, ReadFault, RowError};
-use crate::heads::{RowHead, head_in, section_in};
+use crate::heads::{head_in, section_in};
 use crate::lists::SuiteList;
-use crate::rows::{RowTalk, Section, SuiteRow};
+use crate::rows::{Section, SuiteRow};
 use crate::talks::talks_in;
 use crate::terms::SuiteNames;
 use crate::texts::split;
-use dist_names::ByteString;
-use std::alloc::{AllocError, Global};
+use std::alloc::Global;
 
 fn is_indented(line: &[u8]) -> bool
     ensures { result ≡ is_indented line.now }
@@ -20,44 +19,25 @@ fn is_indented(line: &[u8]) -> bool
     line.strip_prefix(b"  ").is_some()
 }
 
-// How many lines in front are indented.
-fn indented_count(lines: &[&[u8]]) -> usize
-    ensures { result ≡ length (indented (map (λ line. line.now) lines.now)) }
+// The lines behind those in front that begin so.
+fn behind_front<'l, 't>(lines: &'l [&'t [u8]], key: &[u8]) -> &'l [&'t [u8]]
+    ensures { map (λ line. line.now) result.now ≡ behind_front key.now (map (λ line. line.now) lines.now) }
 {
-    let mut count = 0;
-    for line in lines {
-        if !is_indented(*line) {
-            return count;
+    let mut left = lines;
+    while let [line, behind @ ..] = left {
+        if line.strip_prefix(key).is_none() {
+            break;
         }
-        count += 1;
+        left = behind;
     }
-    count
+    left
 }
 
-// The lines in front that are indented.
-fn indented_lines<'l, 't>(lines: &'l [&'t [u8]]) -> &'l [&'t [u8]]
-    ensures { map (λ line. line.now) result.now ≡ indented (map (λ line. line.now) lines.now) }
+// The lines but for so many at the end.
+fn first_lines<'l, 't>(lines: &'l [&'t [u8]], others: usize) -> &'l [&'t [u8]]
+    ensures { map (λ line. line.now) result.now ≡ take (length lines.now - others) (map (λ line. line.now) lines.now) }
 {
-    &lines[..indented_count(lines)]
-}
-
-// A row of these parts.
-fn row_of_parts(
-    alloc: Global,
-    head: RowHead<'_>,
-    talks: Vec<RowTalk>,
-) -> Result<SuiteRow, AllocError>
-    ensures { IfOk result (λ row. let h = head_said head.entry in
-        row ≡ record { id = h.id; level = h.level; source = h.source; title = h.title; marks = h.marks; talks = talks.items }) }
-{
-    Ok(SuiteRow {
-        id: ByteString::from_slice(alloc, head.id)?,
-        level: head.level,
-        source: ByteString::from_slice(alloc, head.source)?,
-        title: ByteString::from_slice(alloc, head.title)?,
-        marks: head.marks,
-        talks: SuiteList::from_vec(talks),
-    })
+    &lines[..lines.len().saturating_sub(others)]
 }
 
 // A row, by its head and the lines behind it, of so many.
@@ -72,17 +52,20 @@ fn row_of(
     ensures { let there = row_in names.entry total line.now (map (λ line. line.now) behind.now) in
         MatchResult result (λ row. there ≡ Ok row) (λ error. IsRowError error there) }
 {
-    let head = match head_in(alloc, line) {
-        Ok(head) => head,
+    let mut row = match head_in(alloc, line) {
+        Ok(row) => row,
         Err(ReadFault::Bad) => return Err(RowError::BadRow(total.saturating_sub(behind.len()))),
         Err(ReadFault::NoMemory) => return Err(RowError::NoMemory),
     };
-    let body = indented_lines(behind);
-    match talks_in(alloc, names, head.id, body) {
-        Ok(talks) => Ok(row_of_parts(alloc, head, talks)?),
+    let rest = behind_front(behind, b"  ").len();
+    let body = first_lines(behind, rest);
+    match talks_in(alloc, names, row.id.as_slice(), body) {
+        Ok(talks) => {
+            row.talks = SuiteList::from_vec(talks);
+            Ok(row)
+        }
         Err(ListFault::Bad(more)) => {
-            let last = total.saturating_sub(behind.len().saturating_sub(body.len()));
-            Err(RowError::BadStep(last.saturating_sub(more)))
+            Err(RowError::BadStep(total.saturating_sub(rest).saturating_sub(more)))
         }
         Err(ListFault::NoMemory) => Err(RowError::NoMemory),
     }
@@ -107,20 +90,6 @@ fn rows_of(
         left = behind;
     }
     Ok(rows)
-}
-
-// The lines behind the comments in front.
-fn behind_comments<'l, 't>(lines: &'l [&'t [u8]]) -> &'l [&'t [u8]]
-    ensures { map (λ line. line.now) result.now ≡ behind_comments (map (λ line. line.now) lines.now) }
-{
-    let mut left = lines;
-    while let [line, behind @ ..] = left {
-        if line.strip_prefix(b"#").is_none() {
-            break;
-        }
-        left = behind;
-    }
-    left
 }
 
 // The section of these lines, of so many.
@@ -158,15 +127,15 @@ fn without_line_feed(text: &[u8]) -> &[u8]
 /// The section that a text is, or its first bad line.
 ///
 /// A text is lines, and each ends in a line feed. Lines that begin with `#` may stand in front. Then comes `section NUMBER KIND "TITLE"`, and
-/// behind it rows: a head `row ID LEVEL SOURCE "TITLE"`, and lines that two spaces begin. Behind the source the marks `slow=MS`, `harsh`,
-/// `alone` and `since=RELEASE` may stand, in this order ([`Marks`]). The first of the lines may be `each VAR in VALUE..`; the others are
+/// behind it rows: a head `row ID LEVEL SOURCE "TITLE"`, and lines that two spaces begin. Behind the source the marks `slow=MS`, `harsh`
+/// and `alone` may stand, in this order ([`Marks`]). The first of the lines may be `each VAR in VALUE..`; the others are
 /// steps. Words have spaces between them. In steps `$VAR` stands for a value of the family, each of which makes a talk of its own; `$node`,
 /// `$host` and `$mapper` for what the suite is played against; `$short` for the talk's own short name: `0c`, the row's id with `-` for its
-/// point, in a family `x` and the talk's place, and the tag.
+/// point, `x` and the talk's place in its row, and the tag.
 pub fn read_section(alloc: Global, text: &[u8], names: &SuiteNames<'_>) -> Result<Section, RowError>
     ensures { let there = section_of_text names.now text.now in
         MatchResult result (λ section. there ≡ Ok section) (λ error. IsRowError error there) }
 {
     let lines = split(alloc, without_line_feed(text), b'\n')?;
-    section_of_lines(alloc, *names, lines.len(), behind_comments(&lines))
+    section_of_lines(alloc, *names, lines.len(), behind_front(&lines, b"#"))
 }

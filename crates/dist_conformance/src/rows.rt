@@ -1,7 +1,7 @@
 //! The rows of a section.
 
 ghost use Rattle.std.specs.Prelude.{◌≡◌};
-ghost use Rattle.dist_conformance.specs.Rows.{level_word};
+ghost use Rattle.dist_conformance.specs.Verdicts.{level_word};
 
 use crate::lists::SuiteList;
 use crate::steps::TalkStep;
@@ -37,16 +37,10 @@ impl Level {
 /// What a section's rows are played against.
 #[derive(Clone, Copy, Debug, PartialEq, Eq)]
 pub enum SectionKind {
-    /// A node that is dialled.
-    Accepts,
-    /// A node that dials.
-    Dials,
-    /// A node that is dialled, and dials.
-    Both,
+    /// A node.
+    Node,
     /// A port mapper.
     Mapper,
-    /// A node that registers itself.
-    Registers,
 }
 
 /// How a row is played.
@@ -58,8 +52,6 @@ pub struct Marks {
     pub harsh: bool,
     /// `alone`: no other talk may be on its way.
     pub alone: bool,
-    /// `since=RELEASE`: the row is demanded of this release of Erlang/OTP and later ones; 0: of all.
-    pub since: u32,
 }
 
 /// One talk of a row.
@@ -67,8 +59,6 @@ pub struct Marks {
 pub struct RowTalk {
     /// The row's id, and behind `/` the family's value: `1.5/00`.
     pub id: ByteString,
-    /// The talk's own short name.
-    pub short: ByteString,
     /// What is done, in order.
     pub steps: SuiteList<TalkStep>,
 }

@@ -1,23 +1,26 @@
 //! What is said in a step.
 
-ghost use Rattle.std.specs.Prelude.{◌≡◌, ◌++◌, option_map, IfOk, OnOk};
+ghost use Rattle.std.specs.Prelude.{◌≡◌, ◌++◌, option_map, unwrap_or, IfOk, OnOk};
 ghost use Rattle.dist_messages.specs.declared.message.Message.TheVariants as message;
 ghost use Rattle.dist_messages.specs.Canonical.{canonical};
 ghost use Rattle.dist_conformance.specs.Saying.{edited, frame_said, last_challenge, first_challenge, part_said, cut_at, bytes_said};
 
 use crate::digests::digest_to_say;
-use crate::steps::{AckTerms, ReplyTerms, SaidPart, Saying};
+use crate::steps::{DigestTerms, SaidPart, Saying};
 use dist_messages::{put_ack, put_reply};
 use dist_secret::Cookie;
 use std::alloc::{AllocError, Global};
 
-/// What was learned from what the node said on a connection. Who plays a talk keeps one behind each demand that was kept, in order.
+// Our challenge in a reply that names none.
+const OUR_CHALLENGE: u32 = 123456789;
+
+/// A challenge that came. Who plays a talk keeps one behind each demand that was kept in which one came, in order.
 #[derive(Clone, Copy)]
 pub struct Learned {
     /// The connection.
     pub conn: u8,
-    /// The node's challenge, where it said one.
-    pub challenge: Option<u32>,
+    /// The node's challenge.
+    pub challenge: u32,
 }
 
 // The challenge that came last on this connection, or 0.
@@ -27,7 +30,7 @@ fn last_challenge(conn: u8, learned: &[Learned]) -> u32
     let mut challenge = 0;
     for one in learned {
         if one.conn == conn {
-            challenge = one.challenge.unwrap_or(challenge);
+            challenge = one.challenge;
         }
     }
     challenge
@@ -37,12 +40,10 @@ fn last_challenge(conn: u8, learned: &[Learned]) -> u32
 fn first_challenge(learned: &[Learned]) -> u32
     ensures { result ≡ first_challenge learned.now }
 {
-    for one in learned {
-        if let Some(challenge) = one.challenge {
-            return challenge;
-        }
+    match learned {
+        [one, ..] => one.challenge,
+        [] => 0,
     }
-    0
 }
 
 /// Appends the frame of a body without so many of its last bytes, and with these behind it.
@@ -61,24 +62,26 @@ pub fn put_frame(
     bytes.extend_from_slice(extra)
 }
 
+// Appends a reply with this digest.
 fn put_reply_said(
     alloc: Global,
     bytes: &mut Vec<u8>,
-    reply: &ReplyTerms,
+    reply: &DigestTerms,
     digest: [u8; 16],
 ) -> Result<(), AllocError>
-    ensures { let body = canonical (message.Reply reply.now.challenge digest) in
+    ensures { let body = canonical (message.Reply (unwrap_or reply.now.challenge 123456789) digest) in
         OnOk result (bytes.new.items ≡ bytes.old.items ++ frame_said (edited body reply.now.less reply.now.extra)) }
 {
     let mut body = Vec::new(alloc);
-    put_reply(&mut body, reply.challenge, &digest)?;
+    put_reply(&mut body, reply.challenge.unwrap_or(OUR_CHALLENGE), &digest)?;
     put_frame(bytes, &body, reply.less, reply.extra.as_slice())
 }
 
+// Appends an acknowledgement with this digest.
 fn put_ack_said(
     alloc: Global,
     bytes: &mut Vec<u8>,
-    ack: &AckTerms,
+    ack: &DigestTerms,
     digest: [u8; 16],
 ) -> Result<(), AllocError>
     ensures { let body = canonical (message.Ack digest) in
@@ -100,16 +103,17 @@ fn put_part(
 ) -> Result<(), AllocError>
     ensures { OnOk result (bytes.new.items ≡ bytes.old.items ++ part_said conn learned.now cookie.now part.now) }
 {
+    let last = last_challenge(conn, learned);
+    let first = first_challenge(learned);
     match part {
         SaidPart::Bytes(said) => bytes.extend_from_slice(said.as_slice()),
         SaidPart::Reply(reply) => {
-            let challenge = last_challenge(conn, learned);
-            let digest = digest_to_say(reply.digest, cookie, challenge, first_challenge(learned));
+            let digest = digest_to_say(reply.digest, cookie, last, first);
             put_reply_said(alloc, bytes, reply, digest)
         }
         SaidPart::Ack(ack) => {
-            let challenge = ack.challenge.unwrap_or(last_challenge(conn, learned));
-            let digest = digest_to_say(ack.digest, cookie, challenge, first_challenge(learned));
+            let challenge = ack.challenge.unwrap_or(last);
+            let digest = digest_to_say(ack.digest, cookie, challenge, first);
             put_ack_said(alloc, bytes, ack, digest)
         }
     }
@@ -129,7 +133,7 @@ fn cut_at(cut: Option<u32>, mut bytes: Vec<u8>) -> Option<Vec<u8>>
     Some(bytes)
 }
 
-/// The bytes of a step `say` on this connection, by the cookie of the node under test and what was learned in this talk.
+/// The bytes of a step `say` on this connection, by the cookie of the node under test and the challenges that came in this talk.
 ///
 /// `None`: the step cuts them behind so many bytes, and there are no more than that; the talk cannot be played.
 pub fn bytes_to_say(

@@ -6,23 +6,10 @@ use crate::patterns::Pattern;
 use dist_epmd::NodeInfo;
 use dist_names::ByteString;
 
-/// What a reply says, but for what the node says before it.
+/// What a reply or an acknowledgement says, but for what the node says before it.
 #[derive(Drop)]
-pub struct ReplyTerms {
-    /// Our challenge.
-    pub challenge: u32,
-    /// Which digest it has.
-    pub digest: ReplyDigest,
-    /// How many of its last bytes are left out.
-    pub less: usize,
-    /// What stands behind it in its frame.
-    pub extra: ByteString,
-}
-
-/// What an acknowledgement says.
-#[derive(Drop)]
-pub struct AckTerms {
-    /// The challenge that its digest is of, if not the one that came last on the connection.
+pub struct DigestTerms {
+    /// Our challenge in a reply, if not the usual one; the challenge that is acknowledged, if not the one that came last on the connection.
     pub challenge: Option<u32>,
     /// Which digest it has.
     pub digest: ReplyDigest,
@@ -36,11 +23,10 @@ pub struct AckTerms {
 ///
 /// | Word | Fields | Says |
 /// |---|---|---|
-/// | `name` | `flags=` `creation=` `name=` or `namehex=` `less=` `extra=` | a name of version 6 |
-/// | `oldname` | the same without a creation | a name of version 5 |
+/// | `name`, `oldname` | `flags=` `challenge=` `creation=` `name=` or `namehex=` `extra=` | a name of version 6, of version 5 |
+/// | `challenge`, `oldchallenge` | the same | a challenge of version 6, of version 5 |
+/// | `complement` | the same | what an old name left out |
 /// | `status` | WORD | a status, of either side |
-/// | `challenge` | `flags=` `challenge=` `creation=` `name=` or `namehex=` `less=` `extra=` | a challenge of version 6 |
-/// | `complement` | `flags=` `creation=` `less=` `extra=` | what an old name left out |
 /// | `reply` | `challenge=` `digest=` `less=` `extra=` | a reply to the challenge that came last on the connection |
 /// | `ack` | `challenge=` `digest=` `less=` `extra=` | an acknowledgement of the challenge that came last on the connection, or of this one |
 /// | `tick` | | a tick |
@@ -51,17 +37,18 @@ pub struct AckTerms {
 /// | `raw` | BYTES | these bytes |
 ///
 /// Usual are the talk's own name, the flags 403070f94 of releases from OTP 26 on, creation 77, challenge 123456789, the right digest,
-/// port 9009, type 77, protocol 0, versions 6 and 5. Flags are `0x` and digits, or `FLAG` and `-FLAG`: the usual ones with or without this
-/// one. BYTES are hexadecimal digits; `HEX*N` has the last byte N times. `less=` leaves out the last bytes of a body, and `extra=`
-/// puts bytes behind it, so that a row can ask for a fault; the frame's length counts what is there.
+/// port 9009, type 77, protocol 0, versions 6 and 5. A message says those of its fields that it has. Flags are `0x` and digits, or `FLAG`
+/// and `-FLAG`: the usual ones with or without this one. BYTES are hexadecimal digits; `HEX*N` has the last byte N times. `less=` leaves
+/// out the last bytes of a body, and `extra=` puts bytes behind it, so that a row can ask for a fault; the frame's length counts what is
+/// there.
 #[derive(Drop)]
 pub enum SaidPart {
     /// These bytes, whatever the node says.
     Bytes(ByteString),
     /// A reply.
-    Reply(ReplyTerms),
+    Reply(DigestTerms),
     /// An acknowledgement.
-    Ack(AckTerms),
+    Ack(DigestTerms),
 }
 
 /// A step `say MESSAGE + MESSAGE.., cut=N pieces=N pause=MS`: what is written on a connection, and how.

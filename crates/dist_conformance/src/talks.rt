@@ -1,9 +1,8 @@
 //! The talks of a row.
 
-ghost use Rattle.std.specs.Prelude.{◌≡◌, [], map, option_map, IfOk};
+ghost use Rattle.std.specs.Prelude.{◌≡◌, [], map, IfOk};
 ghost use Rattle.dist_conformance.specs.Lists.{ReadsList};
-ghost use Rattle.dist_conformance.specs.Sections.{taken, family_in, family_said, no_family, is_family};
-ghost use Rattle.dist_conformance.specs.Sections.{row_said, short_name, talk_id, talk_in, talks_behind, body_in};
+ghost use Rattle.dist_conformance.specs.Sections.{row_said, short_name, talk_id, talk_in, talks_behind, talk_alone, talks_by, body_in};
 
 use crate::faults::ListFault;
 use crate::from_text::all_of;
@@ -11,51 +10,9 @@ use crate::lists::SuiteList;
 use crate::rows::RowTalk;
 use crate::terms::{SuiteNames, TalkTerms};
 use crate::texts::words_of;
-use crate::words::LineWords;
 use dist_names::{ByteString, is_same_text};
 use itoa::Buffer;
 use std::alloc::{AllocError, Global};
-
-// A family: a word, and what it stands for in each talk.
-#[derive(Drop)]
-struct Family<'t> {
-    variable: &'t [u8],
-    values: Vec<&'t [u8]>,
-}
-
-// The family that a line is: `each VAR in VALUE..`.
-fn family_line<'t>(alloc: Global, line: &'t [u8]) -> Result<Option<Family<'t>>, AllocError>
-    ensures { IfOk result (λ family. option_map family_said family ≡ family_in line.now) }
-{
-    let words = words_of(alloc, line)?;
-    match words.as_slice() {
-        [each, variable, between, values @ ..]
-            if is_same_text(*each, b"each") && is_same_text(*between, b"in") => {
-            Ok(Some(Family {
-                variable: *variable,
-                values: Vec::from_slice(alloc, values)?,
-            }))
-        }
-        _ => Ok(None),
-    }
-}
-
-// The family of a row, whose line is taken where the next one is one. A row that is none is one of a single value, for a word that no
-// text has.
-fn row_family<'t>(alloc: Global, lines: &mut LineWords<'t>) -> Result<Family<'t>, AllocError>
-    ensures { IfOk result (λ family. (family_said family, lines.new) ≡ taken family_in no_family lines.old) }
-{
-    if let Some(line) = lines.first() {
-        if let Some(family) = family_line(alloc, line)? {
-            let _ = lines.next();
-            return Ok(family);
-        }
-    }
-    Ok(Family {
-        variable: b"$",
-        values: Vec::from_slice(alloc, &[b"" as &[u8]])?,
-    })
-}
 
 // What the talks of a row share.
 #[derive(Clone, Copy)]
@@ -67,15 +24,8 @@ struct RowTerms<'t> {
 }
 
 impl RowTerms<'_> {
-    // Whether the row is a family.
-    fn is_family(&self) -> bool
-        ensures { result ≡ is_family self.now.variable.now }
-    {
-        !is_same_text(self.variable, b"$")
-    }
-
-    // The short name of the talk in this place: the row's id, and the place in a family, so that each talk has a name of its own, and
-    // the same one in each run.
+    // The short name of the talk in this place: the row's id and the place, so that each talk has a name of its own, and the same one in
+    // each run.
     fn short_name(&self, alloc: Global, place: usize) -> Result<Vec<u8>, AllocError>
         ensures { IfOk result (λ name. name.items ≡ short_name (row_said self.now) place) }
     {
@@ -83,11 +33,9 @@ impl RowTerms<'_> {
         for byte in self.id {
             name.push(if *byte == b'.' { b'-' } else { *byte })?;
         }
-        if self.is_family() {
-            let mut buffer = Buffer::new();
-            name.push(b'x')?;
-            name.extend_from_slice(buffer.format(place).as_bytes())?;
-        }
+        let mut buffer = Buffer::new();
+        name.push(b'x')?;
+        name.extend_from_slice(buffer.format(place).as_bytes())?;
         name.extend_from_slice(self.names.tag)?;
         Ok(name)
     }
@@ -97,7 +45,7 @@ impl RowTerms<'_> {
         ensures { IfOk result (λ id. id ≡ talk_id (row_said self.now) value.now) }
     {
         let mut id = Vec::from_slice(alloc, self.id)?;
-        if self.is_family() {
+        if !value.is_empty() {
             id.push(b'/')?;
             id.extend_from_slice(value)?;
         }
@@ -118,11 +66,7 @@ impl RowTerms<'_> {
         };
         let steps = SuiteList::from_vec(all_of(alloc, &terms, self.steps)?);
         let id = self.talk_id(alloc, value)?;
-        Ok(RowTalk {
-            id,
-            short: ByteString::from_vec(short),
-            steps,
-        })
+        Ok(RowTalk { id, steps })
     }
 }
 
@@ -137,7 +81,40 @@ fn talks_of(alloc: Global, row: &RowTerms<'_>, values: &[&[u8]]) -> Result<Vec<R
     Ok(talks)
 }
 
+// The only talk of a row that is no family.
+fn talk_alone(alloc: Global, row: &RowTerms<'_>) -> Result<Vec<RowTalk>, ListFault>
+    ensures { ReadsList (λ talks. talks.items) result (talk_alone (row_said row.now)) }
+{
+    talks_of(alloc, row, &[b"" as &[u8]])
+}
+
+// The talks of a row whose first line has these words, behind which these lines stand: a family's where they are `each VAR in VALUE..`.
+fn talks_by(
+    alloc: Global,
+    row: &RowTerms<'_>,
+    lines: &[&[u8]],
+    words: &[&[u8]],
+) -> Result<Vec<RowTalk>, ListFault>
+    ensures { let there = talks_by (row_said row.now) (map (λ line. line.now) lines.now) (map (λ word. word.now) words.now) in
+        ReadsList (λ talks. talks.items) result there }
+{
+    match words {
+        [each, variable, between, values @ ..]
+            if is_same_text(*each, b"each") && is_same_text(*between, b"in") => {
+            let family = RowTerms {
+                names: row.names,
+                id: row.id,
+                variable: *variable,
+                steps: lines,
+            };
+            talks_of(alloc, &family, values)
+        }
+        _ => talk_alone(alloc, row),
+    }
+}
+
 /// The talks of a row with this id, by the lines behind its head.
+#[tactic(auto, unfolding(crate::specs::Sections::body_in))]
 pub fn talks_in(
     alloc: Global,
     names: SuiteNames<'_>,
@@ -146,13 +123,16 @@ pub fn talks_in(
 ) -> Result<Vec<RowTalk>, ListFault>
     ensures { ReadsList (λ talks. talks.items) result (body_in names.entry id.now (map (λ line. line.now) lines.now)) }
 {
-    let mut left = LineWords::new(lines);
-    let family = row_family(alloc, &mut left)?;
+    // A word that no text has.
     let row = RowTerms {
         names,
         id,
-        variable: family.variable,
-        steps: left.rest(),
+        variable: b"$",
+        steps: lines,
     };
-    talks_of(alloc, &row, &family.values)
+    let [line, others @ ..] = lines else {
+        return talk_alone(alloc, &row);
+    };
+    let words = words_of(alloc, *line)?;
+    talks_by(alloc, &row, others, &words)
 }

@@ -36,6 +36,7 @@ pub struct TalkTerms<'a> {
 
 impl<'a> TalkTerms<'a> {
     // Each word, and what it stands for.
+    #[tactic(auto, unfolding(crate::specs::Terms::table_of))]
     fn table(&self) -> [(&'a [u8], &'a [u8]); 5]
         ensures { map (λ row. (row.0.now, row.1.now)) result ≡ table_of (terms_of self.now) }
     {
@@ -60,6 +61,7 @@ impl<'a> TalkTerms<'a> {
 }
 
 // What the first word of the table stands for with which a text begins, and what stands behind it.
+#[tactic(auto, unfolding(crate::specs::Terms::filled))]
 fn fill<'a>(table: &[(&'a [u8], &'a [u8])], text: &'a [u8]) -> Option<(&'a [u8], &'a [u8])>
     ensures { option_map (λ found. found.0.now ++ found.1.now) result ≡ filled (map (λ row. (row.0.now, row.1.now)) table.now) text.now }
 {
@@ -72,6 +74,7 @@ fn fill<'a>(table: &[(&'a [u8], &'a [u8])], text: &'a [u8]) -> Option<(&'a [u8],
 }
 
 // This text, and then each of the others with a word of the table in front, filled.
+#[tactic(auto, unfolding(crate::specs::Terms::filled_behind))]
 fn fill_all<'a>(
     table: &[(&'a [u8], &'a [u8])],
     mut whole: Vec<u8>,
@@ -91,6 +94,7 @@ fn fill_all<'a>(
 }
 
 /// A text for one talk: each word behind a `$` replaced by what it stands for. It is bad where one stands for nothing.
+#[tactic(auto, unfolding(crate::specs::Terms::expanded))]
 pub fn expand(alloc: Global, terms: &TalkTerms<'_>, text: &[u8]) -> Result<Vec<u8>, ReadFault>
     ensures { MatchResult result (λ whole. expanded (terms_of terms.now) text.now ≡ Some whole.items)
         (λ fault. fault ≡ Bad → expanded (terms_of terms.now) text.now ≡ None) }

@@ -1,8 +1,8 @@
-//! The words that are left of a line, or the lines that are left of a row.
+//! The words that are left of a line.
 
-ghost use Rattle.std.specs.Prelude.{◌≡◌, ◌↔◌, ◌∷◌, [], drop, map, option_map, IsTrue, MatchOption, MatchResult};
+ghost use Rattle.std.specs.Prelude.{◌≡◌, ◌∷◌, [], drop, map, Some, None, MatchOption, MatchResult};
 ghost use Rattle.dist_conformance.specs.declared.faults.ReadFault.TheVariants.{Bad};
-ghost use Rattle.dist_conformance.specs.Words.{value_in, list_first};
+ghost use Rattle.dist_conformance.specs.Words.{Reads, value_in, whole};
 
 use crate::faults::ReadFault;
 use std::marker::Model;
@@ -29,45 +29,19 @@ impl<'a> LineWords<'a> {
         LineWords { left }
     }
 
-    /// Those that are left.
-    pub fn rest(&self) -> &'a [&'a [u8]]
-        ensures { map (λ word. word.now) result.now ≡ self.now }
-    {
-        self.left
-    }
-
-    /// The next one, which stays.
-    pub fn first(&self) -> Option<&'a [u8]>
-        ensures { option_map (λ word. word.now) result ≡ list_first self.now }
-    {
-        match self.left {
-            [word, ..] => Some(*word),
-            [] => None,
-        }
-    }
-
-    /// Takes the next one, or returns `None` where none is left.
-    pub fn next(&mut self) -> Option<&'a [u8]>
-        ensures { MatchOption result ((self.old ≡ []) × (self.new ≡ [])) (λ word. self.old ≡ word.now ∷ self.new) }
-    {
-        let [word, rest @ ..] = self.left else {
-            return None;
-        };
-        self.left = rest;
-        Some(*word)
-    }
-
     /// Takes the next one, which has to be there.
     pub fn word(&mut self) -> Result<&'a [u8], ReadFault>
         ensures { MatchResult result (λ word. self.old ≡ word.now ∷ self.new) (λ fault. (fault ≡ Bad) × (self.old ≡ []) × (self.new ≡ [])) }
     {
-        match self.next() {
-            Some(word) => Ok(word),
-            None => Err(ReadFault::Bad),
-        }
+        let [word, rest @ ..] = self.left else {
+            return Err(ReadFault::Bad);
+        };
+        self.left = rest;
+        Ok(*word)
     }
 
     /// Takes the next one where it begins with this key, and returns what stands behind the key. Otherwise it changes nothing.
+    #[tactic(auto, unfolding(crate::specs::Words::value_in))]
     pub fn value(&mut self, key: &[u8]) -> Option<&'a [u8]>
         ensures { MatchOption result ((value_in key.now self.old ≡ None) × (self.new ≡ self.old))
             (λ value. (value_in key.now self.old ≡ Some value.now) × (self.new ≡ drop 1 self.old)) }
@@ -80,10 +54,14 @@ impl<'a> LineWords<'a> {
         Some(value)
     }
 
-    /// Whether none is left.
-    pub fn is_done(&self) -> bool
-        ensures { IsTrue result ↔ (self.now ≡ []) }
+    /// This value of all words, if none is left.
+    pub fn whole<T: Drop>(&self, value: T) -> Result<T, ReadFault>
+        ensures { Reads result (whole (Some (value, self.now))) }
     {
-        self.left.is_empty()
+        if self.left.is_empty() {
+            Ok(value)
+        } else {
+            Err(ReadFault::Bad)
+        }
     }
 }

@@ -42,7 +42,7 @@ pub fn list_of(alloc: Global, suite: &[SuiteFile]) -> Result<String, AllocError>
 // Whether a line begins the row with this id.
 fn begins_row(line: &str, id: &str) -> bool {
     let mut words = line.split_whitespace();
-    matches!(words.next(), Some("row")) && words.next().is_some_and(|word| word == id)
+    words.next() == Some("row") && words.next() == Some(id)
 }
 
 // Adds the lines of a row: that which begins it, and those behind it that begin with a space.

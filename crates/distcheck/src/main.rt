@@ -113,7 +113,8 @@ fn follow<R: Resolving + Sync>(
     order: &CheckOrder<'_>,
 ) -> Result<u8, Fault> {
     let alloc = rt.alloc();
-    let port = format!(in alloc; "{}", order.mapper.map_or(0, |(_, port)| port))?;
+    let (_, port) = order.mapper.unwrap_or(("", 0));
+    let port = format!(in alloc; "{port}")?;
     let suite = read_suite(rt, order, &names_of(order, port.as_bytes()))?;
     if let Some(id) = order.explain {
         print(rt, &explanation_of(alloc, &suite, id)?)?;
@@ -209,8 +210,10 @@ fn put_report(
         report_of(alloc, &rows, &results, order.strict)?
     };
     print(rt, &text)?;
-    match played.iter().find(|talk| talk.record.is_refused) {
-        Some(talk) => Err(Fault::Gone(escape(alloc, talk.queued.talk.id.as_slice())?)),
-        None => Ok(exit),
+    for talk in played {
+        if talk.record.is_refused {
+            return Err(Fault::Gone(escape(alloc, talk.queued.talk.id.as_slice())?));
+        }
     }
+    Ok(exit)
 }

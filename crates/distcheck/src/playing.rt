@@ -57,6 +57,20 @@ pub struct TalkRecord<'a> {
     pub transcript: Vec<TranscriptLine>,
 }
 
+impl<'a> TalkRecord<'a> {
+    /// That of a talk of which nothing was played.
+    pub fn new(alloc: Global, verdict: TalkVerdict, why: String) -> TalkRecord<'a> {
+        TalkRecord {
+            verdict,
+            wanted: b"",
+            why,
+            took: 0,
+            is_refused: false,
+            transcript: Vec::new(alloc),
+        }
+    }
+}
+
 // The verdict that ends a talk before its last step, if one does.
 type Halt = Option<TalkVerdict>;
 
@@ -78,14 +92,6 @@ impl<'a> TalkPlay<'a> {
     // A talk of which nothing is played yet.
     fn begin(setting: &Setting<'a>, limit: u32) -> Result<TalkPlay<'a>, Fault> {
         let alloc = setting.rt.alloc();
-        let record = TalkRecord {
-            verdict: TalkVerdict::Kept,
-            wanted: b"",
-            why: String::new(alloc),
-            took: 0,
-            is_refused: false,
-            transcript: Vec::new(alloc),
-        };
         Ok(TalkPlay {
             setting: *setting,
             alloc,
@@ -94,7 +100,7 @@ impl<'a> TalkPlay<'a> {
             links: Vec::new(alloc),
             call: None,
             learned: Vec::new(alloc),
-            record,
+            record: TalkRecord::new(alloc, TalkVerdict::Kept, String::new(alloc)),
         })
     }
 
@@ -202,10 +208,12 @@ impl<'a> TalkPlay<'a> {
         let count = passage.count.min(link.came.len());
         self.note(link.conn, Speaker::Peer, &link.came[..count], link.ending())?;
         let _ = link.came.drain(..count);
-        self.learned.push(Learned {
-            conn: link.conn,
-            challenge: passage.challenge,
-        })?;
+        if let Some(challenge) = passage.challenge {
+            self.learned.push(Learned {
+                conn: link.conn,
+                challenge,
+            })?;
+        }
         Ok(None)
     }
 

@@ -56,10 +56,12 @@ fn lane_of(marks: &Marks, order: &CheckOrder<'_>) -> Lane {
 
 // Whether the node has to dial in a talk.
 fn has_call(talk: &RowTalk) -> bool {
-    talk.steps
-        .as_slice()
-        .iter()
-        .any(|step| matches!(step.action, Action::Call(_)))
+    for step in talk.steps.as_slice() {
+        if matches!(step.action, Action::Call(_)) {
+            return true;
+        }
+    }
+    false
 }
 
 // Whether the node's name stands between those of talks, so that they are lesser where they begin with `0c`, and greater with `zz`.
@@ -86,9 +88,8 @@ fn lane_of_talk(talk: &RowTalk, lane: Lane, order: &CheckOrder<'_>) -> Lane {
 // Whether there is somebody to play the rows of a section with.
 fn has_partner(section: &Section, setting: &Setting<'_>) -> bool {
     match section.kind {
-        SectionKind::Accepts | SectionKind::Dials | SectionKind::Both => setting.node.is_some(),
+        SectionKind::Node => setting.node.is_some(),
         SectionKind::Mapper => setting.mapper.is_some(),
-        SectionKind::Registers => false,
     }
 }
 

@@ -15,7 +15,10 @@ pub const TURNS: usize = 4096;
 
 /// When a connect, or a call of the port mapper, that begins now has to be done.
 pub fn deadline(rt: &HostRuntime) -> Result<Instant, Fault> {
-    deadline_in(rt, CONNECT_SECONDS).map_err(|_| Fault::NoTime)
+    match deadline_in(rt, CONNECT_SECONDS) {
+        Ok(until) => Ok(until),
+        Err(_) => Err(Fault::NoTime),
+    }
 }
 
 // The addresses of a host.

@@ -31,7 +31,41 @@ pub struct PlayedRow<'a> {
     pub result: RowResult,
 }
 
-impl PlayedRow<'_> {
+impl<'a> PlayedRow<'a> {
+    // A row of which this is the first talk.
+    fn begin(talk: &'a PlayedTalk<'a>) -> PlayedRow<'a> {
+        PlayedRow {
+            queued: talk.queued,
+            record: &talk.record,
+            count: 1,
+            talks: 1,
+            result: RowResult {
+                level: talk.queued.row.level,
+                verdict: talk.record.verdict,
+            },
+        }
+    }
+
+    // Adds a further talk.
+    fn add(&mut self, talk: &'a PlayedTalk<'a>) {
+        let verdict = worst(&[self.result.verdict, talk.record.verdict]);
+        self.talks = self.talks.saturating_add(1);
+        if verdict != self.result.verdict {
+            self.queued = talk.queued;
+            self.record = &talk.record;
+            self.count = 0;
+            self.result.verdict = verdict;
+        }
+        if verdict == talk.record.verdict {
+            self.count = self.count.saturating_add(1);
+        }
+    }
+
+    // Whether a talk is of this row.
+    fn has(&self, talk: &PlayedTalk<'_>) -> bool {
+        self.queued.row.id.as_slice() == talk.queued.row.id.as_slice()
+    }
+
     /// The number of its section.
     pub fn number(&self) -> u32 {
         self.queued.file.section.number
@@ -45,47 +79,21 @@ pub fn count_in(rows: &[PlayedRow<'_>], verdict: TalkVerdict) -> usize {
         .count()
 }
 
-// Whether two talks are of one row.
-fn is_same_row(one: &PlayedTalk<'_>, other: &PlayedTalk<'_>) -> bool {
-    one.queued.row.id.as_slice() == other.queued.row.id.as_slice()
-}
-
-// The worst verdict of these talks.
-fn worst_of(alloc: Global, talks: &[PlayedTalk<'_>]) -> Result<TalkVerdict, AllocError> {
-    let mut verdicts = Vec::new(alloc);
-    for talk in talks {
-        verdicts.push(talk.record.verdict)?;
-    }
-    Ok(worst(&verdicts))
-}
-
-// How many of these talks have this verdict.
-fn count_of_talks(talks: &[PlayedTalk<'_>], verdict: TalkVerdict) -> usize {
-    talks
-        .iter()
-        .filter(|talk| talk.record.verdict == verdict)
-        .count()
-}
-
 /// The rows of these talks, in their order.
 pub fn rows_of<'a>(
     alloc: Global,
     played: &'a [PlayedTalk<'a>],
 ) -> Result<Vec<PlayedRow<'a>>, AllocError> {
-    let mut rows = Vec::new(alloc);
-    for talks in played.chunk_by(|one, other| is_same_row(one, other)) {
-        let verdict = worst_of(alloc, talks)?;
-        if let Some(first) = talks.iter().find(|talk| talk.record.verdict == verdict) {
-            rows.push(PlayedRow {
-                queued: first.queued,
-                record: &first.record,
-                count: count_of_talks(talks, verdict),
-                talks: talks.len(),
-                result: RowResult {
-                    level: first.queued.row.level,
-                    verdict,
-                },
-            })?;
+    let mut rows: Vec<PlayedRow<'a>> = Vec::new(alloc);
+    for talk in played {
+        let is_further = match rows.last() {
+            Some(row) => row.has(talk),
+            None => false,
+        };
+        if !is_further {
+            rows.push(PlayedRow::begin(talk))?;
+        } else if let Some(row) = rows.last_mut() {
+            row.add(talk);
         }
     }
     Ok(rows)

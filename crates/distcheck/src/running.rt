@@ -44,14 +44,8 @@ struct TalkCrew<'a> {
 
 // The record of a talk that is not played, for this reason.
 fn skip<'a>(alloc: Global, why: &str) -> Result<TalkRecord<'a>, AllocError> {
-    Ok(TalkRecord {
-        verdict: TalkVerdict::Skipped,
-        wanted: b"",
-        why: why.to_owned(alloc)?,
-        took: 0,
-        is_refused: false,
-        transcript: Vec::new(alloc),
-    })
+    let why = why.to_owned(alloc)?;
+    Ok(TalkRecord::new(alloc, TalkVerdict::Skipped, why))
 }
 
 // Whether a first try decides alone: a second one may find a machine that is less busy.

@@ -20,7 +20,10 @@ pub fn milliseconds_since(rt: &HostRuntime, since: Instant) -> Result<u32, Fault
 
 /// Now.
 pub fn now(rt: &HostRuntime) -> Result<Instant, Fault> {
-    Instant::now(rt).map_err(|_| Fault::NoTime)
+    match Instant::now(rt) {
+        Ok(now) => Ok(now),
+        Err(_) => Err(Fault::NoTime),
+    }
 }
 
 /// Has what came judged, again and again, until that is decided: within `limit` milliseconds.

@@ -1,4 +1,4 @@
-use Rattle.std.proofs.Common.{◌≡◌, ◌≤◌, List, [], sym, subst}
+use Rattle.std.proofs.Common.{◌≤◌, [], sym, subst}
 use Rattle.std.specs.Prelude.{◌≢◌, All, Contains}
 use Rattle.dist_conformance.specs.declared.verdicts.TalkVerdict.{TalkVerdict}
 use Rattle.dist_conformance.specs.Verdicts.{rank_of}
