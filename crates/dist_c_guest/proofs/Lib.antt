@@ -10,3 +10,4 @@ pub mod Clusters
 pub mod Held
 pub mod Shown
 pub mod UpStays
+pub mod AsBox

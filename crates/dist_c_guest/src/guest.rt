@@ -3,19 +3,15 @@ ghost use Rattle.std.specs.Prelude.{◌≡◌, ◌≢◌, ℕ, List, None, Err, 
 ghost use Rattle.dist_core.specs.Answers.{GivesReply, Refuses};
 ghost use Rattle.dist_core.specs.Losses.{is_loss};
 ghost use Rattle.std.specs.Option.{option_or};
-ghost use Rattle.std.specs.Int.{w16};
 ghost use Rattle.dist_core.specs.Step.{step};
-ghost use Rattle.dist_frames.specs.Stream.{first_body};
 ghost use Rattle.dist_c_guest.specs.Forms.{allowed_names};
 ghost use Rattle.dist_c_guest.specs.Reading.{expansion};
-ghost use Rattle.dist_c_guest.specs.Calls.{IsCall, IsForeseen, IsReceived, answer_to, first_guest, frame_to};
+ghost use Rattle.dist_c_guest.specs.Calls.{IsCall, answer_to, first_guest, frame_to};
 
 use crate::asking::wider;
-use crate::call_error::CallError;
 use crate::reading::{Reading, expand};
 use crate::statuses::status_received;
 use dist_core::{Event, NameList, Node, Reply, Setup, StepError};
-use dist_frames::first_body;
 use dist_messages::Status;
 use dist_names::ByteString;
 use dist_peers::EndId;
@@ -30,7 +26,7 @@ pub struct Guest {
     pub last: Option<Reply>,
     /// The status in the frame that the newest step took, where it took one and that is one.
     pub received_status: Option<Status>,
-    /// How it reads the frames that come to `take` and `receive`.
+    /// How it reads the frames that come to `take`.
     pub reading: Reading,
 }
 
@@ -115,45 +111,5 @@ impl Guest {
             return Err(self.refusal(alloc, id));
         };
         self.answer_with(alloc, names, &Event::Frame { end_: id, body }, fresh)
-    }
-
-    /// Makes the step of the frame at the front of these bytes, and returns how many bytes it has with its length. Where
-    /// none is whole yet, or the step is refused, nothing changes.
-    pub fn receive(
-        &mut self,
-        alloc: Global,
-        id: EndId,
-        bytes: &[u8],
-        fresh: u32,
-    ) -> Result<usize, CallError>
-        ensures { IsReceived result id fresh (first_body w16 bytes.now) self.old self.new }
-    {
-        let Some(body) = first_body(bytes) else {
-            return Err(CallError::Awaits);
-        };
-        match self.take(alloc, id, body, fresh) {
-            Ok(()) => Ok(2 + body.len()),
-            Err(error) => Err(CallError::Step(error)),
-        }
-    }
-
-    /// What `receive` would return, which changes nothing: the reply, and how many bytes the frame has with its length.
-    pub fn ready(
-        &mut self,
-        alloc: Global,
-        id: EndId,
-        bytes: &[u8],
-        fresh: u32,
-    ) -> Result<(Reply, usize), CallError>
-        ensures reply { IsForeseen result id fresh (first_body w16 bytes.now) self.old }
-        ensures same { self.new ≡ self.old }
-    {
-        let Some(body) = first_body(bytes) else {
-            return Err(CallError::Awaits);
-        };
-        match self.foresee(alloc, id, body, fresh) {
-            Ok(reply) => Ok((reply, 2 + body.len())),
-            Err(error) => Err(CallError::Step(error)),
-        }
     }
 }

@@ -1,8 +1,9 @@
-//! The status that a body spells.
-ghost use Rattle.std.specs.Prelude.{◌≡◌, ◌∷◌, ℕ, List};
+//! The status that a body spells, and its number.
+ghost use Rattle.std.specs.Prelude.{◌≡◌, ◌∷◌, ℕ, List, option_and_then};
 ghost use Rattle.dist_messages.specs.Reading.{read};
-ghost use Rattle.dist_c_guest.specs.Statuses.{status_in, status_of, status_received, status_sent};
+ghost use Rattle.dist_c_guest.specs.Statuses.{status_in, status_number, status_of, status_received, status_sent};
 
+use crate::guest::Guest;
 use dist_core::{Event, Reply};
 use dist_frames::first_body;
 use dist_messages::{Message, Side, Status, decode};
@@ -51,4 +52,30 @@ pub fn status_sent(alloc: Global, reply: &Reply) -> Option<Status>
     ensures { result ≡ status_sent reply.now }
 {
     status_of(alloc, first_body(reply.say.as_slice())?)
+}
+
+/// The number by which C knows a status, and 0 where there is none.
+pub fn status_number(status: Option<Status>) -> u32
+    ensures { result ≡ status_number status }
+{
+    match status {
+        None => 0,
+        Some(Status::Ok) => 1,
+        Some(Status::OkSimultaneous) => 2,
+        Some(Status::Nok) => 3,
+        Some(Status::NotAllowed) => 4,
+        Some(Status::Alive) => 5,
+        Some(Status::True) => 6,
+        Some(Status::False) => 7,
+    }
+}
+
+/// The status that the newest step sent.
+pub fn newest_status(guest: &Guest, alloc: Global) -> Option<Status>
+    ensures { result ≡ option_and_then status_sent guest.now.last }
+{
+    match &guest.last {
+        Some(reply) => status_sent(alloc, reply),
+        None => None,
+    }
 }

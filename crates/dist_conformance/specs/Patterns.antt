@@ -68,10 +68,6 @@ abbrev pub looked_up : Terms → Bool → List (List ℕ) → Read Pattern
 looked_up t true words = info t words >>= (λ i. result_ok (written_answer (answer.Port (Ok i.0))) >>= (λ bytes. give (pattern.Bytes bytes) i.1))
 looked_up t false words = give (pattern.Answer 0x77 false 0) words
 
--- the frame of a status
-abbrev pub status_frame : List ℕ → Option Pattern
-status_frame text = option_map (λ frame. pattern.Bytes frame) (status_said text)
-
 -- ---- patterns
 
 abbrev pub pattern_words : List (List ℕ × PatternWord)
@@ -90,7 +86,7 @@ behind_word t word.Silence words = field [] (number_in 4294967295) 0 words >>= (
 behind_word t word.Open words = field [] (number_in 4294967295) 0 words >>= (λ n. give (pattern.Open n.0) n.1)
 behind_word t word.Bytes words = field [] bytes_in [] words >>= (λ b. give (pattern.Bytes b.0) b.1)
 behind_word t word.Frame words = field [] bytes_in [] words >>= (λ b. give (pattern.Frame b.0) b.1)
-behind_word t word.Status words = next_in status_frame words
+behind_word t word.Status words = next_in status_said words >>= (λ frame. give (pattern.Bytes frame.0) frame.1)
 behind_word t (word.Announcement k) words = field_check words >>= (λ c. give (pattern.Announcement k c.0) c.1)
 behind_word t word.Reply words = field (codes "challenge=") (number_in 4294967295) 123456789 words >>= (λ n. give (pattern.Reply n.0) n.1)
 behind_word t word.Ack words = field (codes "challenge=") (number_in 4294967295) 123456789 words >>= (λ n. give (pattern.Ack n.0) n.1)

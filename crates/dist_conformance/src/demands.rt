@@ -3,7 +3,7 @@
 ghost use Rattle.std.specs.Prelude.{◌≡◌, IfOk};
 ghost use Rattle.dist_conformance.specs.Terms.{terms_of};
 ghost use Rattle.dist_conformance.specs.Words.{Reads, ReadsUpTo};
-ghost use Rattle.dist_conformance.specs.Patterns.{mark_check, field_check, names_line, names_check, looked_up, status_frame, behind_word};
+ghost use Rattle.dist_conformance.specs.Patterns.{mark_check, field_check, names_line, names_check, looked_up, behind_word};
 ghost use Rattle.dist_conformance.specs.Patterns.{pattern_in, sequence_in, alternatives_in, demand_in};
 
 use crate::faults::ReadFault;
@@ -133,13 +133,6 @@ fn names_check(alloc: Global, words: &mut LineWords<'_>) -> Result<NamesCheck, R
     }
 }
 
-// The frame of a status.
-fn status_frame(alloc: Global, word: &[u8]) -> Result<Pattern, ReadFault>
-    ensures { Reads result (status_frame word.now) }
-{
-    Ok(Pattern::Bytes(status_said(alloc, word)?))
-}
-
 // The answer to a lookup: a node, or none.
 fn lookup_answer(
     alloc: Global,
@@ -175,7 +168,7 @@ fn pattern_of(
         PatternWord::Open => Ok(Pattern::Open(number_field(words, b"", 0, u32::MAX)?)),
         PatternWord::Bytes => Ok(Pattern::Bytes(bytes_field(alloc, words, b"")?)),
         PatternWord::Frame => Ok(Pattern::Frame(bytes_field(alloc, words, b"")?)),
-        PatternWord::Status => status_frame(alloc, words.word()?),
+        PatternWord::Status => Ok(Pattern::Bytes(status_said(alloc, words.word()?)?)),
         PatternWord::Announcement(kind) => {
             Ok(Pattern::Announcement(kind, field_check(alloc, words)?))
         }

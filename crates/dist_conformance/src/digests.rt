@@ -9,7 +9,7 @@ use itoa::Buffer;
 use md5::{Digest, Md5};
 
 /// Which digest a reply has. All but the first are wrong.
-#[derive(Clone, Copy, Debug, PartialEq, Eq)]
+#[derive(Clone, Copy)]
 pub enum ReplyDigest {
     /// `right`: of the cookie, and then the challenge in decimal digits.
     Right,

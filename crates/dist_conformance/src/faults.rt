@@ -28,7 +28,7 @@ pub enum ListFault {
 }
 
 /// Why a text is not a section. Lines are counted from 1, and the first bad one is returned.
-#[derive(Clone, Copy, Debug, PartialEq, Eq, Error)]
+#[derive(Clone, Copy, Debug, Error)]
 pub enum RowError {
     /// This line is not the head of a section, where one is due: the first line that is no comment.
     #[error("line {0} is not the head of a section")]

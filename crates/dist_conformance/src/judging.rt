@@ -11,7 +11,7 @@ use crate::patterns::Pattern;
 use crate::steps::Demand;
 
 /// What a demand comes to.
-#[derive(Clone, Copy, Debug, PartialEq, Eq)]
+#[derive(Clone, Copy)]
 pub enum Judgement {
     /// A wanted alternative matches.
     Kept(Passage),

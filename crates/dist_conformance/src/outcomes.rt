@@ -44,7 +44,7 @@ pub struct Observed<'a> {
 }
 
 /// What matched.
-#[derive(Clone, Copy, Debug, PartialEq, Eq)]
+#[derive(Clone, Copy)]
 pub struct Passage {
     /// So many bytes.
     pub count: usize,
@@ -53,7 +53,7 @@ pub struct Passage {
 }
 
 /// Why something does not match.
-#[derive(Clone, Copy, Debug, PartialEq, Eq)]
+#[derive(Clone, Copy)]
 pub enum Deviation {
     /// Something else came.
     Other,

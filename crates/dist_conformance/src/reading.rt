@@ -1,7 +1,7 @@
 //! The rows of a section, as a text has them.
 
 ghost use Rattle.std.specs.Prelude.{◌≡◌, ◌-◌, [], length, map, take, Ok, MatchResult};
-ghost use Rattle.dist_conformance.specs.Sections.{is_indented, behind_front, row_in, rows_behind};
+ghost use Rattle.dist_conformance.specs.Sections.{behind_front, row_in, rows_behind};
 ghost use Rattle.dist_conformance.specs.Sections.{section_of_lines, without_line_feed, section_of_text, IsRowError};
 
 use crate::faults::{ListFault, ReadFault, RowError};
@@ -12,12 +12,6 @@ use crate::talks::talks_in;
 use crate::terms::SuiteNames;
 use crate::texts::split;
 use std::alloc::Global;
-
-fn is_indented(line: &[u8]) -> bool
-    ensures { result ≡ is_indented line.now }
-{
-    line.strip_prefix(b"  ").is_some()
-}
 
 // The lines behind those in front that begin so.
 fn behind_front<'l, 't>(lines: &'l [&'t [u8]], key: &[u8]) -> &'l [&'t [u8]]
@@ -84,7 +78,7 @@ fn rows_of(
     let mut rows = Vec::new(alloc);
     let mut left = lines;
     while let [line, behind @ ..] = left {
-        if !is_indented(*line) || rows.is_empty() {
+        if line.strip_prefix(b"  ").is_none() || rows.is_empty() {
             rows.push(row_of(alloc, names, total, *line, behind)?)?;
         }
         left = behind;

@@ -8,7 +8,7 @@ use crate::steps::TalkStep;
 use dist_names::ByteString;
 
 /// What a row's demand rests on.
-#[derive(Clone, Copy, Debug, PartialEq, Eq)]
+#[derive(Clone, Copy, PartialEq, Eq)]
 pub enum Level {
     /// A sentence, a table or a figure of the ERTS User's Guide that leaves no choice.
     Must,
@@ -35,7 +35,7 @@ impl Level {
 }
 
 /// What a section's rows are played against.
-#[derive(Clone, Copy, Debug, PartialEq, Eq)]
+#[derive(Clone, Copy)]
 pub enum SectionKind {
     /// A node.
     Node,

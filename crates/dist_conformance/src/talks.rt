@@ -1,6 +1,6 @@
 //! The talks of a row.
 
-ghost use Rattle.std.specs.Prelude.{◌≡◌, [], map, IfOk};
+ghost use Rattle.std.specs.Prelude.{◌≡◌, ◌==◌, ◌++◌, ◌∷◌, [], map, decimal, if◌then◌else◌, IfOk, OnOk};
 ghost use Rattle.dist_conformance.specs.Lists.{ReadsList};
 ghost use Rattle.dist_conformance.specs.Sections.{row_said, short_name, talk_id, talk_in, talks_behind, talk_alone, talks_by, body_in};
 
@@ -13,6 +13,26 @@ use crate::texts::words_of;
 use dist_names::{ByteString, is_same_text};
 use itoa::Buffer;
 use std::alloc::{AllocError, Global};
+
+// Appends the id of a row, with `-` for its point.
+fn put_dashed(name: &mut Vec<u8>, id: &[u8]) -> Result<(), AllocError>
+    ensures { OnOk result (name.new.items ≡ name.old.items ++ map (λ c. if c == 46 then 45 else c) id.now) }
+{
+    for byte in id {
+        name.push(if *byte == b'.' { b'-' } else { *byte })?;
+    }
+    Ok(())
+}
+
+// Appends the place of a talk, and a word.
+fn put_place(name: &mut Vec<u8>, place: usize, tag: &[u8]) -> Result<(), AllocError>
+    ensures { OnOk result (name.new.items ≡ name.old.items ++ (0x78 ∷ decimal place) ++ tag.now) }
+{
+    let mut buffer = Buffer::new();
+    name.push(b'x')?;
+    name.extend_from_slice(buffer.format(place).as_bytes())?;
+    name.extend_from_slice(tag)
+}
 
 // What the talks of a row share.
 #[derive(Clone, Copy)]
@@ -30,13 +50,8 @@ impl RowTerms<'_> {
         ensures { IfOk result (λ name. name.items ≡ short_name (row_said self.now) place) }
     {
         let mut name = Vec::from_slice(alloc, b"0c")?;
-        for byte in self.id {
-            name.push(if *byte == b'.' { b'-' } else { *byte })?;
-        }
-        let mut buffer = Buffer::new();
-        name.push(b'x')?;
-        name.extend_from_slice(buffer.format(place).as_bytes())?;
-        name.extend_from_slice(self.names.tag)?;
+        put_dashed(&mut name, self.id)?;
+        put_place(&mut name, place, self.names.tag)?;
         Ok(name)
     }
 

@@ -7,7 +7,7 @@ ghost use Rattle.dist_conformance.specs.Verdicts.{verdict_word, rank_of, worse, 
 use crate::rows::Level;
 
 /// What a talk comes to, from the best to the worst. Those that count for the status are the last two.
-#[derive(Clone, Copy, Debug, PartialEq, Eq)]
+#[derive(Clone, Copy, PartialEq, Eq)]
 pub enum TalkVerdict {
     /// It was not tried.
     Skipped,

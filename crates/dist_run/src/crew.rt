@@ -1,6 +1,6 @@
 //! The threads for connections that one thread starts at one node.
 
-use crate::connection::{Carrier, Job, Left};
+use crate::connection::{Job, Left};
 use crate::machine::Machine;
 use crate::site::Site;
 use dist_core::{Event, StepError, Still, Why};
@@ -9,7 +9,8 @@ use dist_locked::{Seat, lose};
 use dist_names::ByteString;
 use dist_peers::EndId;
 use dist_run_hosts::{
-    Challenges, Host, Pool, TURNS_AT_ONCE, end_reads, say_goodbye, socket_of, wait_for_connection,
+    Challenges, Host, LinkStream, Pool, Rest, TURNS_AT_ONCE, end_reads, say_goodbye, socket_of,
+    wait_for_connection,
 };
 use std::alloc::Global;
 use std::os::fd::RawFd;
@@ -40,13 +41,6 @@ pub struct Crew<'s, E> {
     // In the order in which they were started.
     running: Vec<Running>,
     streams: Vec<SocketStream>,
-}
-
-/// What a crew leaves: its seats, and the connections that stay open to the end of the run.
-#[derive(Drop)]
-pub struct Rest {
-    pub seats: Vec<Seat>,
-    pub streams: Vec<SocketStream>,
 }
 
 impl<'s, E> Crew<'s, E> {
@@ -92,41 +86,40 @@ impl<'s, E> Crew<'s, E> {
     /// Closes the connection of a closed end, or keeps it to the end of the run, where its ports must not be used again. Both
     /// sockets of each dial of the run are kept, so that no two of them have one pair of ports. A connection may come before its
     /// link is noted, so the first few are kept, whoever made them: where no stranger comes, that is all of them.
-    pub fn part_with<R, G>(&mut self, site: &Site<'_, R, G>, carrier: Carrier) {
-        say_goodbye(&carrier.stream);
-        let spent = usize::from(!site.is_of_dial(carrier.link));
+    pub fn part_with<R>(&mut self, site: &Site<'_, R>, connection: LinkStream) {
+        say_goodbye(&connection.stream);
+        let spent = usize::from(!site.is_of_dial(connection.link));
         if spent <= self.spare {
             self.spare -= spent;
-            site.keep(&mut self.streams, carrier.stream);
+            site.keep(&mut self.streams, connection.stream);
         }
     }
 
     /// Waits for a connection, for all of these turns where it has no thread to join, and else for a second at most. Joins the threads that
     /// have ended meanwhile, so that their seats and their connections come back. Returns how many turns passed.
-    pub fn wait<R: Machine, G>(&mut self, site: &Site<'_, R, G>, turns: usize) -> usize {
+    pub fn wait<R: Machine>(&mut self, site: &Site<'_, R>, turns: usize) -> usize {
         let most = if self.running.is_empty() {
             turns
         } else {
             TURNS_AT_ONCE
         };
-        let listener = &self.host.listener.socket;
-        let passed = wait_for_connection(site.rt, listener, turns.min(most));
+        let passed = wait_for_connection(site.rt, &self.host.listener, turns.min(most));
         self.join_ended(site);
         passed
     }
 
     // Keeps what is left of a job. The seat comes back to its place.
-    fn keep_rest<R, G>(&mut self, site: &Site<'_, R, G>, left: Left) {
+    fn keep_rest<R>(&mut self, site: &Site<'_, R>, left: Left) {
         site.keep(&mut self.pool.free, left.seat);
         if left.is_over {
-            self.part_with(site, left.carrier);
+            self.part_with(site, left.connection);
         } else {
-            site.keep(&mut self.streams, left.carrier.stream);
+            site.keep(&mut self.streams, left.connection.stream);
         }
     }
 
     // Joins the thread at this place.
-    fn join_thread<R: Machine, G>(&mut self, site: &Site<'_, R, G>, place: usize) {
+    fn join_thread<R: Machine>(&mut self, site: &Site<'_, R>, place: usize) {
         if place < self.running.len() {
             let running = self.running.remove(place);
             self.keep_rest(site, running.handle.join(site.rt));
@@ -134,7 +127,7 @@ impl<'s, E> Crew<'s, E> {
     }
 
     // Joins the threads that have ended. Their seats come back.
-    fn join_ended<R: Machine, G>(&mut self, site: &Site<'_, R, G>) {
+    fn join_ended<R: Machine>(&mut self, site: &Site<'_, R>) {
         let mut place = 0usize;
         for _ in 0..self.running.len() {
             let has_ended = match self.running.get(place) {
@@ -151,10 +144,7 @@ impl<'s, E> Crew<'s, E> {
 
     // The oldest thread whose end is not up, and whose connection is that of no dial of the run, as far as is known: its place, its end
     // and its socket.
-    fn oldest_stranger<R: Machine, G>(
-        &self,
-        site: &Site<'_, R, G>,
-    ) -> Option<(usize, EndId, RawFd)> {
+    fn oldest_stranger<R: Machine>(&self, site: &Site<'_, R>) -> Option<(usize, EndId, RawFd)> {
         let node = &self.host.node;
         for (place, running) in self.running.iter().enumerate() {
             if !site.is_of_dial(running.link) && node.still(site.rt, running.end_) != Still::Up {
@@ -167,7 +157,7 @@ impl<'s, E> Crew<'s, E> {
     /// Makes room for one more connection: where no seat is left for it, or it would be one more than so many that are open, the oldest
     /// stranger that is not up gives way. Its end is given up, and its thread, which then reads the end of its stream, is joined. Where
     /// all are up, or of dials of the run, none does. Returns whether less than so many are open now.
-    pub fn make_room<R: Machine, G>(&mut self, site: &Site<'_, R, G>, places: usize) -> bool {
+    pub fn make_room<R: Machine>(&mut self, site: &Site<'_, R>, places: usize) -> bool {
         let open = self.running.len().saturating_add(self.streams.len());
         if (self.pool.free.is_empty() || open >= places)
             && let Some((place, end_, socket)) = self.oldest_stranger(site)
@@ -188,12 +178,12 @@ impl<'s, E> Crew<'s, E> {
     }
 
     /// Starts a thread that drives an end. Where no seat is left, or no thread can be made, the end is lost.
-    pub fn start<R: Machine, G>(
+    pub fn start<R: Machine>(
         &mut self,
-        site: &'s Site<'s, R, G>,
+        site: &'s Site<'s, R>,
         end_: EndId,
         first: ByteString,
-        carrier: Carrier,
+        connection: LinkStream,
     ) {
         self.join_ended(site);
         match self.free_seat() {
@@ -202,7 +192,7 @@ impl<'s, E> Crew<'s, E> {
                     host: self.host,
                     end_,
                     seat,
-                    carrier,
+                    connection,
                     first,
                     challenges: self.challenges.fork(),
                     turns: site.turns,
@@ -211,16 +201,16 @@ impl<'s, E> Crew<'s, E> {
             }
             Err(why) => {
                 self.lose(site.rt, end_, why);
-                self.part_with(site, carrier);
+                self.part_with(site, connection);
             }
         }
     }
 
     // Starts the thread of a job. There is room for it.
-    fn spawn<R: Machine, G>(&mut self, site: &'s Site<'s, R, G>, job: Job<'s>) {
+    fn spawn<R: Machine>(&mut self, site: &'s Site<'s, R>, job: Job<'s>) {
         let (rt, alloc, host) = (site.rt, site.alloc, self.host);
         let (seat, end_) = (job.seat.number(), job.end_);
-        let (link, socket) = (job.carrier.link, socket_of(&job.carrier.stream));
+        let (link, socket) = (job.connection.link, socket_of(&job.connection.stream));
         host.ended.set(seat, false);
         match self.scope.spawn(move || job.run(rt, alloc)) {
             Ok(handle) => {
@@ -242,7 +232,7 @@ impl<'s, E> Crew<'s, E> {
     }
 
     /// Joins all threads.
-    pub fn join<R: Machine, G>(mut self, site: &Site<'_, R, G>) -> Rest {
+    pub fn join<R: Machine>(mut self, site: &Site<'_, R>) -> Rest {
         for _ in 0..self.running.len() {
             self.join_thread(site, 0);
         }

@@ -2,8 +2,7 @@
 
 ghost use Rattle.std.specs.Prelude.{◌≡◌};
 
-use crate::connection::Carrier;
-use crate::crew::{Crew, Rest};
+use crate::crew::Crew;
 use crate::machine::Machine;
 use crate::site::Site;
 use dist_core::{Event, Opening, StepError, Why};
@@ -11,15 +10,23 @@ use dist_drive::{lookup, opening_for};
 use dist_locked::{Gate, LAST_ORDER, Moment, Orders, TakePass};
 use dist_names::{ByteString, NodeName};
 use dist_peers::EndId;
-use dist_run_hosts::{Challenges, OrderFault, OrderRefusal, Pool, connect_to_port};
-use std::sync::atomic::Ordering;
+use dist_run_hosts::{
+    Challenges, LinkStream, OrderFault, OrderRefusal, Pool, Rest, connect_to_port,
+};
 use std::thread::{self, Scope};
+
+/// A worker, and where it asks whether to go on.
+#[derive(Drop)]
+pub struct Post<'a, G> {
+    pub gate: &'a G,
+    /// 0 or 1: which worker it is.
+    pub worker: u32,
+}
 
 /// What a worker has: its right to take orders, and for each node its seats.
 #[derive(Drop)]
-pub struct Shift {
-    /// 0 or 1: which worker it is.
-    pub worker: u32,
+pub struct Shift<'a, G> {
+    pub post: Post<'a, G>,
     pub pass: TakePass,
     pub pools: Vec<Pool>,
     pub challenges: Challenges,
@@ -32,13 +39,6 @@ pub struct Worked {
     pub faults: Vec<OrderFault>,
 }
 
-// An order, and the worker that took it.
-#[derive(Clone, Copy)]
-struct TakenOrder {
-    worker: u32,
-    number: u32,
-}
-
 // Where a peer listens, and how it is spoken to.
 #[derive(Clone, Copy)]
 struct PeerAddress {
@@ -47,10 +47,7 @@ struct PeerAddress {
 }
 
 // Asks the port mapper where a peer listens.
-fn find_peer<R: Machine, G>(
-    site: &Site<'_, R, G>,
-    to: &NodeName,
-) -> Result<PeerAddress, OrderRefusal> {
+fn find_peer<R: Machine>(site: &Site<'_, R>, to: &NodeName) -> Result<PeerAddress, OrderRefusal> {
     let connection = match connect_to_port(site.rt, site.mapper_port) {
         Ok(connection) => connection,
         Err(error) => return Err(OrderRefusal::of_connect(&error)),
@@ -66,8 +63,8 @@ fn find_peer<R: Machine, G>(
 }
 
 // The step that begins a dial.
-fn begin<E, R: Machine, G>(
-    site: &Site<'_, R, G>,
+fn begin<E, R: Machine>(
+    site: &Site<'_, R>,
     crew: &mut Crew<'_, E>,
     to: &NodeName,
     opening: Opening,
@@ -83,17 +80,17 @@ fn begin<E, R: Machine, G>(
 
 // Gives the node a connection, between the two moments of the gate: what its end sends, or why it is to be lost.
 fn open_dialled<E, R: Machine, G: Gate>(
-    site: &Site<'_, R, G>,
+    rt: &R,
+    post: &Post<'_, G>,
     crew: &mut Crew<'_, E>,
-    worker: u32,
     end_: EndId,
     link: u64,
 ) -> Result<ByteString, Why> {
-    if !site.gate.at(worker, Moment::BeforeStep) {
+    if !post.gate.at(post.worker, Moment::BeforeStep) {
         return Err(Why::GaveUp);
     }
-    let opened = crew.step(site.rt, &Event::Opened { end_, link });
-    if !site.gate.at(worker, Moment::AfterStep) {
+    let opened = crew.step(rt, &Event::Opened { end_, link });
+    if !post.gate.at(post.worker, Moment::AfterStep) {
         return Err(Why::GaveUp);
     }
     match opened {
@@ -104,31 +101,29 @@ fn open_dialled<E, R: Machine, G: Gate>(
 
 // Opens the end of a connection, and starts a thread for it.
 fn open_connection<'s, E, R: Machine, G: Gate>(
-    site: &'s Site<'s, R, G>,
+    site: &'s Site<'s, R>,
+    post: &Post<'_, G>,
     crew: &mut Crew<'s, E>,
-    task: TakenOrder,
     end_: EndId,
-    carrier: Carrier,
+    connection: LinkStream,
 ) {
-    if let Some(noted) = site.links.get(task.number as usize) {
-        noted.store(carrier.link, Ordering::SeqCst);
-    }
-    match open_dialled(site, crew, task.worker, end_, carrier.link) {
-        Ok(first) => crew.start(site, end_, first, carrier),
+    match open_dialled(site.rt, post, crew, end_, connection.link) {
+        Ok(first) => crew.start(site, end_, first, connection),
         Err(why) => {
             crew.lose(site.rt, end_, why);
-            crew.part_with(site, carrier);
+            crew.part_with(site, connection);
         }
     }
 }
 
 // Does what an order says. A plan has no dial by a node that is not one of its own.
 fn obey<'s, E, R: Machine, G: Gate>(
-    site: &'s Site<'s, R, G>,
+    site: &'s Site<'s, R>,
+    post: &Post<'_, G>,
     crews: &mut [Crew<'s, E>],
-    task: TakenOrder,
+    number: u32,
 ) -> Result<(), OrderRefusal> {
-    let Some(dial) = site.dials.get(task.number as usize) else {
+    let Some(dial) = site.dials.get(number as usize) else {
         return Ok(());
     };
     let place = crews
@@ -141,7 +136,8 @@ fn obey<'s, E, R: Machine, G: Gate>(
     let end_ = begin(site, crew, &dial.to, peer.opening)?;
     match connect_to_port(site.rt, peer.port) {
         Ok(connection) => {
-            open_connection(site, crew, task, end_, Carrier::new(connection, peer.port))
+            site.note(number, connection.link);
+            open_connection(site, post, crew, end_, connection);
         }
         Err(_) => crew.lose(site.rt, end_, Why::DialFailed),
     }
@@ -150,9 +146,9 @@ fn obey<'s, E, R: Machine, G: Gate>(
 
 // Takes orders up to the last. Those that made no `Dial` step.
 fn take_all<'s, E, R: Machine, G: Gate>(
-    site: &'s Site<'s, R, G>,
+    site: &'s Site<'s, R>,
+    post: &Post<'_, G>,
     orders: &Orders,
-    worker: u32,
     pass: &mut TakePass,
     crews: &mut [Crew<'s, E>],
 ) -> Vec<OrderFault>
@@ -167,7 +163,7 @@ fn take_all<'s, E, R: Machine, G: Gate>(
                     break;
                 }
                 let number = order.0;
-                if let Err(refusal) = obey(site, crews, TakenOrder { worker, number }) {
+                if let Err(refusal) = obey(site, post, crews, number) {
                     site.keep(&mut faults, OrderFault { number, refusal });
                 }
             }
@@ -178,9 +174,9 @@ fn take_all<'s, E, R: Machine, G: Gate>(
 }
 
 // A crew for each node, that has started nothing.
-fn new_crews<'s, E, R, G>(
+fn new_crews<'s, E, R>(
     scope: &'s Scope<'s, E>,
-    site: &Site<'s, R, G>,
+    site: &Site<'s, R>,
     pools: Vec<Pool>,
     mut challenges: Challenges,
 ) -> Vec<Crew<'s, E>> {
@@ -195,20 +191,20 @@ fn new_crews<'s, E, R, G>(
 /// Takes orders up to the last, and does what they say. Then joins the threads that were started.
 pub fn work<'s, E, R: Machine, G: Gate>(
     scope: &'s Scope<'s, E>,
-    site: &'s Site<'s, R, G>,
+    site: &'s Site<'s, R>,
     orders: &Orders,
-    shift: Shift,
+    shift: Shift<'_, G>,
 ) -> Worked
     requires { shift.pass.table ≡ orders.now.table }
 {
     let Shift {
-        worker,
+        post,
         mut pass,
         pools,
         challenges,
     } = shift;
     let mut crews = new_crews(scope, site, pools, challenges);
-    let faults = take_all(site, orders, worker, &mut pass, crews.as_mut_slice());
+    let faults = take_all(site, &post, orders, &mut pass, crews.as_mut_slice());
     let mut rests = Vec::new(site.alloc);
     for crew in crews {
         site.keep(&mut rests, crew.join(site));

@@ -16,6 +16,6 @@ mod site;
 mod threads;
 
 pub use dist_drive::opening_for;
-pub use dist_run_hosts::{Challenges, OrderFault, OrderRefusal, RunError};
+pub use dist_run_hosts::{Challenges, OrderFault, OrderRefusal, Ran, RunError};
 pub use machine::Machine;
-pub use running::{Ran, run_plan};
+pub use running::run_plan;

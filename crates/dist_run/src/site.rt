@@ -1,16 +1,13 @@
 //! What all threads of a run share.
 
-use dist_run_hosts::{Host, Places, stop_listening};
+use dist_run_hosts::{Host, Places, RunError, stop_listening};
 use dist_run_plan::DialPlan;
 use std::alloc::Global;
 use std::sync::atomic::{AtomicBool, AtomicU64, Ordering};
 
-/// The link of a dial that has no connection yet. No connection has it, since none leads to port 0.
-pub const NO_LINK: u64 = 0;
-
 /// What all threads of a run share.
 #[derive(Drop)]
-pub struct Site<'a, R, G> {
+pub struct Site<'a, R> {
     /// The system.
     pub rt: &'a R,
     /// Where memory comes from.
@@ -27,18 +24,33 @@ pub struct Site<'a, R, G> {
     pub places: Places,
     /// How many turns, of some 10 milliseconds at most, a connection or a lookup gets, and a listener waits for the next one.
     pub turns: usize,
-    /// Where the workers ask whether to go on.
-    pub gate: &'a G,
     /// Whether the run has failed: what it leaves is not whole.
     pub failed: AtomicBool,
 }
 
-impl<'a, R, G> Site<'a, R, G> {
+impl<'a, R> Site<'a, R> {
     /// Has the run fail. The threads that accept stop then: none of them waits at its listener any more.
     pub fn fail(&self) {
         self.failed.store(true, Ordering::SeqCst);
         for host in self.hosts {
             stop_listening(&host.listener);
+        }
+    }
+
+    /// Why the run has failed, where so many nodes had a thread that accepts: ThreadFailed where one had none, else NoMemory.
+    pub fn fault(&self, accepting: usize) -> Option<RunError> {
+        if accepting < self.hosts.len() {
+            return Some(RunError::ThreadFailed);
+        }
+        self.failed
+            .load(Ordering::SeqCst)
+            .then_some(RunError::NoMemory)
+    }
+
+    /// Notes the link of the connection of a dial, by the dial's number.
+    pub fn note(&self, number: u32, link: u64) {
+        if let Some(noted) = self.links.get(number as usize) {
+            noted.store(link, Ordering::SeqCst);
         }
     }
 

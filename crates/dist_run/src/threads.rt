@@ -3,54 +3,16 @@
 ghost use Rattle.std.specs.Prelude.{◌≡◌, ◌≤◌};
 
 use crate::accepting::accept_all;
-use crate::crew::Rest;
-use crate::dialling::{Shift, Worked, work};
+use crate::dialling::{Post, Shift, Worked, work};
 use crate::machine::Machine;
 use crate::site::Site;
 use dist_locked::{CAPACITY, Gate, MOST_ORDERS, Orders, dispatch};
-use dist_run_hosts::{Challenges, Pool, RunError, Shares};
-use dist_run_plan::DialPlan;
-use std::alloc::Global;
+use dist_run_hosts::{Challenges, Ended, Pool, Pools, Rest, RunError};
 use std::sync::atomic::Ordering;
 use std::thread::{self, JoinHandle, Scope, Threads};
 
-/// The seats of all nodes, by the threads that have them. Each list is in the order of the nodes.
-#[derive(Drop)]
-pub struct Pools {
-    pub accepting: Vec<Pool>,
-    pub first: Vec<Pool>,
-    pub second: Vec<Pool>,
-}
-
-impl Pools {
-    /// The seats of no node.
-    pub fn new(alloc: Global) -> Pools {
-        Pools {
-            accepting: Vec::new(alloc),
-            first: Vec::new(alloc),
-            second: Vec::new(alloc),
-        }
-    }
-
-    /// Adds the seats of the next node.
-    pub fn add(&mut self, shares: Shares) -> Result<(), RunError> {
-        self.accepting.push(shares.accepting)?;
-        self.first.push(shares.first)?;
-        self.second.push(shares.second)?;
-        Ok(())
-    }
-}
-
-/// What the threads of the nodes leave.
-#[derive(Drop)]
-pub struct Ended {
-    pub accepting: Vec<Rest>,
-    pub first: Worked,
-    pub second: Worked,
-}
-
 // The number of the orders, of which a nodes file has no more than 64. None is given out where the run has failed.
-fn order_count<R, G>(site: &Site<'_, R, G>) -> u32
+fn order_count<R>(site: &Site<'_, R>) -> u32
     ensures { result ≤ 64 }
 {
     if site.failed.load(Ordering::SeqCst) {
@@ -65,10 +27,10 @@ fn order_count<R, G>(site: &Site<'_, R, G>) -> u32
 // Both workers, until all orders are taken and all their connections have ended.
 fn run_workers<'s, E, R: Machine, G: Gate + Sync>(
     scope: &'s Scope<'s, E>,
-    site: &'s Site<'s, R, G>,
+    site: &'s Site<'s, R>,
     orders: &Orders,
-    one: Shift,
-    two: Shift,
+    one: Shift<'_, G>,
+    two: Shift<'_, G>,
 ) -> (Worked, Worked)
     requires { (one.pass.table ≡ orders.now.table) × (two.pass.table ≡ orders.now.table) }
 {
@@ -86,32 +48,32 @@ fn run_workers<'s, E, R: Machine, G: Gate + Sync>(
 // The dispatcher and both workers.
 fn work_off_orders<'s, E, R: Machine, G: Gate + Sync>(
     scope: &'s Scope<'s, E>,
-    site: &'s Site<'s, R, G>,
-    first: Vec<Pool>,
-    second: Vec<Pool>,
+    site: &'s Site<'s, R>,
+    gate: &G,
+    pools: (Vec<Pool>, Vec<Pool>),
     mut challenges: Challenges,
 ) -> Result<(Worked, Worked), RunError> {
     let (orders, put, one, two) = Orders::new(site.alloc, CAPACITY)?;
     let _put = dispatch(site.rt, &orders, put, order_count(site));
     let one = Shift {
-        worker: 0,
+        post: Post { gate, worker: 0 },
         pass: one,
-        pools: first,
+        pools: pools.0,
         challenges: challenges.fork(),
     };
     let two = Shift {
-        worker: 1,
+        post: Post { gate, worker: 1 },
         pass: two,
-        pools: second,
+        pools: pools.1,
         challenges,
     };
     Ok(run_workers(scope, site, &orders, one, two))
 }
 
 // Starts the accepting threads. Where a node gets none, the run fails.
-fn start_accepting<'s, E, R: Machine, G: Sync>(
+fn start_accepting<'s, E, R: Machine>(
     scope: &'s Scope<'s, E>,
-    site: &'s Site<'s, R, G>,
+    site: &'s Site<'s, R>,
     pools: Vec<Pool>,
     challenges: &mut Challenges,
 ) -> Result<Vec<JoinHandle<Rest>>, RunError> {
@@ -128,10 +90,7 @@ fn start_accepting<'s, E, R: Machine, G: Sync>(
 }
 
 // Joins the accepting threads.
-fn join_accepting<R: Threads, G>(
-    site: &Site<'_, R, G>,
-    handles: Vec<JoinHandle<Rest>>,
-) -> Vec<Rest> {
+fn join_accepting<R: Threads>(site: &Site<'_, R>, handles: Vec<JoinHandle<Rest>>) -> Vec<Rest> {
     let mut rests = Vec::new(site.alloc);
     for handle in handles {
         site.keep(&mut rests, handle.join(site.rt));
@@ -139,38 +98,48 @@ fn join_accepting<R: Threads, G>(
     rests
 }
 
+// Adds the seats that a worker leaves at each node to those of the accepting threads. Without memory for them the run fails.
+fn gather<R>(site: &Site<'_, R>, all: &mut [Rest], worked: Vec<Rest>) {
+    for (rest, mut more) in all.iter_mut().zip(worked) {
+        if rest.seats.append(&mut more.seats).is_err() {
+            site.fail();
+        }
+    }
+}
+
 // Has the workers work while the nodes accept.
 fn accept_and_dial<'s, E, R: Machine, G: Gate + Sync>(
     scope: &'s Scope<'s, E>,
-    site: &'s Site<'s, R, G>,
+    site: &'s Site<'s, R>,
+    gate: &G,
     pools: Pools,
     mut challenges: Challenges,
 ) -> Result<Ended, RunError> {
     let handles = start_accepting(scope, site, pools.accepting, &mut challenges)?;
     let started = handles.len();
-    let worked = work_off_orders(scope, site, pools.first, pools.second, challenges);
+    let worked = work_off_orders(scope, site, gate, (pools.first, pools.second), challenges);
     if worked.is_err() {
         site.fail();
     }
-    let accepting = join_accepting(site, handles);
+    let mut rests = join_accepting(site, handles);
     let (first, second) = worked?;
-    if started < site.hosts.len() {
-        return Err(RunError::ThreadFailed);
+    gather(site, rests.as_mut_slice(), first.rests);
+    gather(site, rests.as_mut_slice(), second.rests);
+    match site.fault(started) {
+        Some(fault) => Err(fault),
+        None => Ok(Ended {
+            rests,
+            first: first.faults,
+            second: second.faults,
+        }),
     }
-    if site.failed.load(Ordering::SeqCst) {
-        return Err(RunError::NoMemory);
-    }
-    Ok(Ended {
-        accepting,
-        first,
-        second,
-    })
 }
 
-/// Starts all threads of the nodes, and returns once they have ended. Returns `ThreadFailed` if the accepting thread of a node
+/// Runs all threads of the nodes, and returns once they have ended. Returns `ThreadFailed` if the accepting thread of a node
 /// could not be started, `NoMemory` if memory ran out.
 pub fn run_threads<R: Machine, G: Gate + Sync>(
-    site: Site<'_, R, G>,
+    site: Site<'_, R>,
+    gate: &G,
     pools: Pools,
     challenges: Challenges,
 ) -> Result<Ended, RunError> {
@@ -178,6 +147,6 @@ pub fn run_threads<R: Machine, G: Gate + Sync>(
     thread::scope(
         thread::scope_env(),
         site.rt,
-        move |scope| accept_and_dial(scope, site, pools, challenges),
+        move |scope| accept_and_dial(scope, site, gate, pools, challenges),
     )
 }

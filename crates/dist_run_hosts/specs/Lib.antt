@@ -3,3 +3,4 @@ pub mod Setups
 pub mod Orders
 pub mod Places
 pub mod Waits
+pub mod Runs

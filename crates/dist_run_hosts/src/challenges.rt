@@ -1,11 +1,15 @@
 //! Where the challenges of a run come from.
 
-ghost use Rattle.std.specs.Prelude.{◌≡◌};
+ghost use Rattle.std.specs.Prelude.{◌≡◌, IfErr};
 ghost use Rattle.rand_core.specs.Stream.{fill_bytes};
+ghost use Rattle.dist_run_hosts.specs.declared.run_error.RunError.TheVariants.{NoRandomBytes};
 
+use crate::run_error::RunError;
 use dist_drive::Draws;
+use rand::make_rng;
 use rand::rngs::StdRng;
 use rand_core::{Rng, SeedableRng};
+use std::random::RandomSource;
 
 /// Challenges, drawn from a generator that the operating system's randomness seeded, or that such a one seeded. Nothing
 /// promises that they are hard to guess.
@@ -21,6 +25,16 @@ impl Challenges {
         ensures { result.generator ≡ generator }
     {
         Challenges { generator }
+    }
+
+    /// The challenges of a generator that the operating system's randomness seeds.
+    pub fn of_system<R: RandomSource>(rt: &R) -> Result<Challenges, RunError>
+        ensures { IfErr result (λ error. error ≡ NoRandomBytes) }
+    {
+        match make_rng::<StdRng, R>(rt) {
+            Ok(generator) => Ok(Challenges::new(generator)),
+            Err(_) => Err(RunError::NoRandomBytes),
+        }
     }
 
     /// Challenges of their own, seeded by the next 32 bytes that these give.

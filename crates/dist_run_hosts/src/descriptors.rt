@@ -25,7 +25,7 @@ const OTHER_CLIENTS: usize = 3;
 const USUAL: usize = 1024;
 
 /// How many descriptors each part of a run may have.
-#[derive(Clone, Copy, Debug, PartialEq, Eq)]
+#[derive(Clone, Copy)]
 pub struct Places {
     /// Those that are kept for the program itself, its nodes and its dials: no stranger takes them.
     pub kept: usize,

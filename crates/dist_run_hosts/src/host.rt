@@ -133,13 +133,13 @@ pub fn start<R: Net<Listener = TcpListener, Stream = TcpStream>>(
     // At 0 the system chooses a port.
     ensures port { IfOk result (λ started. plan.now.listen ≢ 0 → started.0.listener.port ≡ plan.now.listen) }
 {
+    let name = plan.name.try_clone(alloc)?;
+    let ended = EndMarks::new(alloc, SEATS)?;
     let Ok(listener) = listen(rt, plan.listen) else {
         return Err(RunError::ListenFailed);
     };
     let (registered, setup) = register_node(rt, alloc, mapper, plan, listener.port)?;
     let (node, shares) = lock_node(alloc, setup, tickets)?;
-    let ended = EndMarks::new(alloc, SEATS)?;
-    let name = plan.name.try_clone(alloc)?;
     let host = Host {
         name,
         node,

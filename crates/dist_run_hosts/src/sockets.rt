@@ -11,11 +11,12 @@ use std::os::fd::{AsRawFd, RawFd};
 use std::time::Clock;
 use std::{io, thread};
 
-/// A connection, and the port at its dialling end.
+/// A connection between two nodes.
 #[derive(Drop)]
 pub struct LinkStream {
     pub stream: SocketStream,
-    pub dialler_port: u16,
+    /// Which ports it joins.
+    pub link: u64,
 }
 
 /// A listener at a port of this host, and its port.
@@ -36,11 +37,8 @@ pub fn connect_to_port<R: Net<Listener = TcpListener, Stream = TcpStream>>(
     port: u16,
 ) -> io::Result<LinkStream> {
     let stream = connect_here(rt, port)?;
-    let dialler_port = stream.get_ref().local_addr()?.port();
-    Ok(LinkStream {
-        stream,
-        dialler_port,
-    })
+    let link = link_of(stream.get_ref().local_addr()?.port(), port);
+    Ok(LinkStream { stream, link })
 }
 
 // The port that the system reports, where it is the one that was asked for: at 0 the system chooses.
@@ -67,23 +65,23 @@ pub fn listen<R: Net<Listener = TcpListener, Stream = TcpStream>>(
     Ok(LocalListener { socket, port })
 }
 
-fn take_connection(listener: &TcpListener) -> io::Result<LinkStream> {
-    let (socket, from) = listener.accept()?;
+fn take_connection(listener: &LocalListener) -> io::Result<LinkStream> {
+    let (socket, from) = listener.socket.accept()?;
     Ok(LinkStream {
         stream: SocketStream::with_turn(socket, one_turn())?,
-        dialler_port: from.port(),
+        link: link_of(from.port(), listener.port),
     })
 }
 
 /// Waits until a connection has come, or none comes any more, for so many turns at most. Returns how many of them passed.
-pub fn wait_for_connection<R: Clock>(rt: &R, listener: &TcpListener, turns: usize) -> usize
+pub fn wait_for_connection<R: Clock>(rt: &R, listener: &LocalListener, turns: usize) -> usize
     ensures { result ≤ turns }
 {
-    wait_for_input(rt, listener.as_raw_fd(), turns.min(MOST_TURNS))
+    wait_for_input(rt, listener.socket.as_raw_fd(), turns.min(MOST_TURNS))
 }
 
 /// The next connection, where one has come. Where the system refuses to give one out, for lack of descriptors say, a turn passes.
-pub fn accept<R: Clock>(rt: &R, listener: &TcpListener) -> Option<LinkStream> {
+pub fn accept<R: Clock>(rt: &R, listener: &LocalListener) -> Option<LinkStream> {
     match take_connection(listener) {
         Ok(connection) => Some(connection),
         Err(error) => {

@@ -61,15 +61,6 @@ module _ (a b c : Option (List ℕ)) (text rest : List ℕ) (so : PutSoFar text 
         put = Appends-trans a b c so.done here so.put front.put;
       }
 
-  -- a call put what is left, or a beginning of it
-  pub rest_put : {X E : Type 0} (r : Result X E) → OnOk r (Appends b c rest) → OnOk r (Appends a c text)
-  rest_put (Ok x) put = subst (Appends a c) so.text_is (Appends-trans a b c so.done rest so.put put)
-  rest_put (Err e) put = tt
-
-  pub rest_cut : {X E : Type 0} (r : Result X E) → OnErr r (PutsFront rest b c) → OnErr r (PutsFront text a c)
-  rest_cut (Ok x) cut = tt
-  rest_cut (Err e) cut = part_put rest [] cut (append-nil rest)
-
 -- nothing is left
 pub all_put : (a b : Option (List ℕ)) (text rest : List ℕ) → PutSoFar text a b rest → rest ≡ [] → Appends a b text
 all_put a b text rest so none = subst (Appends a b) (sym (append-nil so.done) ∙ ap (λ l. so.done ++ l) (sym none) ∙ so.text_is) so.put

@@ -1,10 +1,8 @@
 -- A text is its first part and the parts behind it, and so is a line its first word and the words behind it.
-use Rattle.std.proofs.Common.{◌≡◌, ◌∙◌, ℕ, zero, suc, ◌+◌, ◌-◌, ◌<◌, true, false, cond, List, [], ◌∷◌, length, take, drop, refl, sym, ap, subst, arith}
-use Rattle.std.specs.List.{starts_with}
+use Rattle.std.proofs.Common.{◌≡◌, ◌∙◌, ℕ, zero, suc, ◌+◌, ◌-◌, ◌<◌, true, false, cond, List, [], ◌∷◌, length, take, drop, refl, sym, ap, arith}
 use Rattle.std.specs.Prelude.{◌==◌}
 use Rattle.std.proofs.lemmas.List.{take_rest}
-use Rattle.std.proofs.lemmas.Bool.{and_from, cond-true, cond-false, false_from_ne_true}
-use Rattle.std.proofs.lemmas.Bool.Decides.{Decides-eqb}
+use Rattle.std.proofs.lemmas.Bool.{cond-true, cond-false, false_from_ne_true}
 use Rattle.memchr.specs.Find.{Nowhere, NoneBefore, Passes, is_byte}
 use Rattle.dist_script.specs.Words.{words_of, parts_of, before_first}
 
@@ -36,26 +34,4 @@ some_word (c ∷ cs) =
     elim (is_byte 32 c) as (λ v. cond v ([] ∷ words_of cs) (before_first c (words_of cs)) ≡ [] → ⊥) [
       | true ↦ λ e. absurd cc
       | false ↦ elim (words_of cs) as (λ ws. before_first c ws ≡ [] → ⊥) [ [] ↦ λ e. absurd cc | w ∷ ws ↦ λ e. absurd cc ]
-    ]
-
-abbrev Begins : List ℕ → List ℕ → Type 0
-Begins line word = starts_with (λ x y. x == y) line word ≡ true
-
--- a line begins with a text that is its first word
-by_first : (line a word : List ℕ) (more rest : List (List ℕ)) → Begins line a → a ∷ more ≡ word ∷ rest → Begins line word
-by_first line a word more rest begins e = let same : a ≡ word = cc in subst (Begins line) same begins
-
-one_more : (c : ℕ) (cs word : List ℕ) → Begins cs word → Begins (c ∷ cs) (c ∷ word)
-one_more c cs word begins = and_from (c == c) _ ((Decides-eqb c c).1 refl) begins
-
--- a line begins with its first word
-pub word_in_front : (line word : List ℕ) (rest : List (List ℕ)) → words_of line ≡ word ∷ rest → Begins line word
-word_in_front [] word rest = by_first [] [] word [] rest refl
-word_in_front (c ∷ cs) word rest =
-    elim (is_byte 32 c) as (λ v. cond v ([] ∷ words_of cs) (before_first c (words_of cs)) ≡ word ∷ rest → Begins (c ∷ cs) word) [
-      | true ↦ by_first (c ∷ cs) [] word (words_of cs) rest refl
-      | false ↦ elim (words_of cs) as (λ ws. words_of cs ≡ ws → before_first c ws ≡ word ∷ rest → Begins (c ∷ cs) word) [
-        | [] ↦ λ is. by_first (c ∷ cs) (c ∷ []) word [] rest (one_more c cs [] refl)
-        | w ∷ ws ↦ λ is. by_first (c ∷ cs) (c ∷ w) word ws rest (one_more c cs w (word_in_front cs w ws is))
-      ] refl
     ]

@@ -1,7 +1,6 @@
 //! What stops the playing of a script before its end, and how that is reported.
 
-ghost use Rattle.std.specs.Prelude.{◌≡◌, ◌++◌, IsOk, IfErr, OnOk, OnErr};
-ghost use Rattle.std.specs.Io.KnownBytes.{Appends};
+ghost use Rattle.std.specs.Prelude.{◌≡◌, ◌++◌, IsOk, IfErr, OnOk};
 ghost use Rattle.dist_script.specs.Fault.{status_of, fault_text, fault_line};
 ghost use Rattle.dist_script.specs.Texts.{text_of, PutsFront};
 ghost use Rattle.dist_script.specs.declared.fault.ScriptFault.TheVariants.{NoMemory, WriteFailed};
@@ -66,13 +65,14 @@ impl ScriptFault {
         }
     }
 
-    /// Writes the line of the fault. If a write fails, a prefix of it was written.
-    pub fn report<E: Write>(self, err: &mut E) -> io::Result<()>
-        ensures line { OnOk result (Appends (E.contents err.old) (E.contents err.new) (fault_line self)) }
-        ensures cut { OnErr result (PutsFront (fault_line self) (E.contents err.old) (E.contents err.new)) }
+    /// Reports the fault on standard error and returns the exit status. If it can't be reported, only the rest of its line is lost.
+    #[tactic(auto, using(crate::proofs::Fronts::front_either))]
+    pub fn report_to<E: Write>(self, err: &mut E) -> u8
+        ensures status { result ≡ status_of self }
+        ensures line { PutsFront (fault_line self) (E.contents err.old) (E.contents err.new) }
     {
         let (words, number) = message(self);
-        put(
+        let _ = put(
             err,
             &[
                 Piece::Text(b"distnode: "),
@@ -80,16 +80,7 @@ impl ScriptFault {
                 number,
                 Piece::Text(b"\n"),
             ],
-        )
-    }
-
-    /// Reports the fault on standard error and returns the exit status. If it can't be reported, only the rest of its line is lost.
-    #[tactic(auto, using(crate::proofs::Fronts::front_either))]
-    pub fn report_to<E: Write>(self, err: &mut E) -> u8
-        ensures status { result ≡ status_of self }
-        ensures line { PutsFront (fault_line self) (E.contents err.old) (E.contents err.new) }
-    {
-        let _ = self.report(err);
+        );
         self.status()
     }
 }

@@ -41,10 +41,7 @@ pub fn number_word(words: &mut Words<'_>) -> Result<u32, LineFault>
     ensures reads { Reads result (first_in (number_in 32) words.old) }
     ensures rest { words.new ≡ drop 1 words.old }
 {
-    match number_32(words.word()?) {
-        Some(number) => Ok(number),
-        None => Err(LineFault::Bad),
-    }
+    number_32(words.word()?).ok_or(LineFault::Bad)
 }
 
 /// The place of a node, the number of a connection, or how many, as the next word says.
@@ -69,10 +66,7 @@ pub fn link_word(words: &mut Words<'_>) -> Result<u64, LineFault>
     ensures reads { Reads result (first_in (number_in 64) words.old) }
     ensures rest { words.new ≡ drop 1 words.old }
 {
-    match number_64(words.word()?) {
-        Some(number) => Ok(number),
-        None => Err(LineFault::Bad),
-    }
+    number_64(words.word()?).ok_or(LineFault::Bad)
 }
 
 /// The creation that the next word is.
@@ -103,10 +97,7 @@ pub fn why_word(words: &mut Words<'_>) -> Result<Why, LineFault>
     ensures reads { Reads result (first_in why_in words.old) }
     ensures rest { words.new ≡ drop 1 words.old }
 {
-    match why_of(words.word()?) {
-        Some(why) => Ok(why),
-        None => Err(LineFault::Bad),
-    }
+    why_of(words.word()?).ok_or(LineFault::Bad)
 }
 
 /// The bytes that the hexadecimal digits of the next word write, of either case, of which there are some.

@@ -18,10 +18,7 @@ fn flags_word(words: &mut Words<'_>) -> Result<Flags, LineFault>
     ensures reads { Reads result (first_in flags_in words.old) }
     ensures rest { words.new ≡ drop 1 words.old }
 {
-    match Flags::of_digits(words.word()?) {
-        Some(flags) => Ok(flags),
-        None => Err(LineFault::Bad),
-    }
+    Flags::of_digits(words.word()?).ok_or(LineFault::Bad)
 }
 
 // The cookie that a word is.

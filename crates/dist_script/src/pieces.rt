@@ -3,7 +3,7 @@
 ghost use Rattle.std.specs.Prelude.{◌≤◌, ◌≡◌, ◌*◌, length, take, drop, decimal, OnOk, OnErr, IfOk};
 ghost use Rattle.std.specs.Io.KnownBytes.{Appends, Keeps};
 ghost use Rattle.hex.specs.Hex.{encode_lower};
-ghost use Rattle.dist_script.specs.Texts.{flags_text, text_of, texts_of, PutsFront};
+ghost use Rattle.dist_script.specs.Texts.{text_of, texts_of, PutsFront};
 
 use dist_names::Flags;
 use std::io::{self, ErrorKind, Write};
@@ -46,14 +46,12 @@ fn put_piece<W: Write>(out: &mut W, piece: Piece<'_>) -> io::Result<()>
     match piece {
         Piece::Text(text) => put_bytes(out, text),
         Piece::Number(value) => put_number(out, value),
-        Piece::Flags(flags) => put_flags(out, flags),
+        Piece::Flags(flags) => put_digits(out, &flags.0.to_be_bytes()),
         Piece::Digits(bytes) => put_digits(out, bytes),
     }
 }
 
-/// Writes a number in decimal digits. Where a write fails, what was written is a beginning of them.
-#[inline(always)]
-pub fn put_number<W: Write>(out: &mut W, number: u64) -> io::Result<()>
+fn put_number<W: Write>(out: &mut W, number: u64) -> io::Result<()>
     ensures text { OnOk result (Appends (W.contents out.old) (W.contents out.new) (decimal number)) }
     ensures cut { OnErr result (PutsFront (decimal number) (W.contents out.old) (W.contents out.new)) }
 {
@@ -63,7 +61,6 @@ pub fn put_number<W: Write>(out: &mut W, number: u64) -> io::Result<()>
 }
 
 // Writes a number in decimal digits at the end of a room, and returns where they begin.
-#[inline(never)]
 fn write_decimals(number: u64, room: &mut [u8]) -> usize
     requires { length room.old ≡ 20 }
     ensures start { result ≤ 20 }
@@ -72,19 +69,8 @@ fn write_decimals(number: u64, room: &mut [u8]) -> usize
     itoa::write_digits(number, room, MOST_DECIMALS)
 }
 
-/// Writes flags in 16 hexadecimal digits of lower case. Where a write fails, what was written is a beginning of them.
-#[inline(never)]
-pub fn put_flags<W: Write>(out: &mut W, flags: Flags) -> io::Result<()>
-    ensures text { OnOk result (Appends (W.contents out.old) (W.contents out.new) (flags_text flags)) }
-    ensures cut { OnErr result (PutsFront (flags_text flags) (W.contents out.old) (W.contents out.new)) }
-{
-    short_hex(out, &flags.0.to_be_bytes())
-}
-
-/// Writes bytes as hexadecimal digits of lower case. Where a write fails, what was written is a beginning of them.
-#[inline(never)]
 #[tactic(auto, using(crate::proofs::Fronts::none_put))]
-pub fn put_digits<W: Write>(out: &mut W, bytes: &[u8]) -> io::Result<()>
+fn put_digits<W: Write>(out: &mut W, bytes: &[u8]) -> io::Result<()>
     ensures text { OnOk result (Appends (W.contents out.old) (W.contents out.new) (encode_lower bytes.now)) }
     ensures cut { OnErr result (PutsFront (encode_lower bytes.now) (W.contents out.old) (W.contents out.new)) }
 {
@@ -117,25 +103,8 @@ fn short_hex<W: Write>(out: &mut W, bytes: &[u8]) -> io::Result<()>
 }
 
 /// Writes these bytes. Where a write fails, what was written is a beginning of them, which `write_all` doesn't say.
-#[inline(always)]
-pub fn put_bytes<W: Write>(out: &mut W, bytes: &[u8]) -> io::Result<()>
-    ensures text { OnOk result (Appends (W.contents out.old) (W.contents out.new) bytes.now) }
-    ensures cut { OnErr result (PutsFront bytes.now (W.contents out.old) (W.contents out.new)) }
-{
-    if bytes.is_empty() {
-        return Ok(());
-    }
-    let (_, rest) = bytes.split_at(put_some(out, bytes)?);
-    if rest.is_empty() {
-        return Ok(());
-    }
-    put_rest(out, rest)
-}
-
-// Writes what one write left of some bytes, by as many further writes as it takes.
-#[inline(never)]
 #[tactic(auto, using(crate::proofs::Fronts::none_put))]
-fn put_rest<W: Write>(out: &mut W, bytes: &[u8]) -> io::Result<()>
+pub fn put_bytes<W: Write>(out: &mut W, bytes: &[u8]) -> io::Result<()>
     ensures text { OnOk result (Appends (W.contents out.old) (W.contents out.new) bytes.now) }
     ensures cut { OnErr result (PutsFront bytes.now (W.contents out.old) (W.contents out.new)) }
 {
@@ -151,7 +120,6 @@ fn put_rest<W: Write>(out: &mut W, bytes: &[u8]) -> io::Result<()>
 }
 
 // One write of these bytes, of which there are some. Returns how many of them were written: none where it was interrupted.
-#[inline(always)]
 #[tactic(auto, using(crate::proofs::Fronts::interrupted))]
 fn put_some<W: Write>(out: &mut W, bytes: &[u8]) -> io::Result<usize>
     ensures few { IfOk result (λ count. count ≤ length bytes.now) }

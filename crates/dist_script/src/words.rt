@@ -99,21 +99,14 @@ impl<'a> Words<'a> {
     }
 
     /// Takes the next word where it is this one, and returns whether it was.
-    #[tactic(auto, using(crate::proofs::Split::word_in_front))]
     pub fn skip(&mut self, wanted: &[u8]) -> bool
         ensures { MatchBool result (self.old ≡ wanted.now ∷ self.new) ((self.new ≡ self.old) × ((rest : List (List ℕ)) → self.old ≡ wanted.now ∷ rest → ⊥)) }
     {
-        let Some(line) = self.rest else {
-            return false;
-        };
-        // Most lines begin with another word, and need no splitting.
-        if !line.starts_with(wanted) {
-            return false;
-        }
+        let rest = self.rest;
         if self.next() == Some(wanted) {
             return true;
         }
-        self.rest = Some(line);
+        self.rest = rest;
         false
     }
 

@@ -7,13 +7,8 @@ use Rattle.std.proofs.KnownBytes.{Keeps-refl, Appends-nil, Appends-trans, Append
 use Rattle.dist_script.specs.Texts.{PutsFront}
 use Rattle.dist_script.specs.declared.fault.ScriptFault.{ScriptFault}
 use Rattle.dist_script.specs.declared.fault.ScriptFault.TheVariants.{WriteFailed, NoMemory}
-use Rattle.dist_script.proofs.Fronts.{starts, front_of_front}
+use Rattle.dist_script.proofs.Fronts.{there, starts, front_of_front}
 use Rattle.dist_script_play.specs.Pages.{Puts, IsOfSystem, PutsPart, BreaksOff}
-
--- what holds of a call that succeeded
-pub there : {X E P : Type 0} (r : Result X E) → OnOk r P → IsOk r → P
-there (Ok x) p is = p
-there (Err e) p is = absurd cc
 
 -- what holds of the fault of a call holds of what `?` returns
 pub at_err : {X : Type 0} (P : ScriptFault → Type 0) (r : Result X ScriptFault) (f : ScriptFault) → IsErrAnd r (λ g. g ≡ f) → P f → IfErr r P

@@ -1,5 +1,5 @@
 -- What is printed in parts.
-use Rattle.std.proofs.Common.{◌≡◌, ◌∙◌, ℕ, zero, suc, ◌+◌, ◌<◌, ◌≤◌, List, [], ◌∷◌, ◌++◌, codes, Option, slice_get, get_or, length, drop, refl, sym, ap, subst, arith, append-nil, append_assoc}
+use Rattle.std.proofs.Common.{◌≡◌, ◌∙◌, ℕ, zero, suc, ◌+◌, ◌<◌, ◌≤◌, List, [], ◌∷◌, ◌++◌, codes, Option, slice_get, get_or, length, drop, refl, sym, ap, subst, arith}
 use Rattle.std.specs.Io.KnownBytes.{Appends}
 use Rattle.std.proofs.KnownBytes.{Appends-nil, Appends-trans}
 use Rattle.std.proofs.lemmas.List.{at_drop_more, at_drop_all}
@@ -24,18 +24,6 @@ in_two a b c x y p q = Appends-trans a b c x y p q
 -- three parts
 pub in_three : (a b c d : Option (List ℕ)) (x y z : List ℕ) → Appends a b x → Appends b c y → Appends c d z → Appends a d (x ++ y ++ z)
 in_three a b c d x y z p q r = Appends-trans a c d (x ++ y) z (Appends-trans a b c x y p q) r
-
--- four parts
-pub in_four : (a b c d e : Option (List ℕ)) (x y z w : List ℕ) → Appends a b x → Appends b c y → Appends c d z → Appends d e w → Appends a e (x ++ y ++ z ++ w)
-in_four a b c d e x y z w p q r s = Appends-trans a d e (x ++ y ++ z) w (in_three a b c d x y z p q r) s
-
--- a part, and two that are put together
-pub two_by_two : (a b c : Option (List ℕ)) (x y z : List ℕ) → Appends a b x → Appends b c (y ++ z) → Appends a c (x ++ y ++ z)
-two_by_two a b c x y z p q = subst (λ t. Appends a c t) (sym (append_assoc x y z)) (Appends-trans a b c x (y ++ z) p q)
-
--- four pieces of one call
-pub four_pieces : (x y z w : List ℕ) → x ++ (y ++ (z ++ (w ++ []))) ≡ x ++ y ++ z ++ w
-four_pieces x y z w = ap (λ t. x ++ (y ++ (z ++ t))) (append-nil w) ∙ sym (append_assoc x y (z ++ w)) ∙ sym (append_assoc (x ++ y) z w)
 
 -- ---- the rows of a table
 

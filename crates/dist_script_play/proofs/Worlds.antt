@@ -14,7 +14,8 @@ use Rattle.dist_script.specs.declared.fault.ScriptFault.TheVariants.{WriteFailed
 use Rattle.dist_script_play.specs.Played.{happenings_text, IsEnd, IsPrintedFrom}
 use Rattle.dist_script_play.specs.Pages.{Puts, PutsPart}
 use Rattle.dist_script_play.specs.Scenes.{PutsOne, PutsOneOn, PutsOnePart, BreaksOne}
-use Rattle.dist_script_play.proofs.Pages.{there, line_lost, put_on_page, broken_on_page, puts_more, part_more, whole, breaks_off}
+use Rattle.dist_script.proofs.Fronts.{there}
+use Rattle.dist_script_play.proofs.Pages.{line_lost, put_on_page, broken_on_page, puts_more, part_more, whole, breaks_off}
 
 -- its end
 pub ends : (w : World) (applied all : ℕ) (a b c d : Option (List ℕ)) → Appends a b (applied_line applied all) → Appends b c (nodes_text w) → PutsAgreements w c d → PutsOne (IsEnd w applied all) a d

@@ -37,28 +37,32 @@ said_text (b ∷ bs) = encode_lower (b ∷ bs)
 -- the end that was closed, and why
 abbrev pub closed_text : Option (EndId × Why) → List ℕ
 closed_text None = codes " closed -"
-closed_text (Some x) = codes " closed " ++ decimal (let id = x.0 in id.0) ++ codes " " ++ why_word x.1
+closed_text (Some x) = concat (codes " closed " ∷ decimal (let id = x.0 in id.0) ∷ codes " " ∷ why_word x.1 ∷ [])
 
 -- the record of the end that came up, and the end of the line
 abbrev pub up_text : Option UpRecord → List ℕ
 up_text None = codes " up -\n"
 up_text (Some r) = concat (codes " up " ∷ r.peer ∷ codes " " ∷ flags_text r.common ∷ codes " " ∷ creation_text r.creation ∷ codes "\n" ∷ [])
 
+-- the end, and what is sent on it
+abbrev pub saying_text : EndId → List ℕ → List ℕ
+saying_text id say = concat (codes "end " ∷ decimal id.0 ∷ codes " say " ∷ said_text say ∷ [])
+
 -- A REPLY: end END say HEX closed END WHY up PEER COMMON CREATION
 abbrev pub reply_line : Reply → List ℕ
-reply_line r = (codes "end " ++ decimal (let id = r.end_ in id.0) ++ codes " say " ++ said_text r.say) ++ closed_text r.closed ++ up_text r.up
+reply_line r = saying_text r.end_ r.say ++ closed_text r.closed ++ up_text r.up
 
 -- the entry of a peer that is not idle: Out END, In END, Up END, Challenged END END
 abbrev pub busy_text : Entry → List ℕ
-busy_text (entry.Out x) = codes " Out " ++ decimal x.0
-busy_text (entry.In x) = codes " In " ++ decimal x.0
-busy_text (entry.Up x) = codes " Up " ++ decimal x.0
-busy_text (entry.Challenged up x) = codes " Challenged " ++ decimal up.0 ++ codes " " ++ decimal x.0
+busy_text (entry.Out x) = concat (codes " Out " ∷ decimal x.0 ∷ [])
+busy_text (entry.In x) = concat (codes " In " ∷ decimal x.0 ∷ [])
+busy_text (entry.Up x) = concat (codes " Up " ∷ decimal x.0 ∷ [])
+busy_text (entry.Challenged up x) = concat (codes " Challenged " ∷ decimal up.0 ∷ codes " " ∷ decimal x.0 ∷ [])
 
 -- what stands behind the name of a refusal: the entry, or the cause for which the end is closed
 abbrev pub detail_text : StepError → List ℕ
 detail_text refusal.NoSuchEnd = []
-detail_text (refusal.Gone why) = codes " " ++ why_word why
+detail_text (refusal.Gone why) = concat (codes " " ∷ why_word why ∷ [])
 detail_text refusal.WrongPhase = []
 detail_text (refusal.Busy e) = busy_text e
 detail_text refusal.Spent = []
@@ -67,20 +71,20 @@ detail_text refusal.NoMemory = []
 
 -- A REFUSAL: refused NAME, and what stands behind the name
 abbrev pub refused_line : StepError → List ℕ
-refused_line e = (codes "refused " ++ refusal_name e) ++ detail_text e ++ codes "\n"
+refused_line e = concat (codes "refused " ∷ refusal_name e ∷ []) ++ detail_text e ++ codes "\n"
 
 -- skipped K
 abbrev pub skipped_line : ℕ → List ℕ
-skipped_line k = codes "skipped " ++ decimal k ++ codes "\n"
+skipped_line k = concat (codes "skipped " ∷ decimal k ∷ codes "\n" ∷ [])
 
 -- ---- how a node stands
 
 -- out END, in END, up END, up END challenged END
 abbrev pub entry_text : Entry → List ℕ
-entry_text (entry.Out x) = codes " out " ++ decimal x.0
-entry_text (entry.In x) = codes " in " ++ decimal x.0
-entry_text (entry.Up x) = codes " up " ++ decimal x.0
-entry_text (entry.Challenged up x) = codes " up " ++ decimal up.0 ++ codes " challenged " ++ decimal x.0
+entry_text (entry.Out x) = concat (codes " out " ∷ decimal x.0 ∷ [])
+entry_text (entry.In x) = concat (codes " in " ∷ decimal x.0 ∷ [])
+entry_text (entry.Up x) = concat (codes " up " ∷ decimal x.0 ∷ [])
+entry_text (entry.Challenged up x) = concat (codes " up " ∷ decimal up.0 ∷ codes " challenged " ∷ decimal x.0 ∷ [])
 
 -- common COMMON creation N, where an end is up, and the end of the line
 abbrev pub record_text : Option UpRecord → List ℕ
@@ -116,18 +120,19 @@ table_text n = table_lines n (map.entries (table_of n.ends))
 
 -- A NODE of a world: node NAME running CREATION and its table, or node NAME halted
 abbrev pub node_text : Name → Option NodeState → List ℕ
-node_text name None = codes "node " ++ name ++ codes " halted\n"
-node_text name (Some n) = (codes "node " ++ name ++ codes " running " ++ decimal (let s = n.setup in let c = s.creation in c.0) ++ codes "\n") ++ table_text n
+node_text name None = concat (codes "node " ∷ name ∷ codes " halted\n" ∷ [])
+node_text name (Some n) =
+    concat (codes "node " ∷ name ∷ codes " running " ∷ decimal (let s = n.setup in let c = s.creation in c.0) ∷ codes "\n" ∷ []) ++ table_text n
 
 -- ---- a world
 
 -- closed N END WHY
 abbrev pub closed_line : ℕ → EndId → Why → List ℕ
-closed_line node id why = codes "closed " ++ decimal node ++ codes " " ++ decimal id.0 ++ codes " " ++ why_word why ++ codes "\n"
+closed_line node id why = concat (codes "closed " ∷ decimal node ∷ codes " " ∷ decimal id.0 ∷ codes " " ∷ why_word why ∷ codes "\n" ∷ [])
 
 -- applied K of M
 abbrev pub applied_line : ℕ → ℕ → List ℕ
-applied_line k m = codes "applied " ++ decimal k ++ codes " of " ++ decimal m ++ codes "\n"
+applied_line k m = concat (codes "applied " ∷ decimal k ∷ codes " of " ∷ decimal m ∷ codes "\n" ∷ [])
 
 -- agree NAME NAME conn C common COMMON creations X Y
 abbrev pub agree_line : Name → Name → Agreement → List ℕ

@@ -45,7 +45,7 @@ impl Printout {
     }
 
     // Writes the page out, and empties it even if that fails: nothing is written twice.
-    #[tactic(auto, using(crate::proofs::Pages::there, dist_script::proofs::Fronts::front_either))]
+    #[tactic(auto, using(dist_script::proofs::Fronts::there, dist_script::proofs::Fronts::front_either))]
     fn write_out<W: Write>(&mut self, out: &mut W) -> Result<(), ScriptFault>
         ensures text { OnOk result (Appends (W.contents out.old) (W.contents out.new) self.old.text.items) }
         ensures front { PutsFront self.old.text.items (W.contents out.old) (W.contents out.new) }
@@ -74,7 +74,7 @@ impl Printout {
     }
 
     /// Writes out the page at the end, even if the playing stopped early. Returns the first fault.
-    #[tactic(auto, using(crate::proofs::Pages::there, crate::proofs::Pages::flushed, crate::proofs::Pages::front_flushed))]
+    #[tactic(auto, using(dist_script::proofs::Fronts::there, crate::proofs::Pages::flushed, crate::proofs::Pages::front_flushed))]
     pub fn finish<W: Write>(
         &mut self,
         played: Result<(), ScriptFault>,

@@ -81,7 +81,7 @@ fn play_lines<W: Write>(
 }
 
 // Plays a script of one node. If a fault stops it, what was printed before is written out.
-#[tactic(auto, using(crate::proofs::Pages::there, crate::proofs::Pages::whole, crate::proofs::Pages::breaks_off))]
+#[tactic(auto, using(dist_script::proofs::Fronts::there, crate::proofs::Pages::whole, crate::proofs::Pages::breaks_off))]
 fn play_node<W: Write>(
     alloc: Global,
     node: Setup,

@@ -1,63 +1,60 @@
 //! The lines that a script prints: what a node answers, which ends a world closes, and how all stand at the end.
 
-ghost use Rattle.std.specs.Prelude.{◌≡◌, ◌++◌, codes, decimal, option_copied, slice_get, OnOk, Some, None};
+ghost use Rattle.std.specs.Prelude.{◌≡◌, option_copied, slice_get, OnOk};
 ghost use Rattle.std.specs.FinMap as map;
 ghost use Rattle.std.specs.Io.KnownBytes.{Appends};
 ghost use Rattle.dist_peers.specs.Table.{up_id};
 ghost use Rattle.dist_core_ends.specs.Ends.{table_of};
-ghost use Rattle.dist_core_ends.specs.Words.{why_word};
-ghost use Rattle.dist_core.specs.Words.{refusal_name};
-ghost use Rattle.dist_core.specs.declared.reply.Note.TheVariants as note;
-ghost use Rattle.dist_script.specs.Texts.{text_of};
-ghost use Rattle.dist_script_play.specs.Lines.{creation_text, said_text, closed_text, up_text, reply_line, busy_text, detail_text};
+ghost use Rattle.dist_script.specs.Texts.{text_of, texts_of};
+ghost use Rattle.dist_script_play.specs.Lines.{creation_text, said_text, saying_text, closed_text, up_text, reply_line, busy_text, detail_text};
 ghost use Rattle.dist_script_play.specs.Lines.{refused_line, entry_text, record_at, record_text, row_text, found_text, table_text};
 ghost use Rattle.dist_script_play.specs.Lines.{node_text, closed_line, applied_line, skipped_line, agree_line};
 
 use dist_core::{Node, Reply, StepError, UpRecord, Why};
 use dist_names::{Creation, NodeName};
 use dist_peers::{EndId, Entry};
-use dist_script::{Piece, put, put_bytes, put_digits, put_number};
+use dist_script::{Piece, put, put_bytes};
 use dist_world::Agreement;
 use std::io;
 use std::io::Write;
+
+const NOTHING: Piece<'static> = Piece::Text(b"");
 
 // A creation, where it is known.
 fn creation(creation: Option<Creation>) -> Piece<'static>
     ensures { text_of result ≡ creation_text creation }
 {
     match creation {
-        Some(creation) => Piece::Number(u64::from(creation.0)),
+        Some(creation) => Piece::Number(creation.0 as u64),
         None => Piece::Text(b"unknown"),
     }
 }
 
-#[inline(always)]
-fn put_said<W: Write>(out: &mut W, say: &[u8]) -> io::Result<()>
-    ensures { OnOk result (Appends (W.contents out.old) (W.contents out.new) (said_text say.now)) }
+// What is sent, or that nothing is.
+fn said_piece(say: &[u8]) -> Piece<'_>
+    ensures { text_of result ≡ said_text say.now }
 {
     if say.is_empty() {
-        put_bytes(out, b"-")
+        Piece::Text(b"-")
     } else {
-        put_digits(out, say)
+        Piece::Digits(say)
     }
 }
 
 // The end that a step closed, and why.
-#[tactic(auto, using(crate::proofs::Printing::in_four))]
-fn put_closing<W: Write>(out: &mut W, id: EndId, why: Why) -> io::Result<()>
-    ensures { OnOk result (Appends (W.contents out.old) (W.contents out.new) (codes " closed " ++ decimal id.0 ++ codes " " ++ why_word why)) }
-{
-    put_bytes(out, b" closed ")?;
-    put_number(out, u64::from(id.0))?;
-    put_bytes(out, b" ")?;
-    put_bytes(out, why.name().as_bytes())
-}
-
 fn write_closed<W: Write>(out: &mut W, closed: Option<(EndId, Why)>) -> io::Result<()>
     ensures { OnOk result (Appends (W.contents out.old) (W.contents out.new) (closed_text closed)) }
 {
     match closed {
-        Some((id, why)) => put_closing(out, id, why),
+        Some((id, why)) => put(
+            out,
+            &[
+                Piece::Text(b" closed "),
+                Piece::Number(id.0 as u64),
+                Piece::Text(b" "),
+                Piece::Text(why.name().as_bytes()),
+            ],
+        ),
         None => put_bytes(out, b" closed -"),
     }
 }
@@ -84,106 +81,95 @@ fn came_up<W: Write>(out: &mut W, up: Option<&UpRecord>) -> io::Result<()>
 }
 
 // The end of a reply, and what it says.
-#[tactic(auto, using(crate::proofs::Printing::in_four))]
-#[inline(always)]
 fn put_saying<W: Write>(out: &mut W, id: EndId, say: &[u8]) -> io::Result<()>
-    ensures { OnOk result (Appends (W.contents out.old) (W.contents out.new) (codes "end " ++ decimal id.0 ++ codes " say " ++ said_text say.now)) }
+    ensures { OnOk result (Appends (W.contents out.old) (W.contents out.new) (saying_text id say.now)) }
 {
-    put_bytes(out, b"end ")?;
-    put_number(out, u64::from(id.0))?;
-    put_bytes(out, b" say ")?;
-    put_said(out, say)
-}
-
-// What a step closed and what came up: most steps do neither.
-#[tactic(auto, using(crate::proofs::Printing::in_two))]
-#[inline(always)]
-fn put_outcome<W: Write>(
-    out: &mut W,
-    closed: Option<(EndId, Why)>,
-    up: Option<&UpRecord>,
-) -> io::Result<()>
-    ensures { OnOk result (Appends (W.contents out.old) (W.contents out.new) (closed_text closed ++ up_text (option_copied up.entry))) }
-{
-    if closed.is_none() && up.is_none() {
-        return put_bytes(out, b" closed - up -\n");
-    }
-    write_closed(out, closed)?;
-    came_up(out, up)
+    put(
+        out,
+        &[
+            Piece::Text(b"end "),
+            Piece::Number(id.0 as u64),
+            Piece::Text(b" say "),
+            said_piece(say),
+        ],
+    )
 }
 
 /// What a step returned.
-#[tactic(auto, using(crate::proofs::Printing::two_by_two))]
-#[inline(always)]
+#[tactic(auto, using(crate::proofs::Printing::in_three))]
 pub fn reply<W: Write>(out: &mut W, reply: &Reply) -> io::Result<()>
     ensures { OnOk result (Appends (W.contents out.old) (W.contents out.new) (reply_line reply.now)) }
 {
     put_saying(out, reply.end_, reply.say.as_slice())?;
-    put_outcome(out, reply.closed, reply.up.as_ref())
+    write_closed(out, reply.closed)?;
+    came_up(out, reply.up.as_ref())
 }
 
-/// What a step returned that says this and closed this, where nothing came up and nothing is noted.
-#[tactic(auto, using(crate::proofs::Printing::two_by_two))]
-#[inline(always)]
-pub fn brief_reply<W: Write>(
-    out: &mut W,
-    id: EndId,
-    say: &[u8],
-    closed: Option<(EndId, Why)>,
-) -> io::Result<()>
-    ensures { OnOk result (Appends (W.contents out.old) (W.contents out.new)
-        (reply_line (record { end_ = id; say = say.now; closed = closed; up = None; note = note.Nothing }))) }
-{
-    put_saying(out, id, say)?;
-    put_outcome(out, closed, None)
-}
-
-fn busy<W: Write>(out: &mut W, entry: Entry) -> io::Result<()>
-    ensures { OnOk result (Appends (W.contents out.old) (W.contents out.new) (busy_text entry)) }
+// The entry of a peer that is not idle.
+fn busy(entry: Entry) -> [Piece<'static>; 4]
+    ensures { texts_of result ≡ busy_text entry }
 {
     match entry {
-        Entry::Out(id) => put(out, &[Piece::Text(b" Out "), Piece::Number(id.0 as u64)]),
-        Entry::In(id) => put(out, &[Piece::Text(b" In "), Piece::Number(id.0 as u64)]),
-        Entry::Up(id) => put(out, &[Piece::Text(b" Up "), Piece::Number(id.0 as u64)]),
-        Entry::Challenged { up, by_ } => put(
-            out,
-            &[
-                Piece::Text(b" Challenged "),
-                Piece::Number(up.0 as u64),
-                Piece::Text(b" "),
-                Piece::Number(by_.0 as u64),
-            ],
-        ),
+        Entry::Out(id) => [
+            Piece::Text(b" Out "),
+            Piece::Number(id.0 as u64),
+            NOTHING,
+            NOTHING,
+        ],
+        Entry::In(id) => [
+            Piece::Text(b" In "),
+            Piece::Number(id.0 as u64),
+            NOTHING,
+            NOTHING,
+        ],
+        Entry::Up(id) => [
+            Piece::Text(b" Up "),
+            Piece::Number(id.0 as u64),
+            NOTHING,
+            NOTHING,
+        ],
+        Entry::Challenged { up, by_ } => [
+            Piece::Text(b" Challenged "),
+            Piece::Number(up.0 as u64),
+            Piece::Text(b" "),
+            Piece::Number(by_.0 as u64),
+        ],
     }
 }
 
 // What stands behind the name of a refusal.
-#[tactic(auto, using(crate::proofs::Printing::nothing))]
-fn detail<W: Write>(out: &mut W, error: StepError) -> io::Result<()>
-    ensures { OnOk result (Appends (W.contents out.old) (W.contents out.new) (detail_text error)) }
+fn detail(error: StepError) -> [Piece<'static>; 4]
+    ensures { texts_of result ≡ detail_text error }
 {
     match error {
-        StepError::Busy(entry) => busy(out, entry),
-        StepError::Gone(why) => put(
-            out,
-            &[Piece::Text(b" "), Piece::Text(why.name().as_bytes())],
-        ),
+        StepError::Busy(entry) => busy(entry),
+        StepError::Gone(why) => [
+            Piece::Text(b" "),
+            Piece::Text(why.name().as_bytes()),
+            NOTHING,
+            NOTHING,
+        ],
         StepError::NoSuchEnd
         | StepError::WrongPhase
         | StepError::Spent
         | StepError::Full
-        | StepError::NoMemory => Ok(()),
+        | StepError::NoMemory => [NOTHING, NOTHING, NOTHING, NOTHING],
     }
 }
 
 /// Why a step was refused.
-#[tactic(auto, using(crate::proofs::Printing::in_four))]
+#[tactic(auto, using(crate::proofs::Printing::in_three))]
 pub fn write_refused<W: Write>(out: &mut W, error: StepError) -> io::Result<()>
     ensures { OnOk result (Appends (W.contents out.old) (W.contents out.new) (refused_line error)) }
 {
-    put_bytes(out, b"refused ")?;
-    put_bytes(out, error.name().as_bytes())?;
-    detail(out, error)?;
+    put(
+        out,
+        &[
+            Piece::Text(b"refused "),
+            Piece::Text(error.name().as_bytes()),
+        ],
+    )?;
+    put(out, &detail(error))?;
     put_bytes(out, b"\n")
 }
 
@@ -201,22 +187,35 @@ pub fn write_skipped<W: Write>(out: &mut W, count: usize) -> io::Result<()>
     )
 }
 
-fn standing<W: Write>(out: &mut W, entry: Entry) -> io::Result<()>
-    ensures { OnOk result (Appends (W.contents out.old) (W.contents out.new) (entry_text entry)) }
+// The entry of a peer in the table.
+fn standing(entry: Entry) -> [Piece<'static>; 4]
+    ensures { texts_of result ≡ entry_text entry }
 {
     match entry {
-        Entry::Out(id) => put(out, &[Piece::Text(b" out "), Piece::Number(id.0 as u64)]),
-        Entry::In(id) => put(out, &[Piece::Text(b" in "), Piece::Number(id.0 as u64)]),
-        Entry::Up(id) => put(out, &[Piece::Text(b" up "), Piece::Number(id.0 as u64)]),
-        Entry::Challenged { up, by_ } => put(
-            out,
-            &[
-                Piece::Text(b" up "),
-                Piece::Number(up.0 as u64),
-                Piece::Text(b" challenged "),
-                Piece::Number(by_.0 as u64),
-            ],
-        ),
+        Entry::Out(id) => [
+            Piece::Text(b" out "),
+            Piece::Number(id.0 as u64),
+            NOTHING,
+            NOTHING,
+        ],
+        Entry::In(id) => [
+            Piece::Text(b" in "),
+            Piece::Number(id.0 as u64),
+            NOTHING,
+            NOTHING,
+        ],
+        Entry::Up(id) => [
+            Piece::Text(b" up "),
+            Piece::Number(id.0 as u64),
+            NOTHING,
+            NOTHING,
+        ],
+        Entry::Challenged { up, by_ } => [
+            Piece::Text(b" up "),
+            Piece::Number(up.0 as u64),
+            Piece::Text(b" challenged "),
+            Piece::Number(by_.0 as u64),
+        ],
     }
 }
 
@@ -252,7 +251,7 @@ fn write_row<W: Write>(out: &mut W, node: &Node, peer: &NodeName, entry: Entry) 
     ensures { OnOk result (Appends (W.contents out.old) (W.contents out.new) (row_text node.now (peer.now, entry))) }
 {
     put_bytes(out, peer.bytes())?;
-    standing(out, entry)?;
+    put(out, &standing(entry))?;
     record(out, up_record(node, entry))
 }
 
@@ -291,7 +290,7 @@ pub fn closed_end<W: Write>(out: &mut W, node: usize, id: EndId, why: Why) -> io
             Piece::Text(b"closed "),
             Piece::Number(node as u64),
             Piece::Text(b" "),
-            Piece::Number(u64::from(id.0)),
+            Piece::Number(id.0 as u64),
             Piece::Text(b" "),
             Piece::Text(why.name().as_bytes()),
             Piece::Text(b"\n"),
@@ -328,7 +327,7 @@ pub fn node<W: Write>(out: &mut W, name: &NodeName, incarnation: Option<&Node>) 
                     Piece::Text(b"node "),
                     Piece::Text(name.bytes()),
                     Piece::Text(b" running "),
-                    Piece::Number(u64::from(node.creation().0)),
+                    Piece::Number(node.creation().0 as u64),
                     Piece::Text(b"\n"),
                 ],
             )?;

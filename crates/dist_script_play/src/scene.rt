@@ -1,10 +1,9 @@
 //! A node to which a script gives events and bytes, with a reader of frames for each of its ends.
 
-ghost use Rattle.std.specs.Prelude.{◌≡◌, length, None, IfOk, OnOk};
+ghost use Rattle.std.specs.Prelude.{◌≡◌, length, IfOk, OnOk};
 ghost use Rattle.std.specs.Io.KnownBytes.{Appends};
 ghost use Rattle.dist_frames.specs.Reader.{to_come};
 ghost use Rattle.dist_core.specs.Step.{step};
-ghost use Rattle.dist_core.specs.declared.reply.Note.TheVariants as note;
 ghost use Rattle.dist_script_play.specs.Lines.{refused_line, reply_line, table_text};
 ghost use Rattle.dist_script_play.specs.Played.{at_first, step_text, reply_in, after_step, open_readers, reader_of, after_frame};
 ghost use Rattle.dist_script_play.specs.Played.{received_frames, received, received_text, after_received, packets_text, line_text, after_line};
@@ -12,8 +11,7 @@ ghost use Rattle.dist_script_play.specs.Scenes.{Receives};
 
 use crate::print;
 use crate::readers::Readers;
-use dist_core::{Event, Node, Reply, Setup, StepError, Still, Why};
-use dist_frames::tick;
+use dist_core::{Event, Node, Reply, Setup, StepError, Still};
 use dist_names::ByteString;
 use dist_peers::EndId;
 use dist_script::{ScriptFault, ScriptLine, or_write_failed};
@@ -45,20 +43,6 @@ fn print_refusal<W: Write>(error: StepError, out: &mut W) -> Result<(), ScriptFa
         StepError::NoMemory => Err(ScriptFault::NoMemory),
         _ => or_write_failed(print::write_refused(out, error)),
     }
-}
-
-// Prints the reply of a step that brought no end up.
-#[inline(never)]
-fn print_brief<W: Write>(
-    out: &mut W,
-    id: EndId,
-    say: &[u8],
-    closed: Option<(EndId, Why)>,
-) -> Result<(), ScriptFault>
-    ensures { OnOk result (Appends (W.contents out.old) (W.contents out.new)
-        (reply_line (record { end_ = id; say = say.now; closed = closed; up = None; note = note.Nothing }))) }
-{
-    or_write_failed(print::brief_reply(out, id, say, closed))
 }
 
 // Prints what follows the lines of the frames.
@@ -96,9 +80,6 @@ impl NodeScene {
         ensures after { OnOk result (self.new ≡ after_line self.old line.now) }
     {
         match line {
-            ScriptLine::Event(Event::Incoming { link }) => self.accept(*link, out),
-            ScriptLine::Event(Event::Lost { end_, why }) => self.lose(*end_, *why, out),
-            ScriptLine::Event(Event::Tick { end_ }) => self.tick(*end_, out),
             ScriptLine::Event(event) => {
                 self.step(alloc, event, 0, out)?;
                 Ok(())
@@ -116,46 +97,6 @@ impl NodeScene {
         ensures { OnOk result (Appends (W.contents out.old) (W.contents out.new) (table_text self.now.node)) }
     {
         or_write_failed(print::table(out, &self.node))
-    }
-
-    // Reports a connection to the node.
-    #[tactic(auto, using(crate::proofs::Steps::returned_or_refused))]
-    fn accept<W: Write>(&mut self, _link: u64, out: &mut W) -> Result<(), ScriptFault>
-        ensures text { OnOk result (Appends (W.contents out.old) (W.contents out.new) (step_text (step self.old.node (Event.Incoming _link) 0))) }
-        ensures after { OnOk result (self.new ≡ after_step self.old (step self.old.node (Event.Incoming _link) 0)) }
-    {
-        match self.node.accept() {
-            Ok(id) => print_brief(out, id, &[], None),
-            Err(error) => print_refusal(error, out),
-        }
-    }
-
-    // Reports the loss of an end, and drops its reader.
-    #[tactic(auto, using(crate::proofs::Steps::returned_or_denied))]
-    fn lose<W: Write>(&mut self, end_: EndId, why: Why, out: &mut W) -> Result<(), ScriptFault>
-        ensures text { OnOk result (Appends (W.contents out.old) (W.contents out.new) (step_text (step self.old.node (Event.Lost end_ why) 0))) }
-        ensures after { OnOk result (self.new ≡ after_step self.old (step self.old.node (Event.Lost end_ why) 0)) }
-    {
-        match self.node.lose(end_, why) {
-            Ok(()) => {
-                print_brief(out, end_, &[], Some((end_, why)))?;
-                self.readers.forget(end_);
-                Ok(())
-            }
-            Err(error) => print_refusal(error, out),
-        }
-    }
-
-    // Reports that a tick is due on an end.
-    #[tactic(auto, using(crate::proofs::Steps::returned_or_denied))]
-    fn tick<W: Write>(&mut self, end_: EndId, out: &mut W) -> Result<(), ScriptFault>
-        ensures text { OnOk result (Appends (W.contents out.old) (W.contents out.new) (step_text (step self.old.node (Event.Tick end_) 0))) }
-        ensures after { OnOk result (self.new ≡ after_step self.old (step self.old.node (Event.Tick end_) 0)) }
-    {
-        match self.node.tick(end_) {
-            Ok(()) => print_brief(out, end_, &tick(), None),
-            Err(error) => print_refusal(error, out),
-        }
     }
 
     // Makes a step and prints the result. Returns the reply, if the step was not refused.

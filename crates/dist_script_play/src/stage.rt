@@ -5,7 +5,7 @@ ghost use Rattle.std.specs.Io.KnownBytes.{Appends};
 ghost use Rattle.dist_world_model.specs.World.{empty};
 ghost use Rattle.dist_world_model.specs.Run.{run, count_applied};
 ghost use Rattle.dist_world.specs.Setups.{names_repeat};
-ghost use Rattle.dist_script_play.specs.Played.{closed_now, happenings_text, IsEnd, IsPrintedFrom};
+ghost use Rattle.dist_script_play.specs.Played.{happenings_text, IsEnd, IsPrintedFrom};
 ghost use Rattle.dist_script_play.specs.Pages.{Puts, PutsPart};
 ghost use Rattle.dist_script_play.specs.Scenes.{closed_after, PutsOne, PutsOneOn, PutsOnePart};
 
@@ -30,25 +30,8 @@ pub fn world_of(alloc: Global, nodes: Vec<Setup>) -> Result<World, ScriptFault>
     }
 }
 
-// Puts the line of the end that the last happening closed on the page, if it closed one.
+// Puts the line of the end that the last happening closed on the page, if it applied and closed one.
 #[tactic(auto, using(crate::proofs::Pages::text_put, crate::proofs::Pages::puts_none))]
-fn put_last<W: Write>(world: &World, page: &mut Printout, out: &mut W) -> Result<(), ScriptFault>
-    ensures text { OnOk result (Puts (closed_now world.now.last_closed)
-        (W.contents out.old) (W.contents out.new) page.old.text.items page.new.text.items) }
-    ensures cut { IfErr result (λ fault. PutsPart (closed_now world.now.last_closed)
-        (W.contents out.old) (W.contents out.new) page.old.text.items page.new.text.items fault) }
-{
-    let Some((node, end_, why)) = world.last_closed() else {
-        return Ok(());
-    };
-    page.line.clear();
-    on_page(or_write_failed(print::closed_end(&mut page.line, node, end_, why)))?;
-    page.put_line(out)?;
-    Ok(())
-}
-
-// The same, if a happening applied.
-#[tactic(auto, using(crate::proofs::Pages::puts_none))]
 fn put_closed<W: Write>(
     world: &World,
     applied: usize,
@@ -60,11 +43,16 @@ fn put_closed<W: Write>(
     ensures cut { IfErr result (λ fault. PutsPart (closed_after applied world.now.last_closed)
         (W.contents out.old) (W.contents out.new) page.old.text.items page.new.text.items fault) }
 {
-    if applied > 0 {
-        put_last(world, page, out)
-    } else {
-        Ok(())
+    if applied == 0 {
+        return Ok(());
     }
+    let Some((node, end_, why)) = world.last_closed() else {
+        return Ok(());
+    };
+    page.line.clear();
+    on_page(or_write_failed(print::closed_end(&mut page.line, node, end_, why)))?;
+    page.put_line(out)?;
+    Ok(())
 }
 
 // Lets one happening happen, and puts the line of the end that its step closed on the page. Returns how many applied.

@@ -1,12 +1,12 @@
 //! Calls: a name is registered at the node's port mapper, with a port of our own, and the node is made to dial it.
 
 use crate::fault::Fault;
-use crate::reaching::{TURNS, deadline};
+use crate::reaching::{TURNS, talk_to};
 use crate::talk_link::TalkLink;
 use dist_epmd::NodeInfo;
 use dist_epmd_calls::{LookupError, register};
 use dist_program::at_port;
-use dist_stream::{SocketStream, connect_by};
+use dist_stream::SocketStream;
 use libc::types::pollfd;
 use std::alloc::{AllocError, Global};
 use std::io;
@@ -47,8 +47,7 @@ fn registration_of(
     mapper: &SocketAddr,
     info: &NodeInfo,
 ) -> Result<Option<SocketStream>, Fault> {
-    let until = deadline(rt)?;
-    let Ok(mut stream) = connect_by(rt, mapper, until) else {
+    let Ok(mut stream) = talk_to(rt, mapper) else {
         return Ok(None);
     };
     match register(rt.alloc(), &mut stream, info, TURNS) {

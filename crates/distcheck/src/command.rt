@@ -9,10 +9,30 @@ use dist_program::{name_sentence, number_sentence, parser_sentence, with_word};
 use std::alloc::{AllocError, Global};
 
 /// What the command line asks for.
-#[derive(Drop)]
+#[derive(Clone, Copy)]
+pub enum CheckTask<'a> {
+    /// Print this: the help or the version.
+    Print(&'static str),
+    /// Print rows, or check a node, a port mapper, or both.
+    Check(CheckOrder<'a>),
+}
+
+/// The name of a node.
+#[derive(Clone, Copy)]
+pub struct NamedNode<'a> {
+    /// All of it.
+    pub name: &'a str,
+    /// The part before the `@`.
+    pub short: &'a str,
+    /// The part behind it.
+    pub host: &'a str,
+}
+
+/// The rows to print, or what is checked, and how.
+#[derive(Clone, Copy)]
 pub struct CheckOrder<'a> {
-    /// The node that is checked, and the host part of its name.
-    pub node: Option<(NodeName, &'a str)>,
+    /// The node that is checked.
+    pub node: Option<NamedNode<'a>>,
     /// The node's port, if its port mapper is not asked.
     pub port: Option<u16>,
     /// The port at which the node's port mapper is asked.
@@ -45,27 +65,6 @@ pub struct CheckOrder<'a> {
     pub explain: Option<&'a str>,
 }
 
-/// What is done instead.
-#[derive(Drop)]
-pub enum PrintedInstead {
-    /// Print this: the help or the version.
-    Text(&'static str),
-    /// Refuse the words.
-    Fault(Fault),
-}
-
-impl From<Fault> for PrintedInstead {
-    fn from(fault: Fault) -> PrintedInstead {
-        PrintedInstead::Fault(fault)
-    }
-}
-
-impl From<AllocError> for PrintedInstead {
-    fn from(_error: AllocError) -> PrintedInstead {
-        PrintedInstead::Fault(Fault::NoMemory)
-    }
-}
-
 // The program's name.
 const PROGRAM: &str = "distcheck";
 
@@ -92,38 +91,38 @@ const COOKIE_FILE: &str = "cookie-file";
 // The most letters and digits of a tag.
 const MOST_OF_TAG: usize = 8;
 
+// An option.
+fn option<'a>(alloc: Global, word: &'a str, action: ArgAction) -> Arg<'a> {
+    Arg::new(alloc, word).long(word).action(action)
+}
+
 // The command line with more options, all made in this way.
 fn with_options<'a>(
     alloc: Global,
-    bare: Command<'a>,
+    mut program: Command<'a>,
     words: &[&'a str],
     action: ArgAction,
 ) -> Result<Command<'a>, AllocError> {
-    let mut program = bare;
     for word in words {
-        program = program.arg(Arg::new(alloc, word).long(word).action(action))?;
+        program = program.arg(option(alloc, word, action))?;
     }
     Ok(program)
 }
 
-// The command line: the node, and the options.
-fn program<'a>(alloc: Global) -> Result<Command<'a>, AllocError> {
-    let cookie = Arg::new(alloc, COOKIE).long(COOKIE).action(ArgAction::Set);
+// The command line with just the cookie's file and the node.
+fn bare<'a>(alloc: Global) -> Result<Command<'a>, AllocError> {
+    let cookie = option(alloc, COOKIE, ArgAction::Set).alias(COOKIE_FILE)?;
     let bare = Command::new(alloc, PROGRAM)
         .no_binary_name(true)
         .version("0")
-        .arg(Arg::new(alloc, "node").action(ArgAction::Set))?
-        .arg(cookie.alias(COOKIE_FILE)?)?;
-    let program = with_options(alloc, bare, &SWITCHES, ArgAction::SetTrue)?;
-    with_options(alloc, program, &VALUES, ArgAction::Set)
+        .arg(cookie)?;
+    bare.arg(Arg::new(alloc, "node").action(ArgAction::Set))
 }
 
-// The refusal of a word by this sentence about it, if there was memory for the sentence.
-fn refusal(sentence: Result<String, AllocError>) -> Fault {
-    match sentence {
-        Ok(sentence) => Fault::BadWord(sentence),
-        Err(AllocError) => Fault::NoMemory,
-    }
+// The command line: the node, and the options.
+fn program<'a>(alloc: Global) -> Result<Command<'a>, AllocError> {
+    let program = with_options(alloc, bare(alloc)?, &SWITCHES, ArgAction::SetTrue)?;
+    with_options(alloc, program, &VALUES, ArgAction::Set)
 }
 
 // The number from 1 to 65,535 of this option, if it is given.
@@ -132,23 +131,23 @@ fn port_in(alloc: Global, matches: &ArgMatches<'_>, id: &str) -> Result<Option<u
         return Ok(None);
     };
     match number_16(word.as_bytes()) {
-        Some(0) | None => Err(refusal(number_sentence(alloc, PROGRAM, id, word))),
+        Some(0) | None => Err(Fault::BadWord(number_sentence(alloc, PROGRAM, id, word)?)),
         number => Ok(number),
     }
 }
 
-// The node, and the host part of its name.
-fn node_in<'a>(
-    alloc: Global,
-    matches: &ArgMatches<'a>,
-) -> Result<Option<(NodeName, &'a str)>, Fault> {
-    let Some(word) = matches.get_str("node") else {
+// The node's name, if it is given.
+fn node_in<'a>(alloc: Global, matches: &ArgMatches<'a>) -> Result<Option<NamedNode<'a>>, Fault> {
+    let Some(name) = matches.get_str("node") else {
         return Ok(None);
     };
-    match NodeName::new(alloc, word.as_bytes()) {
-        Ok(name) => Ok(Some((name, word.split_once('@').unwrap_or(("", "")).1))),
+    match NodeName::new(alloc, name.as_bytes()) {
+        Ok(_) => {
+            let (short, host) = name.split_once('@').unwrap_or((name, ""));
+            Ok(Some(NamedNode { name, short, host }))
+        }
         Err(NameError::NoMemory) => Err(Fault::NoMemory),
-        Err(_) => Err(refusal(name_sentence(alloc, word))),
+        Err(_) => Err(Fault::BadWord(name_sentence(alloc, name)?)),
     }
 }
 
@@ -174,7 +173,7 @@ fn place_in<'a>(
     match host_and_port(word) {
         None => {
             let front = format!(in alloc; "--{id} takes HOST:PORT: ")?;
-            Err(refusal(with_word(alloc, &front, word)))
+            Err(Fault::BadWord(with_word(alloc, &front, word)?))
         }
         place => Ok(place),
     }
@@ -187,7 +186,7 @@ fn tag_in<'a>(alloc: Global, matches: &ArgMatches<'a>) -> Result<&'a str, Fault>
         return Ok(tag);
     }
     let front = "--tag takes up to 8 letters and digits: ";
-    Err(refusal(with_word(alloc, front, tag)))
+    Err(Fault::BadWord(with_word(alloc, front, tag)?))
 }
 
 // What the parser matched.
@@ -222,28 +221,27 @@ fn order_in<'a>(
     }
 }
 
-// What is done if the parser matched nothing.
-fn printed_instead(alloc: Global, error: &Error) -> Result<PrintedInstead, AllocError> {
+// What is asked for if the parser matched nothing.
+fn task_instead<'a>(alloc: Global, error: &Error) -> Result<CheckTask<'a>, Fault> {
     match error.kind() {
-        ErrorKind::DisplayHelp => Ok(PrintedInstead::Text(HELP)),
-        ErrorKind::DisplayVersion => Ok(PrintedInstead::Text(VERSION)),
-        ErrorKind::OutOfMemory => Err(AllocError),
+        ErrorKind::DisplayHelp => Ok(CheckTask::Print(HELP)),
+        ErrorKind::DisplayVersion => Ok(CheckTask::Print(VERSION)),
+        ErrorKind::OutOfMemory => Err(Fault::NoMemory),
         _ => {
             let text = format!(in alloc; "{error}")?;
-            let sentence = parser_sentence(alloc, PROGRAM, &text)?;
-            Ok(PrintedInstead::Fault(Fault::BadWord(sentence)))
+            Err(Fault::BadWord(parser_sentence(alloc, PROGRAM, &text)?))
         }
     }
 }
 
 /// What these words ask for. `usual_port` is the port mapper's port if they name none.
-pub fn order_of<'a>(
+pub fn task_of<'a>(
     alloc: Global,
     words: &'a [String],
     usual_port: u16,
-) -> Result<CheckOrder<'a>, PrintedInstead> {
+) -> Result<CheckTask<'a>, Fault> {
     match program(alloc)?.try_get_matches_from(words) {
-        Ok(matches) => Ok(order_in(alloc, &matches, usual_port)?),
-        Err(error) => Err(printed_instead(alloc, &error)?),
+        Ok(matches) => Ok(CheckTask::Check(order_in(alloc, &matches, usual_port)?)),
+        Err(error) => task_instead(alloc, &error),
     }
 }

@@ -5,14 +5,20 @@ use crate::fault::Fault;
 use dist_names::quote;
 use dist_program::{CookieFault, cookie_at, home_cookie};
 use dist_secret::Cookie;
-use std::alloc::{AllocError, Global};
+use std::alloc::Global;
 
-// The sentence that refuses a file that others can use: the reason in the words of `erl`, and the remedy.
-fn sentence_of(alloc: Global, path: &str) -> Result<String, AllocError> {
-    let file = quote(alloc, path.as_bytes())?;
-    format!(in alloc;
-        "NotPrivate: cookie file {file} must be accessible by owner only: chmod 600 {file}, or --cookie-unsafe takes it"
-    )
+// Why a file gives no cookie.
+fn fault_of(alloc: Global, fault: &CookieFault) -> Fault {
+    match fault {
+        CookieFault::OpenFailed => Fault::OpenFailed,
+        CookieFault::NotStored => Fault::NotStored,
+        CookieFault::NotPrivate(path) => match quote(alloc, path.as_bytes()) {
+            Ok(file) => Fault::NotPrivate(file),
+            Err(_) => Fault::NoMemory,
+        },
+        CookieFault::NoCookie(error) => Fault::NoCookie(*error),
+        CookieFault::NoMemory => Fault::NoMemory,
+    }
 }
 
 /// The cookie of the named file, or of the home folder.
@@ -23,13 +29,7 @@ pub fn cookie_of(rt: &HostRuntime, order: &CheckOrder<'_>) -> Result<Cookie, Fau
     };
     match found {
         Ok(Some(cookie)) => Ok(cookie),
-        Ok(None) | Err(CookieFault::OpenFailed) => Err(Fault::OpenFailed),
-        Err(CookieFault::NotStored) => Err(Fault::NotStored),
-        Err(CookieFault::NotPrivate(path)) => Err(Fault::NotPrivate(sentence_of(
-            rt.alloc(),
-            &path,
-        )?)),
-        Err(CookieFault::NoCookie(error)) => Err(Fault::NoCookie(error)),
-        Err(CookieFault::NoMemory) => Err(Fault::NoMemory),
+        Ok(None) => Err(Fault::OpenFailed),
+        Err(fault) => Err(fault_of(rt.alloc(), &fault)),
     }
 }

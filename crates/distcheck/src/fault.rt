@@ -29,7 +29,7 @@ pub enum Fault {
     OpenFailed,
     /// The cookie's file is a pipe, a socket or a device.
     NotStored,
-    /// Others than its owner may use the cookie's file: the sentence about it, safe to print.
+    /// Others than its owner may use the cookie's file: its name, safe to print.
     NotPrivate(String),
     /// The cookie's file has no cookie.
     NoCookie(CookieError),
@@ -79,12 +79,13 @@ impl Fault {
             Fault::BadCommandLine => "bad command line: a word is no UTF-8 (distcheck --help)",
             Fault::NothingNamed =>
                 "bad command line: no NODE and no --mapper is named (distcheck --help)",
-            Fault::BadWord(sentence) | Fault::NotPrivate(sentence) => sentence.as_str(),
+            Fault::BadWord(sentence) => sentence.as_str(),
             Fault::BadMapperPort(error) => error.text(),
             Fault::RowsUnread(_) => "ReadFailed: the rows",
             Fault::NoRow => "no row is asked for",
             Fault::OpenFailed => "OpenFailed: the cookie's file",
             Fault::NotStored => "OpenFailed: the cookie's file is a pipe, a socket or a device",
+            Fault::NotPrivate(_) => "NotPrivate: cookie file",
             Fault::NoCookie(error) => error.name(),
             Fault::NoHost(_) => "NoHost",
             Fault::NoMapper => "ConnectFailed: the port mapper",
@@ -105,6 +106,11 @@ impl fmt::Display for Fault {
         f.write_str(self.text())?;
         match self {
             Fault::RowsUnread(name) => write!(f, " {name}"),
+            // The reason in the words of `erl`, and the remedy.
+            Fault::NotPrivate(file) => write!(
+                f,
+                " {file} must be accessible by owner only: chmod 600 {file}, or --cookie-unsafe takes it"
+            ),
             Fault::NoCookie(error) => write!(f, ": {error}"),
             Fault::NoHost(error) => write!(f, ": {}", host_text(*error)),
             Fault::NotFound(error) => write!(f, ": {error}"),

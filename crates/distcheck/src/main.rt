@@ -23,7 +23,7 @@ mod talk_link;
 mod transcript;
 mod waiting;
 
-use command::{CheckOrder, PrintedInstead, order_of};
+use command::{CheckOrder, CheckTask, NamedNode, task_of};
 use cookie::cookie_of;
 use dist_conformance::{SuiteNames, status};
 use dist_names::escape;
@@ -80,10 +80,12 @@ here.
 /// The version of the program, and of what it speaks.
 const VERSION: &str = "distcheck 0.2.0, distribution handshake of version 6\n";
 
-// What stands for the node's name in rows where no node is checked, and for its host.
-const NOBODY: &[u8] = b"?@127.0.0.1";
-
-const LOOPBACK: &str = "127.0.0.1";
+// What stands for the node in rows where none is checked.
+const NOBODY: NamedNode<'static> = NamedNode {
+    name: "?@127.0.0.1",
+    short: "?",
+    host: "127.0.0.1",
+};
 
 fn main(rt: HostRuntime) -> ExitCode {
     ExitCode::from(match perform(&rt, &rt) {
@@ -96,13 +98,12 @@ fn main(rt: HostRuntime) -> ExitCode {
 fn perform<R: Resolving + Sync>(rt: &HostRuntime, resolver: &R) -> Result<u8, Fault> {
     let words = words_of(rt)?;
     let mapper_port = mapper_port(rt)?;
-    match order_of(rt.alloc(), &words, mapper_port) {
-        Ok(order) => follow(rt, resolver, &order),
-        Err(PrintedInstead::Text(text)) => {
+    match task_of(rt.alloc(), &words, mapper_port)? {
+        CheckTask::Print(text) => {
             print(rt, text)?;
             Ok(0)
         }
-        Err(PrintedInstead::Fault(fault)) => Err(fault),
+        CheckTask::Check(order) => follow(rt, resolver, &order),
     }
 }
 
@@ -115,30 +116,23 @@ fn follow<R: Resolving + Sync>(
     let alloc = rt.alloc();
     let (_, port) = order.mapper.unwrap_or(("", 0));
     let port = format!(in alloc; "{port}")?;
-    let suite = read_suite(rt, order, &names_of(order, port.as_bytes()))?;
-    if let Some(id) = order.explain {
-        print(rt, &explanation_of(alloc, &suite, id)?)?;
-        Ok(0)
-    } else if order.list {
-        print(rt, &list_of(alloc, &suite)?)?;
-        Ok(0)
-    } else {
-        check(rt, resolver, order, &suite)
-    }
-}
-
-// What the names in the rows stand for. `port` is that of the port mapper.
-fn names_of<'a>(order: &'a CheckOrder<'_>, port: &'a [u8]) -> SuiteNames<'a> {
-    let (node, host) = match &order.node {
-        Some((node, host)) => (node.bytes(), *host),
-        None => (NOBODY, LOOPBACK),
-    };
-    SuiteNames {
-        node,
-        host: host.as_bytes(),
+    let node = order.node.unwrap_or(NOBODY);
+    let names = SuiteNames {
+        node: node.name.as_bytes(),
+        host: node.host.as_bytes(),
         tag: order.tag.as_bytes(),
-        mapper: port,
-    }
+        mapper: port.as_bytes(),
+    };
+    let suite = read_suite(rt, order, &names)?;
+    let text = if let Some(id) = order.explain {
+        explanation_of(alloc, &suite, id)?
+    } else if order.list {
+        list_of(alloc, &suite)?
+    } else {
+        return check(rt, resolver, order, &suite);
+    };
+    print(rt, &text)?;
+    Ok(0)
 }
 
 // The cookie; where no node is checked, none is used.
@@ -169,10 +163,10 @@ fn check<R: Resolving + Sync>(
         cookie: &cookie,
     };
     let queue = queue_of(suite, order, &setting)?;
-    if queue.is_empty() {
+    if queue.count == 0 {
         return Err(Fault::NoRow);
     }
-    put_heading(&setting, order, queue.len())?;
+    put_heading(&setting, order, queue.count)?;
     let played = run_talks(resolver, &setting, &queue)?;
     put_report(rt, order, &played)
 }
@@ -212,7 +206,7 @@ fn put_report(
     print(rt, &text)?;
     for talk in played {
         if talk.record.is_refused {
-            return Err(Fault::Gone(escape(alloc, talk.queued.talk.id.as_slice())?));
+            return Err(Fault::Gone(escape(alloc, talk.label.id)?));
         }
     }
     Ok(exit)

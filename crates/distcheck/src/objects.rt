@@ -2,7 +2,7 @@
 
 use crate::results::{PlayedRow, VERDICTS, count_in};
 use crate::running::PlayedTalk;
-use crate::transcript::{Speaker, TranscriptLine, letter_of};
+use crate::transcript::{Speaker, TranscriptLine};
 use dist_names::escape;
 use json::Writer;
 use std::alloc::{AllocError, Global};
@@ -25,62 +25,43 @@ fn put_number(out: &mut Writer, name: &str, value: u64) -> Result<(), AllocError
 }
 
 // Writes a line of a transcript.
-fn put_line(alloc: Global, out: &mut Writer, line: &TranscriptLine) -> Result<(), AllocError> {
-    let letter = format!(in alloc; "{}", letter_of(line.conn))?;
+fn put_line(out: &mut Writer, line: &TranscriptLine) -> Result<(), AllocError> {
+    let who = match line.who {
+        Speaker::Us => "us",
+        Speaker::Peer => "peer",
+    };
     out.begin_object()?;
     put_number(out, "ms", u64::from(line.at))?;
-    put_text(out, "conn", &letter)?;
-    put_text(
-        out,
-        "who",
-        match line.who {
-            Speaker::Us => "us",
-            Speaker::Peer => "peer",
-        },
-    )?;
+    put_text(out, "conn", line.letter)?;
+    put_text(out, "who", who)?;
     put_text(out, "hex", &line.hex)?;
     put_text(out, "act", line.act)?;
     out.end_object()
 }
 
 // Writes the lines of a transcript, as a member.
-fn put_transcript(
-    alloc: Global,
-    out: &mut Writer,
-    lines: &[TranscriptLine],
-) -> Result<(), AllocError> {
+fn put_transcript(out: &mut Writer, lines: &[TranscriptLine]) -> Result<(), AllocError> {
     out.key("transcript")?;
     out.begin_array()?;
     for line in lines {
-        put_line(alloc, out, line)?;
+        put_line(out, line)?;
     }
     out.end_array()
 }
 
-// Writes what a talk is.
-fn put_ids(alloc: Global, out: &mut Writer, talk: &PlayedTalk<'_>) -> Result<(), AllocError> {
-    let row = talk.queued.row;
-    put_bytes(alloc, out, "id", talk.queued.talk.id.as_slice())?;
-    put_bytes(alloc, out, "row", row.id.as_slice())?;
-    put_text(out, "level", row.level.name())?;
-    put_bytes(alloc, out, "source", row.source.as_slice())
-}
-
-// Writes what became of a talk.
-fn put_verdict(alloc: Global, out: &mut Writer, talk: &PlayedTalk<'_>) -> Result<(), AllocError> {
-    let record = &talk.record;
+// Writes the object of a talk.
+fn put_talk(alloc: Global, out: &mut Writer, talk: &PlayedTalk<'_>) -> Result<(), AllocError> {
+    let PlayedTalk { label, record } = talk;
+    out.begin_object()?;
+    put_bytes(alloc, out, "id", label.id)?;
+    put_bytes(alloc, out, "row", label.row)?;
+    put_text(out, "level", label.level.name())?;
+    put_bytes(alloc, out, "source", label.source)?;
     put_text(out, "verdict", record.verdict.name())?;
     put_text(out, "came", &record.why)?;
     put_bytes(alloc, out, "wanted", record.wanted)?;
     put_number(out, "ms", u64::from(record.took))?;
-    put_transcript(alloc, out, &record.transcript)
-}
-
-// Writes the object of a talk.
-fn put_talk(alloc: Global, out: &mut Writer, talk: &PlayedTalk<'_>) -> Result<(), AllocError> {
-    out.begin_object()?;
-    put_ids(alloc, out, talk)?;
-    put_verdict(alloc, out, talk)?;
+    put_transcript(out, &record.transcript)?;
     out.end_object()
 }
 

@@ -5,12 +5,12 @@ ghost use Rattle.distcheck.specs.Deciding.{verdict_at};
 
 use crate::calls::{CallPlaces, OpenCall};
 use crate::fault::Fault;
+use crate::queue::QueuedTalk;
 use crate::talk_link::TalkLink;
-use crate::transcript::{Speaker, TranscriptLine, digits_of};
+use crate::transcript::{Speaker, TranscriptLine, digits_of, letter_of};
 use crate::waiting::{await_judgement, listen_for, milliseconds_since, now, write_pieces};
 use dist_conformance::{
-    Action, Demand, Judgement, Learned, Level, Passage, RowTalk, Saying, SuiteRow, TalkStep,
-    TalkVerdict, bytes_to_say,
+    Action, Demand, Judgement, Learned, Level, Passage, Saying, TalkStep, TalkVerdict, bytes_to_say,
 };
 use dist_epmd::NodeInfo;
 use dist_secret::Cookie;
@@ -57,13 +57,13 @@ pub struct TalkRecord<'a> {
     pub transcript: Vec<TranscriptLine>,
 }
 
-impl<'a> TalkRecord<'a> {
-    /// That of a talk of which nothing was played.
-    pub fn new(alloc: Global, verdict: TalkVerdict, why: String) -> TalkRecord<'a> {
+impl TalkRecord<'_> {
+    /// That of a talk of which nothing is played yet.
+    pub fn new<'a>(alloc: Global) -> TalkRecord<'a> {
         TalkRecord {
-            verdict,
+            verdict: TalkVerdict::Kept,
             wanted: b"",
-            why,
+            why: String::new(alloc),
             took: 0,
             is_refused: false,
             transcript: Vec::new(alloc),
@@ -82,7 +82,6 @@ struct TalkPlay<'a> {
     start: Instant,
     // How many milliseconds a demand waits.
     limit: u32,
-    links: Vec<TalkLink>,
     call: Option<OpenCall>,
     learned: Vec<Learned>,
     record: TalkRecord<'a>,
@@ -92,15 +91,15 @@ impl<'a> TalkPlay<'a> {
     // A talk of which nothing is played yet.
     fn begin(setting: &Setting<'a>, limit: u32) -> Result<TalkPlay<'a>, Fault> {
         let alloc = setting.rt.alloc();
+        let start = now(setting.rt)?;
         Ok(TalkPlay {
             setting: *setting,
             alloc,
-            start: now(setting.rt)?,
+            start,
             limit,
-            links: Vec::new(alloc),
             call: None,
             learned: Vec::new(alloc),
-            record: TalkRecord::new(alloc, TalkVerdict::Kept, String::new(alloc)),
+            record: TalkRecord::new(alloc),
         })
     }
 
@@ -114,7 +113,7 @@ impl<'a> TalkPlay<'a> {
     ) -> Result<(), Fault> {
         let line = TranscriptLine {
             at: milliseconds_since(self.setting.rt, self.start)?,
-            conn,
+            letter: letter_of(conn),
             who,
             hex: digits_of(self.alloc, bytes)?,
             act,
@@ -128,12 +127,6 @@ impl<'a> TalkPlay<'a> {
         Ok(Some(verdict))
     }
 
-    // Takes a connection out of the list: there is at most one of each letter.
-    fn take_link(&mut self, conn: u8) -> Option<TalkLink> {
-        let at = self.links.iter().position(|link| link.conn == conn)?;
-        Some(self.links.swap_remove(at))
-    }
-
     // Takes an error of a connect: it is a fault of this machine, or noted.
     fn note_refusal(&mut self, error: &io::Error) -> Result<(), Fault> {
         if matches!(error.raw_os_error(), Some(23 | 24)) {
@@ -144,7 +137,12 @@ impl<'a> TalkPlay<'a> {
     }
 
     // Connects.
-    fn connect(&mut self, conn: u8, address: Option<SocketAddr>) -> Result<Halt, Fault> {
+    fn connect(
+        &mut self,
+        links: &mut Vec<TalkLink>,
+        conn: u8,
+        address: Option<SocketAddr>,
+    ) -> Result<Halt, Fault> {
         let Some(address) = address else {
             return self.halt(TalkVerdict::Skipped, "nobody to connect to");
         };
@@ -152,7 +150,7 @@ impl<'a> TalkPlay<'a> {
             match TalkLink::open(self.setting.rt, self.alloc, conn, &address) {
                 Ok(link) => {
                     self.record.is_refused = false;
-                    self.links.push(link)?;
+                    links.push(link)?;
                     self.note(conn, Speaker::Us, b"", "connects")?;
                     return Ok(None);
                 }
@@ -164,7 +162,12 @@ impl<'a> TalkPlay<'a> {
     }
 
     // Has the node dial what is registered, and takes its connection.
-    fn call(&mut self, conn: u8, info: &NodeInfo) -> Result<Halt, Fault> {
+    fn call(
+        &mut self,
+        links: &mut Vec<TalkLink>,
+        conn: u8,
+        info: &NodeInfo,
+    ) -> Result<Halt, Fault> {
         let rt = self.setting.rt;
         let Some(places) = self.setting.call else {
             return self.halt(TalkVerdict::Skipped, "nobody makes the node dial");
@@ -181,7 +184,7 @@ impl<'a> TalkPlay<'a> {
         let Some(link) = call.accept(self.alloc, conn, self.limit) else {
             return self.halt(TalkVerdict::Blocked, "the node does not dial");
         };
-        self.links.push(link)?;
+        links.push(link)?;
         self.note(conn, Speaker::Peer, b"", "connects")?;
         Ok(None)
     }
@@ -281,54 +284,55 @@ impl<'a> TalkPlay<'a> {
         }
     }
 
-    // Makes a step on the connection of this letter, which stays in the list unless it ends.
-    fn use_link(&mut self, step: &'a TalkStep) -> Result<Halt, Fault> {
-        let Some(mut link) = self.take_link(step.conn) else {
+    // Makes a step on the connection of this letter. There is at most one of each.
+    fn use_link(&mut self, links: &mut Vec<TalkLink>, step: &'a TalkStep) -> Result<Halt, Fault> {
+        let Some(at) = links.iter().position(|link| link.conn == step.conn) else {
             return self.halt(TalkVerdict::Blocked, "the connection is not open");
         };
-        let halt = self.act_on(&mut link, &step.action)?;
-        if !matches!(step.action, Action::Close | Action::Reset) {
-            self.links.push(link)?;
+        let halt = self.act_on(&mut links[at], &step.action)?;
+        if matches!(step.action, Action::Close | Action::Reset) {
+            links.swap_remove(at);
         }
         Ok(halt)
     }
 
     // Makes a step.
-    fn take_step(&mut self, step: &'a TalkStep) -> Result<Halt, Fault> {
+    fn take_step(&mut self, links: &mut Vec<TalkLink>, step: &'a TalkStep) -> Result<Halt, Fault> {
         self.record.wanted = step.text.as_slice();
         match &step.action {
-            Action::Dial => self.connect(step.conn, self.setting.node),
-            Action::Ask => self.connect(step.conn, self.setting.mapper),
-            Action::Call(info) => self.call(step.conn, info),
+            Action::Dial => self.connect(links, step.conn, self.setting.node),
+            Action::Ask => self.connect(links, step.conn, self.setting.mapper),
+            Action::Call(info) => self.call(links, step.conn, info),
             Action::Wait(time) => {
                 sleep(self.setting.rt, Duration::from_millis(u64::from(*time)));
                 Ok(None)
             }
-            _ => self.use_link(step),
+            _ => self.use_link(links, step),
         }
     }
 
     // Makes all steps, and returns the verdict.
     fn take_steps(&mut self, steps: &'a [TalkStep]) -> Result<TalkVerdict, Fault> {
+        let mut links = Vec::new(self.alloc);
         for step in steps {
-            if let Some(verdict) = self.take_step(step)? {
+            if let Some(verdict) = self.take_step(&mut links, step)? {
                 return Ok(verdict);
             }
         }
         Ok(self.record.verdict)
     }
 
-    // What became of the talk, by this verdict.
-    fn into_record(self, verdict: TalkVerdict) -> Result<TalkRecord<'a>, Fault> {
-        let TalkPlay {
-            setting,
-            start,
-            mut record,
-            ..
-        } = self;
-        record.verdict = verdict;
-        record.took = milliseconds_since(setting.rt, start)?;
-        Ok(record)
+    // Makes all steps, and keeps the verdict that counts, and the time.
+    fn complete(&mut self, level: Level, steps: &'a [TalkStep]) -> Result<(), Fault> {
+        self.record.verdict = verdict_at(level, self.take_steps(steps)?);
+        self.record.took = milliseconds_since(self.setting.rt, self.start)?;
+        Ok(())
+    }
+
+    // What became of the talk.
+    fn into_record(self) -> TalkRecord<'a> {
+        let TalkPlay { record, .. } = self;
+        record
     }
 }
 
@@ -343,13 +347,9 @@ fn verdict_at(level: Level, verdict: TalkVerdict) -> TalkVerdict
     }
 }
 
-/// Plays a talk of a row, and returns what became of it.
-pub fn play<'a>(
-    setting: &Setting<'a>,
-    row: &SuiteRow,
-    talk: &'a RowTalk,
-) -> Result<TalkRecord<'a>, Fault> {
-    let mut play = TalkPlay::begin(setting, row.marks.limit)?;
-    let verdict = play.take_steps(talk.steps.as_slice())?;
-    play.into_record(verdict_at(row.level, verdict))
+/// Plays a talk, and returns what became of it.
+pub fn play<'a>(setting: &Setting<'a>, queued: &QueuedTalk<'a>) -> Result<TalkRecord<'a>, Fault> {
+    let mut play = TalkPlay::begin(setting, queued.limit)?;
+    play.complete(queued.label.level, queued.steps)?;
+    Ok(play.into_record())
 }

@@ -3,60 +3,78 @@
 use crate::command::CheckOrder;
 use crate::playing::Setting;
 use crate::suite::SuiteFile;
-use dist_conformance::{Action, Marks, RowTalk, Section, SectionKind, SuiteRow};
+use dist_conformance::{Action, Level, Marks, RowTalk, Section, SectionKind, SuiteRow, TalkStep};
 use dist_names::number_in;
 use std::alloc::AllocError;
 
-/// Beside which others a talk is played.
+/// What is printed of a talk and its row, and its place among all.
 #[derive(Clone, Copy)]
-pub enum Lane {
-    /// It is not played, for this reason.
-    Skipped(&'static str),
-    /// A few of these at once.
-    Beside,
-    /// Each of these in a thread of its own, all the time: it mostly waits.
-    Slow,
-    /// After all others, one after the other: it changes what others see.
-    Alone,
+pub struct TalkLabel<'a> {
+    /// Its place among all talks.
+    pub place: usize,
+    /// The number of its section.
+    pub number: u32,
+    /// The title of its section.
+    pub section: &'a [u8],
+    /// The id of its row.
+    pub row: &'a [u8],
+    /// What its row rests on.
+    pub level: Level,
+    /// Where that stands.
+    pub source: &'a [u8],
+    /// What its row demands, in words.
+    pub title: &'a [u8],
+    /// Its id.
+    pub id: &'a [u8],
 }
 
 /// A talk that may be played.
 #[derive(Clone, Copy)]
 pub struct QueuedTalk<'a> {
-    /// Its place among all.
-    pub place: usize,
-    /// The file that has it.
-    pub file: &'a SuiteFile,
-    /// The row that has it.
-    pub row: &'a SuiteRow,
-    /// The talk.
-    pub talk: &'a RowTalk,
-    /// Beside which others it is played.
-    pub lane: Lane,
+    /// What is printed of it.
+    pub label: TalkLabel<'a>,
+    /// How many milliseconds a demand waits.
+    pub limit: u32,
+    /// What is done.
+    pub steps: &'a [TalkStep],
+    /// Why it is not played, if it is not.
+    pub skipped: Option<&'static str>,
+}
+
+/// The talks that may be played, by when they are.
+#[derive(Drop)]
+pub struct TalkQueue<'a> {
+    /// A few of these at once.
+    pub beside: Vec<QueuedTalk<'a>>,
+    /// Each of these in a thread of its own, all the time: it mostly waits.
+    pub slow: Vec<QueuedTalk<'a>>,
+    /// After all others, one after the other: each changes what others see.
+    pub alone: Vec<QueuedTalk<'a>>,
+    /// How many there are.
+    pub count: usize,
 }
 
 /// How many milliseconds a demand waits in a row that is not slow.
 pub const USUAL: u32 = 5000;
 
-// Beside which others a talk of a row with these marks is played.
-fn lane_of(marks: &Marks, order: &CheckOrder<'_>) -> Lane {
-    let is_slow = marks.limit > USUAL;
-    if marks.harsh && !order.harsh {
-        Lane::Skipped("harsh: it can end a fragile node (--harsh)")
-    } else if is_slow && order.quick {
-        Lane::Skipped("slow: left out by --quick")
-    } else if marks.alone {
-        Lane::Alone
-    } else if is_slow {
-        Lane::Slow
-    } else {
-        Lane::Beside
+impl<'a> TalkQueue<'a> {
+    // Adds a talk of a row with these marks.
+    fn push(&mut self, marks: &Marks, queued: QueuedTalk<'a>) -> Result<(), AllocError> {
+        if marks.alone {
+            self.alone.push(queued)?;
+        } else if marks.limit > USUAL {
+            self.slow.push(queued)?;
+        } else {
+            self.beside.push(queued)?;
+        }
+        self.count = self.count.saturating_add(1);
+        Ok(())
     }
 }
 
 // Whether the node has to dial in a talk.
-fn has_call(talk: &RowTalk) -> bool {
-    for step in talk.steps.as_slice() {
+fn has_call(steps: &[TalkStep]) -> bool {
+    for step in steps {
         if matches!(step.action, Action::Call(_)) {
             return true;
         }
@@ -66,62 +84,104 @@ fn has_call(talk: &RowTalk) -> bool {
 
 // Whether the node's name stands between those of talks, so that they are lesser where they begin with `0c`, and greater with `zz`.
 fn is_between(order: &CheckOrder<'_>) -> bool {
-    match &order.node {
-        Some((node, _)) => node.bytes() > b"0d".as_slice() && node.bytes() < b"zz".as_slice(),
+    match order.node {
+        Some(node) => node.name > "0d" && node.name < "zz",
         None => false,
     }
 }
 
-// Beside which others a talk of a row is played that is played in this lane, unless the node has to dial in it and cannot be made to.
-fn lane_of_talk(talk: &RowTalk, lane: Lane, order: &CheckOrder<'_>) -> Lane {
-    if !has_call(talk) {
-        lane
-    } else if order.make_it_dial.is_none() {
-        Lane::Skipped("nobody makes the node dial (--make-it-dial)")
-    } else if is_between(order) {
-        lane
+// Why a talk of a row with these marks is not played, if it is not. In a call the node has to dial.
+fn reason_to_skip(marks: &Marks, is_call: bool, order: &CheckOrder<'_>) -> Option<&'static str> {
+    if is_call && order.make_it_dial.is_none() {
+        Some("nobody makes the node dial (--make-it-dial)")
+    } else if is_call && !is_between(order) {
+        Some("the node's name does not sort between 0d and zz")
+    } else if marks.harsh && !order.harsh {
+        Some("harsh: it can end a fragile node (--harsh)")
+    } else if marks.limit > USUAL && order.quick {
+        Some("slow: left out by --quick")
     } else {
-        Lane::Skipped("the node's name does not sort between 0d and zz")
+        None
     }
 }
 
-// Whether there is somebody to play the rows of a section with.
-fn has_partner(section: &Section, setting: &Setting<'_>) -> bool {
-    match section.kind {
-        SectionKind::Node => setting.node.is_some(),
-        SectionKind::Mapper => setting.mapper.is_some(),
-    }
+// Whether a word is the number of the section, or the id of the row, or that of the talk.
+fn is_named(word: &[u8], label: &TalkLabel<'_>) -> bool {
+    number_in(word, 10) == Some(u64::from(label.number)) || word == label.row || word == label.id
 }
 
-/// Whether one of these words, with commas between them, is the number of the section, or the id of the row, or that of the talk.
-pub fn is_named(words: &str, number: u32, row: &SuiteRow, talk: &RowTalk) -> bool {
-    words.split(',').any(|word| {
-        let word = word.as_bytes();
-        number_in(word, 10) == Some(u64::from(number))
-            || word == row.id.as_slice()
-            || word == talk.id.as_slice()
-    })
+// Whether a talk is one of those that are asked for.
+fn is_wanted(order: &CheckOrder<'_>, label: &TalkLabel<'_>) -> bool {
+    let Some(words) = order.only else {
+        return true;
+    };
+    for word in words.split(',') {
+        if is_named(word.as_bytes(), label) {
+            return true;
+        }
+    }
+    false
+}
+
+// What is printed of a talk, in this place.
+fn label_of<'a>(
+    place: usize,
+    section: &'a Section,
+    row: &'a SuiteRow,
+    talk: &'a RowTalk,
+) -> TalkLabel<'a> {
+    TalkLabel {
+        place,
+        number: section.number,
+        section: section.title.as_slice(),
+        row: row.id.as_slice(),
+        level: row.level,
+        source: row.source.as_slice(),
+        title: row.title.as_slice(),
+        id: talk.id.as_slice(),
+    }
 }
 
 // Adds the talks of a row.
 fn push_row<'a>(
-    queue: &mut Vec<QueuedTalk<'a>>,
-    file: &'a SuiteFile,
+    queue: &mut TalkQueue<'a>,
+    section: &'a Section,
     row: &'a SuiteRow,
     order: &CheckOrder<'_>,
 ) -> Result<(), AllocError> {
-    let lane = lane_of(&row.marks, order);
     for talk in row.talks.as_slice() {
-        let only = order.only;
-        if only.is_none_or(|words| is_named(words, file.section.number, row, talk)) {
-            let place = queue.len();
-            queue.push(QueuedTalk {
-                place,
-                file,
-                row,
-                talk,
-                lane: lane_of_talk(talk, lane, order),
-            })?;
+        let label = label_of(queue.count, section, row, talk);
+        let steps = talk.steps.as_slice();
+        if is_wanted(order, &label) {
+            let queued = QueuedTalk {
+                label,
+                limit: row.marks.limit,
+                steps,
+                skipped: reason_to_skip(&row.marks, has_call(steps), order),
+            };
+            queue.push(&row.marks, queued)?;
+        }
+    }
+    Ok(())
+}
+
+// Adds the talks of all rows that there is somebody to play with.
+fn push_rows<'a>(
+    queue: &mut TalkQueue<'a>,
+    suite: &'a [SuiteFile],
+    order: &CheckOrder<'_>,
+    setting: &Setting<'_>,
+) -> Result<(), AllocError> {
+    for file in suite {
+        let section = &file.section;
+        let partner = match section.kind {
+            SectionKind::Node => setting.node,
+            SectionKind::Mapper => setting.mapper,
+        };
+        if partner.is_some() {
+            for row in section.rows.as_slice() {
+                push_row(queue, section, row, order)?;
+            }
         }
     }
     Ok(())
@@ -132,14 +192,14 @@ pub fn queue_of<'a>(
     suite: &'a [SuiteFile],
     order: &CheckOrder<'_>,
     setting: &Setting<'_>,
-) -> Result<Vec<QueuedTalk<'a>>, AllocError> {
-    let mut queue = Vec::new(setting.rt.alloc());
-    for file in suite {
-        if has_partner(&file.section, setting) {
-            for row in file.section.rows.as_slice() {
-                push_row(&mut queue, file, row, order)?;
-            }
-        }
-    }
+) -> Result<TalkQueue<'a>, AllocError> {
+    let alloc = setting.rt.alloc();
+    let mut queue = TalkQueue {
+        beside: Vec::new(alloc),
+        slow: Vec::new(alloc),
+        alone: Vec::new(alloc),
+        count: 0,
+    };
+    push_rows(&mut queue, suite, order, setting)?;
     Ok(queue)
 }

@@ -1,24 +1,25 @@
 //! Finds the node, the port mapper that is checked, and whoever makes the node dial.
 
 use crate::calls::CallPlaces;
-use crate::command::CheckOrder;
+use crate::command::{CheckOrder, NamedNode};
 use crate::fault::Fault;
 use dist_epmd_calls::{LookupError, lookup};
-use dist_names::NodeName;
 use dist_program::{CONNECT_SECONDS, Resolving, at_port, deadline_in, lookup_host};
-use dist_stream::connect_by;
+use dist_stream::{DeadlineStream, connect_by};
+use std::io;
 use std::net::SocketAddr;
-use std::time::{Duration, Instant};
+use std::time::Duration;
 
 /// The most reads and writes of a call of the port mapper, if its time is not over before.
 pub const TURNS: usize = 4096;
 
-/// When a connect, or a call of the port mapper, that begins now has to be done.
-pub fn deadline(rt: &HostRuntime) -> Result<Instant, Fault> {
-    match deadline_in(rt, CONNECT_SECONDS) {
-        Ok(until) => Ok(until),
-        Err(_) => Err(Fault::NoTime),
-    }
+/// A connection to this place, made within 8 seconds, and quiet afterwards. An error is the system's, or the clock's.
+pub fn talk_to<'a>(
+    rt: &'a HostRuntime,
+    place: &SocketAddr,
+) -> io::Result<DeadlineStream<&'a HostRuntime>> {
+    let until = deadline_in(rt, CONNECT_SECONDS)?;
+    connect_by(rt, place, until)
 }
 
 // The addresses of a host.
@@ -31,27 +32,20 @@ fn addresses_of<R: Resolving>(
     Ok(lookup_host(resolver, *rt, host, limit)?)
 }
 
-// Whether somebody takes connections there.
-fn is_open(rt: &HostRuntime, place: &SocketAddr) -> Result<bool, Fault> {
-    let until = deadline(rt)?;
-    Ok(connect_by(rt, place, until).is_ok())
-}
-
 // The port of the node: the given one, or else that which the port mapper at this address has for it.
 fn port_at(
     rt: &HostRuntime,
     order: &CheckOrder<'_>,
-    node: &NodeName,
+    node: NamedNode<'_>,
     address: &SocketAddr,
 ) -> Result<u16, Fault> {
     if let Some(port) = order.port {
         return Ok(port);
     }
-    let until = deadline(rt)?;
-    let Ok(mut stream) = connect_by(rt, &at_port(address, order.mapper_port), until) else {
+    let Ok(mut stream) = talk_to(rt, &at_port(address, order.mapper_port)) else {
         return Err(Fault::NoMapper);
     };
-    match lookup(rt.alloc(), &mut stream, node.short(), TURNS) {
+    match lookup(rt.alloc(), &mut stream, node.short.as_bytes(), TURNS) {
         Ok(info) => Ok(info.port),
         Err(LookupError::NoMemory) => Err(Fault::NoMemory),
         Err(error) => Err(Fault::NotFound(error)),
@@ -62,14 +56,13 @@ fn port_at(
 fn place_at(
     rt: &HostRuntime,
     order: &CheckOrder<'_>,
-    node: &NodeName,
+    node: NamedNode<'_>,
     address: &SocketAddr,
 ) -> Result<SocketAddr, Fault> {
     let place = at_port(address, port_at(rt, order, node, address)?);
-    if is_open(rt, &place)? {
-        Ok(place)
-    } else {
-        Err(Fault::NoNode)
+    match talk_to(rt, &place) {
+        Ok(_) => Ok(place),
+        Err(_) => Err(Fault::NoNode),
     }
 }
 
@@ -79,11 +72,11 @@ pub fn find_node<R: Resolving>(
     resolver: &R,
     order: &CheckOrder<'_>,
 ) -> Result<Option<SocketAddr>, Fault> {
-    let Some((node, host)) = &order.node else {
+    let Some(node) = order.node else {
         return Ok(None);
     };
     let mut last = Fault::NoNode;
-    let addresses = addresses_of(rt, resolver, host)?;
+    let addresses = addresses_of(rt, resolver, node.host)?;
     for address in &addresses {
         match place_at(rt, order, node, address) {
             Ok(place) => return Ok(Some(place)),
@@ -103,7 +96,7 @@ fn open_place<R: Resolving>(
     let addresses = addresses_of(rt, resolver, host)?;
     for address in &addresses {
         let place = at_port(address, port);
-        if is_open(rt, &place)? {
+        if talk_to(rt, &place).is_ok() {
             return Ok(Some(place));
         }
     }
@@ -130,10 +123,9 @@ pub fn find_call<'a, R: Resolving>(
     rt: &HostRuntime,
     resolver: &R,
     order: &CheckOrder<'a>,
-    node: Option<SocketAddr>,
+    place: Option<SocketAddr>,
 ) -> Result<Option<CallPlaces<'a>>, Fault> {
-    let (Some(node), Some((_, host)), Some((at, port))) = (node, &order.node, order.make_it_dial)
-    else {
+    let (Some(place), Some(node), Some((at, port))) = (place, order.node, order.make_it_dial) else {
         return Ok(None);
     };
     let Some(orders) = open_place(rt, resolver, at, port)? else {
@@ -141,7 +133,7 @@ pub fn find_call<'a, R: Resolving>(
     };
     Ok(Some(CallPlaces {
         orders,
-        mapper: at_port(&node, order.mapper_port),
-        host: *host,
+        mapper: at_port(&place, order.mapper_port),
+        host: node.host,
     }))
 }

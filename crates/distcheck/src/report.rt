@@ -1,7 +1,7 @@
 //! The report in lines: one for each section, a block for each row that deviates, is loose or was blocked, and the last lines.
 
 use crate::results::{PlayedRow, VERDICTS, count_in};
-use crate::transcript::{Speaker, TranscriptLine, letter_of};
+use crate::transcript::{Speaker, TranscriptLine};
 use dist_conformance::{Level, RowResult, TalkVerdict, count_of, status};
 use dist_names::escape;
 use std::alloc::{AllocError, Global};
@@ -31,10 +31,10 @@ fn push_sections(
     text: &mut String,
     rows: &[PlayedRow<'_>],
 ) -> Result<(), AllocError> {
-    for part in rows.chunk_by(|one, other| one.number() == other.number()) {
+    for part in rows.chunk_by(|one, other| one.label.number == other.label.number) {
         if let Some(row) = part.first() {
-            let title = escape(alloc, row.queued.file.section.title.as_slice())?;
-            write!(text, "{:>2}  {title}: ", row.number())?;
+            let title = escape(alloc, row.label.section)?;
+            write!(text, "{:>2}  {title}: ", row.label.number)?;
             push_counts(text, part)?;
         }
     }
@@ -50,20 +50,23 @@ fn push_said(text: &mut String, line: &TranscriptLine) -> Result<(), AllocError>
     let hex = line.hex.as_str();
     let shown = hex.get(..MOST_SHOWN).unwrap_or(hex);
     let dots = if shown.len() < hex.len() { ".." } else { "" };
-    let letter = letter_of(line.conn);
-    writeln!(text, "        {letter}{arrow} {shown}{dots} {}", line.act)
+    writeln!(
+        text,
+        "        {}{arrow} {shown}{dots} {}",
+        line.letter, line.act
+    )
 }
 
 // Adds what was said and came in a talk, the step that was not kept, what came in its place, and what the row rests on.
 fn push_block(alloc: Global, text: &mut String, row: &PlayedRow<'_>) -> Result<(), AllocError> {
-    let (queued, record) = (row.queued, row.record);
+    let record = row.record;
     for line in &record.transcript {
         push_said(text, line)?;
     }
     let step = escape(alloc, record.wanted)?;
     writeln!(text, "        step    {step}")?;
     writeln!(text, "        came    {}", record.why)?;
-    let source = escape(alloc, queued.row.source.as_slice())?;
+    let source = escape(alloc, row.label.source)?;
     writeln!(text, "        source  {source}")
 }
 
@@ -74,17 +77,14 @@ fn push_heading(
     row: &PlayedRow<'_>,
     mark: char,
 ) -> Result<(), AllocError> {
-    let queued = row.queued;
-    let id = escape(alloc, queued.row.id.as_slice())?;
-    let title = escape(alloc, queued.row.title.as_slice())?;
-    write!(
-        text,
-        "{mark} {id:<6} {:<7} {title}",
-        queued.row.level.name()
-    )?;
-    if row.talks > 1 {
-        let talk = escape(alloc, queued.talk.id.as_slice())?;
-        write!(text, " ({} of {}: {talk})", row.count, row.talks)?;
+    let label = &row.label;
+    let id = escape(alloc, label.row)?;
+    let title = escape(alloc, label.title)?;
+    let level = label.level.name();
+    write!(text, "{mark} {id:<6} {level:<7} {title}")?;
+    if row.talks.len() > 1 {
+        let talk = escape(alloc, label.id)?;
+        write!(text, " ({} of {}: {talk})", row.count(), row.talks.len())?;
     }
     text.push_str("\n")
 }
@@ -125,7 +125,7 @@ fn push_counted(
     for row in rows {
         if status(&[row.result], strict) != 0 {
             text.push_str(" ")?;
-            text.push_str(&escape(alloc, row.queued.row.id.as_slice())?)?;
+            text.push_str(&escape(alloc, row.label.row)?)?;
         }
     }
     text.push_str("\n")

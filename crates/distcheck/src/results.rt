@@ -1,7 +1,7 @@
 //! What became of each row, and of all of them.
 
 use crate::playing::TalkRecord;
-use crate::queue::QueuedTalk;
+use crate::queue::TalkLabel;
 use crate::running::PlayedTalk;
 use dist_conformance::{RowResult, TalkVerdict, worst};
 use std::alloc::{AllocError, Global};
@@ -17,66 +17,65 @@ pub const VERDICTS: [TalkVerdict; 6] = [
 ];
 
 /// A row, and what became of its talks.
-#[derive(Drop)]
+#[derive(Clone, Copy)]
 pub struct PlayedRow<'a> {
-    /// The first of its talks that has the row's verdict.
-    pub queued: QueuedTalk<'a>,
+    /// Its talks.
+    pub talks: &'a [PlayedTalk<'a>],
+    /// What is printed of the first of them that has the row's verdict.
+    pub label: TalkLabel<'a>,
     /// What became of that.
     pub record: &'a TalkRecord<'a>,
-    /// How many of its talks have the row's verdict.
-    pub count: usize,
-    /// How many talks it has.
-    pub talks: usize,
     /// The level of the row, and the worst verdict of its talks.
     pub result: RowResult,
 }
 
 impl<'a> PlayedRow<'a> {
-    // A row of which this is the first talk.
-    fn begin(talk: &'a PlayedTalk<'a>) -> PlayedRow<'a> {
+    // The row of these talks, of which this is the first.
+    fn new(talks: &'a [PlayedTalk<'a>], first: &'a PlayedTalk<'a>) -> PlayedRow<'a> {
+        let mut shown = first;
+        for talk in talks {
+            if worst(&[shown.record.verdict, talk.record.verdict]) != shown.record.verdict {
+                shown = talk;
+            }
+        }
+        let result = RowResult {
+            level: first.label.level,
+            verdict: shown.record.verdict,
+        };
         PlayedRow {
-            queued: talk.queued,
-            record: &talk.record,
-            count: 1,
-            talks: 1,
-            result: RowResult {
-                level: talk.queued.row.level,
-                verdict: talk.record.verdict,
-            },
+            talks,
+            label: shown.label,
+            record: &shown.record,
+            result,
         }
     }
 
-    // Adds a further talk.
-    fn add(&mut self, talk: &'a PlayedTalk<'a>) {
-        let verdict = worst(&[self.result.verdict, talk.record.verdict]);
-        self.talks = self.talks.saturating_add(1);
-        if verdict != self.result.verdict {
-            self.queued = talk.queued;
-            self.record = &talk.record;
-            self.count = 0;
-            self.result.verdict = verdict;
+    /// How many of its talks have its verdict.
+    pub fn count(&self) -> usize {
+        let mut count = 0usize;
+        for talk in self.talks {
+            if talk.record.verdict == self.result.verdict {
+                count = count.saturating_add(1);
+            }
         }
-        if verdict == talk.record.verdict {
-            self.count = self.count.saturating_add(1);
-        }
-    }
-
-    // Whether a talk is of this row.
-    fn has(&self, talk: &PlayedTalk<'_>) -> bool {
-        self.queued.row.id.as_slice() == talk.queued.row.id.as_slice()
-    }
-
-    /// The number of its section.
-    pub fn number(&self) -> u32 {
-        self.queued.file.section.number
+        count
     }
 }
 
 /// How many of these rows have this verdict.
 pub fn count_in(rows: &[PlayedRow<'_>], verdict: TalkVerdict) -> usize {
-    rows.iter()
-        .filter(|row| row.result.verdict == verdict)
-        .count()
+    let mut count = 0usize;
+    for row in rows {
+        if row.result.verdict == verdict {
+            count = count.saturating_add(1);
+        }
+    }
+    count
+}
+
+// Whether two talks are of one row.
+fn is_of_one_row(one: &PlayedTalk<'_>, other: &PlayedTalk<'_>) -> bool {
+    one.label.row == other.label.row
 }
 
 /// The rows of these talks, in their order.
@@ -84,16 +83,10 @@ pub fn rows_of<'a>(
     alloc: Global,
     played: &'a [PlayedTalk<'a>],
 ) -> Result<Vec<PlayedRow<'a>>, AllocError> {
-    let mut rows: Vec<PlayedRow<'a>> = Vec::new(alloc);
-    for talk in played {
-        let is_further = match rows.last() {
-            Some(row) => row.has(talk),
-            None => false,
-        };
-        if !is_further {
-            rows.push(PlayedRow::begin(talk))?;
-        } else if let Some(row) = rows.last_mut() {
-            row.add(talk);
+    let mut rows = Vec::new(alloc);
+    for talks in played.chunk_by(|one, other| is_of_one_row(one, other)) {
+        if let Some(first) = talks.first() {
+            rows.push(PlayedRow::new(talks, first))?;
         }
     }
     Ok(rows)

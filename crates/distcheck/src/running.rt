@@ -5,9 +5,9 @@ ghost use Rattle.distcheck.specs.Deciding.{counts_first};
 
 use crate::fault::Fault;
 use crate::playing::{Setting, TalkRecord, play};
-use crate::queue::{Lane, QueuedTalk};
+use crate::queue::{QueuedTalk, TalkLabel, TalkQueue};
 use dist_conformance::TalkVerdict;
-use std::alloc::{AllocError, Global};
+use std::alloc::AllocError;
 use std::sync::atomic::{AtomicBool, AtomicUsize, Ordering};
 use std::thread::{Threads, map_indices, sleep};
 use std::time::Duration;
@@ -21,8 +21,8 @@ const BREATH: u64 = 400;
 /// A talk, and what became of it.
 #[derive(Drop)]
 pub struct PlayedTalk<'a> {
-    /// The talk.
-    pub queued: QueuedTalk<'a>,
+    /// What is printed of the talk.
+    pub label: TalkLabel<'a>,
     /// What became of it.
     pub record: TalkRecord<'a>,
 }
@@ -31,21 +31,19 @@ pub struct PlayedTalk<'a> {
 #[derive(Drop)]
 struct TalkCrew<'a> {
     setting: Setting<'a>,
-    // The talks that are played a few at once, and the place of the next.
-    beside: Vec<QueuedTalk<'a>>,
+    queue: &'a TalkQueue<'a>,
+    // The place of the next talk that is played beside others.
     next: AtomicUsize,
-    // The talks that have a thread each.
-    slow: Vec<QueuedTalk<'a>>,
-    // The talks that are played at the end.
-    alone: Vec<QueuedTalk<'a>>,
     // Whether nobody listens any more.
     is_gone: AtomicBool,
 }
 
 // The record of a talk that is not played, for this reason.
-fn skip<'a>(alloc: Global, why: &str) -> Result<TalkRecord<'a>, AllocError> {
-    let why = why.to_owned(alloc)?;
-    Ok(TalkRecord::new(alloc, TalkVerdict::Skipped, why))
+fn skip<'a>(setting: &Setting<'_>, why: &str) -> Result<TalkRecord<'a>, AllocError> {
+    let mut record = TalkRecord::new(setting.rt.alloc());
+    record.verdict = TalkVerdict::Skipped;
+    record.why.push_str(why)?;
+    Ok(record)
 }
 
 // Whether a first try decides alone: a second one may find a machine that is less busy.
@@ -68,12 +66,12 @@ fn counts_first(first: TalkVerdict, second: TalkVerdict) -> bool
 
 // Plays a talk, and where it is blocked or deviates once more.
 fn play_twice<'a>(setting: &Setting<'a>, queued: &QueuedTalk<'a>) -> Result<TalkRecord<'a>, Fault> {
-    let first = play(setting, queued.row, queued.talk)?;
+    let first = play(setting, queued)?;
     if is_final(&first) {
         return Ok(first);
     }
     sleep(setting.rt, Duration::from_millis(BREATH));
-    let second = play(setting, queued.row, queued.talk)?;
+    let second = play(setting, queued)?;
     if counts_first(first.verdict, second.verdict) {
         Ok(first)
     } else {
@@ -82,58 +80,74 @@ fn play_twice<'a>(setting: &Setting<'a>, queued: &QueuedTalk<'a>) -> Result<Talk
 }
 
 impl<'a> TalkCrew<'a> {
-    // The crew for these talks.
-    fn new(setting: &Setting<'a>, queue: &[QueuedTalk<'a>]) -> Result<TalkCrew<'a>, AllocError> {
-        let alloc = setting.rt.alloc();
-        let mut crew = TalkCrew {
-            setting: *setting,
-            beside: Vec::new(alloc),
-            next: AtomicUsize::new(0),
-            slow: Vec::new(alloc),
-            alone: Vec::new(alloc),
-            is_gone: AtomicBool::new(false),
-        };
-        for queued in queue {
-            match queued.lane {
-                Lane::Slow => crew.slow.push(*queued)?,
-                Lane::Alone => crew.alone.push(*queued)?,
-                Lane::Beside | Lane::Skipped(_) => crew.beside.push(*queued)?,
-            }
+    // What becomes of a talk: it is played, unless nobody listens any more.
+    fn record_of(&self, queued: &QueuedTalk<'a>) -> Result<TalkRecord<'a>, Fault> {
+        if let Some(why) = queued.skipped {
+            return Ok(skip(&self.setting, why)?);
         }
-        Ok(crew)
-    }
-
-    // Plays a talk, unless nobody listens any more.
-    fn perform(&self, queued: &QueuedTalk<'a>) -> Result<PlayedTalk<'a>, Fault> {
-        let alloc = self.setting.rt.alloc();
-        let record = match queued.lane {
-            Lane::Skipped(why) => skip(alloc, why)?,
-            _ if self.is_gone.load(Ordering::SeqCst) => skip(alloc, "nobody listens any more")?,
-            _ => play_twice(&self.setting, queued)?,
-        };
+        if self.is_gone.load(Ordering::SeqCst) {
+            return Ok(skip(&self.setting, "nobody listens any more")?);
+        }
+        let record = play_twice(&self.setting, queued)?;
         if record.is_refused {
             self.is_gone.store(true, Ordering::SeqCst);
         }
-        Ok(PlayedTalk {
-            queued: *queued,
-            record,
-        })
+        Ok(record)
+    }
+
+    // Plays a talk, and adds what became of it.
+    fn perform(
+        &self,
+        queued: &QueuedTalk<'a>,
+        played: &mut Vec<PlayedTalk<'a>>,
+    ) -> Result<(), Fault> {
+        let record = self.record_of(queued)?;
+        let label = queued.label;
+        Ok(played.push(PlayedTalk { label, record })?)
+    }
+
+    // Plays talks as long as there are some: those that are played beside others.
+    fn take_turns(&self, played: &mut Vec<PlayedTalk<'a>>) -> Result<(), Fault> {
+        for _ in 0..self.queue.beside.len() {
+            let next = self.next.fetch_add(1, Ordering::SeqCst);
+            let Some(queued) = self.queue.beside.get(next) else {
+                break;
+            };
+            self.perform(queued, played)?;
+        }
+        Ok(())
     }
 
     // The work of a thread: a slow talk, or as many others as it comes to.
     fn work(&self, place: usize) -> Result<Vec<PlayedTalk<'a>>, Fault> {
         let mut played = Vec::new(self.setting.rt.alloc());
-        if let Some(queued) = self.slow.get(place) {
-            played.push(self.perform(queued)?)?;
-            return Ok(played);
-        }
-        for _ in 0..self.beside.len() {
-            let Some(queued) = self.beside.get(self.next.fetch_add(1, Ordering::SeqCst)) else {
-                break;
-            };
-            played.push(self.perform(queued)?)?;
+        match self.queue.slow.get(place) {
+            Some(queued) => self.perform(queued, &mut played)?,
+            None => self.take_turns(&mut played)?,
         }
         Ok(played)
+    }
+
+    // Plays the talks that are played beside others, each in a thread.
+    fn play_beside<R: Threads + Sync>(
+        &self,
+        threads: &R,
+        played: &mut Vec<PlayedTalk<'a>>,
+    ) -> Result<(), Fault> {
+        let count = self.queue.slow.len().saturating_add(AT_ONCE);
+        let alloc = self.setting.rt.alloc();
+        for of_thread in map_indices(threads, alloc, count, &|place| self.work(place))? {
+            played.append(&mut of_thread?)?;
+        }
+        Ok(())
+    }
+
+    // Plays the others, one after the other.
+    fn play_alone(&self, played: &mut Vec<PlayedTalk<'a>>) -> Result<(), Fault> {
+        for queued in &self.queue.alone {
+            self.perform(queued, played)?;
+        }
+        Ok(())
     }
 }
 
@@ -141,20 +155,17 @@ impl<'a> TalkCrew<'a> {
 pub fn run_talks<'a, R: Threads + Sync>(
     threads: &R,
     setting: &Setting<'a>,
-    queue: &[QueuedTalk<'a>],
+    queue: &'a TalkQueue<'a>,
 ) -> Result<Vec<PlayedTalk<'a>>, Fault> {
-    let alloc = setting.rt.alloc();
-    let crew = TalkCrew::new(setting, queue)?;
-    let count = crew.slow.len().saturating_add(AT_ONCE);
-    let mut all = Vec::new(alloc);
-    for played in map_indices(threads, alloc, count, &|place| crew.work(place))? {
-        for talk in played? {
-            all.push(talk)?;
-        }
-    }
-    for queued in &crew.alone {
-        all.push(crew.perform(queued)?)?;
-    }
-    all.sort_by_key(|talk| talk.queued.place)?;
-    Ok(all)
+    let crew = TalkCrew {
+        setting: *setting,
+        queue,
+        next: AtomicUsize::new(0),
+        is_gone: AtomicBool::new(false),
+    };
+    let mut played = Vec::new(setting.rt.alloc());
+    crew.play_beside(threads, &mut played)?;
+    crew.play_alone(&mut played)?;
+    played.sort_by_key(|talk| talk.label.place)?;
+    Ok(played)
 }

@@ -93,23 +93,29 @@ fn read_file(
     }
 }
 
-/// All files of rows of the folder, in the order of their names.
+// Reads these files of a folder.
+fn read_files(
+    rt: &HostRuntime,
+    folder: &str,
+    files: &[String],
+    names: &SuiteNames<'_>,
+) -> Result<Vec<SuiteFile>, Fault> {
+    let mut suite = Vec::new(rt.alloc());
+    for file in files {
+        suite.push(read_file(rt, folder, file, names)?)?;
+    }
+    Ok(suite)
+}
+
+/// All files of rows of the folder, in the order of their names. There is at least one.
 pub fn read_suite(
     rt: &HostRuntime,
     order: &CheckOrder<'_>,
     names: &SuiteNames<'_>,
 ) -> Result<Vec<SuiteFile>, Fault> {
-    let alloc = rt.alloc();
     let folder = folder_of(rt, order)?;
-    let Ok(files) = names_in(rt, &folder) else {
-        return Err(unread(alloc, &folder));
-    };
-    let mut suite = Vec::new(alloc);
-    for name in &files {
-        suite.push(read_file(rt, &folder, name, names)?)?;
+    match names_in(rt, &folder) {
+        Ok(files) if !files.is_empty() => read_files(rt, &folder, &files, names),
+        _ => Err(unread(rt.alloc(), &folder)),
     }
-    if suite.is_empty() {
-        return Err(unread(alloc, &folder));
-    }
-    Ok(suite)
 }

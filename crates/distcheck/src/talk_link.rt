@@ -55,14 +55,14 @@ impl TalkLink {
         ensures conn { IfOk result (λ link. link.conn ≡ conn) }
         ensures open { IfOk result (λ link. link.ended ≡ false) }
     {
-        socket.set_nodelay(true)?;
-        socket.set_write_timeout(Some(Duration::from_secs(WRITE)))?;
+        let _ = socket.set_nodelay(true);
+        let stream = SocketStream::with_turn(socket, Duration::from_secs(WRITE))?;
         Ok(TalkLink {
             conn,
             came: Vec::new(alloc),
             ended: false,
             is_reset: false,
-            stream: SocketStream::new(socket),
+            stream,
         })
     }
 

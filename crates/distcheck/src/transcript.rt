@@ -20,8 +20,8 @@ pub enum Speaker {
 pub struct TranscriptLine {
     /// How many milliseconds after the beginning of the talk.
     pub at: u32,
-    /// On which of the talk's connections: 0 for a, 1 for b and so on.
-    pub conn: u8,
+    /// The letter of the connection.
+    pub letter: &'static str,
     /// Whose line it is.
     pub who: Speaker,
     /// The bytes in hexadecimal digits, the first 4,096 of them. Empty where none were said.
@@ -35,7 +35,10 @@ pub fn digits_of(alloc: Global, bytes: &[u8]) -> Result<String, AllocError> {
     encode(alloc, &bytes[..bytes.len().min(MOST)])
 }
 
+// The connections of a talk.
+const LETTERS: [&str; 5] = ["a", "b", "c", "d", "e"];
+
 /// The letter of a connection of a talk.
-pub fn letter_of(conn: u8) -> char {
-    char::from(b'a'.saturating_add(conn.min(25)))
+pub fn letter_of(conn: u8) -> &'static str {
+    LETTERS.get(usize::from(conn)).copied().unwrap_or("?")
 }

@@ -7,7 +7,7 @@ ghost use Rattle.distmapd.specs.Words.{all_keys, key_in};
 use crate::settings::Task;
 
 /// What the next word is, after an option.
-#[derive(Clone, Copy, PartialEq, Eq)]
+#[derive(Clone, Copy)]
 pub enum AwaitedValue {
     /// The port.
     Port,
@@ -24,7 +24,7 @@ pub enum AwaitedValue {
 }
 
 /// What a word asks for that is not the value of another.
-#[derive(Clone, Copy, PartialEq, Eq)]
+#[derive(Clone, Copy)]
 pub enum Key {
     /// The next word is this.
     Takes(AwaitedValue),

@@ -39,8 +39,9 @@ use crate::standard_error::StandardError;
 use dist_epmd_server::{MapperLimits, Server};
 use dist_names::quote;
 use dist_program::{mapper_port, report, texts, variable, words_of};
+use mio::net::TcpListener;
 use std::alloc::{AllocError, Global};
-use std::io::Write;
+use std::io::{self, Write};
 use std::net::Net;
 use std::process::ExitCode;
 use std::sync::Wait;
@@ -85,26 +86,35 @@ fn main(rt: HostRuntime) -> ExitCode {
     }
 }
 
-// Does what the words ask for. `host` is the same runtime once more, for calls that may wait: outside of `main` the runtime itself may not.
+// Does what the words of the command line and the environment ask for. `host` is the same runtime once more, for calls that may wait:
+// outside of `main` the runtime itself may not.
 fn perform<R: Net + Wait + Clock, W: Write>(
     rt: &HostRuntime,
     host: &R,
     out: &mut W,
 ) -> Result<(), Fault> {
-    let alloc = rt.alloc();
     let words = words_of(rt)?;
-    let words = texts(alloc, &words)?;
     let port = mapper_port(rt)?;
-    let address = variable(rt, "ERL_EPMD_ADDRESS")?;
-    let settings = match settings_of(&words, port, address.as_deref()) {
-        Ok(settings) => settings,
-        Err(bad) => return Err(Fault::BadWords(sentence(alloc, bad)?)),
-    };
+    let addresses = variable(rt, "ERL_EPMD_ADDRESS")?;
+    let settings = settings_in(rt.alloc(), &words, port, addresses.as_deref())?;
     match settings.task {
         Task::Help => print(out, HELP),
         Task::Version => print(out, VERSION),
-        Task::Names => print_names(rt, alloc, settings.port, out),
+        Task::Names => print_names(rt, rt.alloc(), settings.port, out),
         Task::Serve => run(rt, host, &settings),
+    }
+}
+
+// What these words ask for.
+fn settings_in<'a>(
+    alloc: Global,
+    words: &'a [String],
+    port: u16,
+    addresses: Option<&'a str>,
+) -> Result<Settings<'a>, Fault> {
+    match settings_of(&texts(alloc, words)?, port, addresses) {
+        Ok(settings) => Ok(settings),
+        Err(bad) => Err(Fault::BadWords(sentence(alloc, bad)?)),
     }
 }
 
@@ -137,17 +147,15 @@ fn sockets_handed_over(rt: &HostRuntime, settings: &Settings<'_>) -> Result<u16,
     handed_over(said.as_deref(), process.as_deref(), libc::getpid()).ok_or(Fault::ListenFailed)
 }
 
-// What runs beside the port mapper.
-fn beside<R: Net>(net: &R, alloc: Global, settings: &Settings<'_>) -> Result<Beside, Fault> {
-    let monitor = match settings.metrics {
-        Some(port) => Some(Monitor::new(net, alloc, port).map_err(|_| Fault::MetricsFailed)?),
-        None => None,
+// The port at which the figures are served, if they are.
+fn monitor_at<R: Net>(net: &R, alloc: Global, port: Option<u16>) -> Result<Option<Monitor>, Fault> {
+    let Some(port) = port else {
+        return Ok(None);
     };
-    Ok(Beside {
-        log: settings.log.map(|form| Log::new(form)),
-        monitor,
-        standard_error: StandardError::open(),
-    })
+    match Monitor::new(net, alloc, port) {
+        Ok(monitor) => Ok(Some(monitor)),
+        Err(_) => Err(Fault::MetricsFailed),
+    }
 }
 
 // Notifies the service manager, if one asks for it, that the program listens.
@@ -156,6 +164,25 @@ fn report_ready(rt: &HostRuntime) -> Result<(), Fault> {
         let _ = say_ready(name.as_bytes());
     }
     Ok(())
+}
+
+// The port mapper at these sockets, the first of which has this port.
+fn server_at<R: Net + Clock>(
+    host: &R,
+    alloc: Global,
+    settings: &Settings<'_>,
+    sockets: Vec<TcpListener>,
+    port: u16,
+) -> io::Result<Server> {
+    let limits = MapperLimits {
+        clients: settings.clients as usize,
+        seconds: u64::from(settings.seconds),
+    };
+    let mut server = Server::new(host, alloc, port, first_creation(host), limits)?;
+    for socket in sockets {
+        server.add_listener(socket)?;
+    }
+    Ok(server)
 }
 
 // Listens, and serves until the system fails.
@@ -167,17 +194,27 @@ fn run<R: Net + Wait + Clock>(
     let alloc = rt.alloc();
     let sockets = listeners(host, alloc, settings, sockets_handed_over(rt, settings)?)?;
     let port = port_of(&sockets).ok_or(Fault::ListenFailed)?;
-    let mut beside = beside(host, alloc, settings)?;
-    let limits = MapperLimits {
-        clients: settings.clients as usize,
-        seconds: settings.seconds as u64,
+    let mut beside = Beside {
+        log: settings.log.map(|form| Log::new(form)),
+        monitor: monitor_at(host, alloc, settings.metrics)?,
+        standard_error: StandardError::open(),
     };
-    let server = Server::new(host, alloc, port, first_creation(host), limits);
-    let mut server = server.map_err(|_| Fault::ServeFailed)?;
-    for socket in sockets {
-        let listens = server.add_listener(socket);
-        listens.map_err(|_| Fault::ServeFailed)?;
+    match server_at(host, alloc, settings, sockets, port) {
+        Ok(mut server) => serve_from_now(rt, host, &mut server, &mut beside),
+        Err(_) => Err(Fault::ServeFailed),
     }
+}
+
+// Reports that the program listens, and serves until the system fails.
+fn serve_from_now<R: Wait + Clock>(
+    rt: &HostRuntime,
+    host: &R,
+    server: &mut Server,
+    beside: &mut Beside,
+) -> Result<(), Fault> {
     report_ready(rt)?;
-    serve(host, alloc, &mut server, &mut beside).map_err(|_| Fault::ServeFailed)
+    match serve(host, rt.alloc(), server, beside) {
+        Ok(()) => Ok(()),
+        Err(_) => Err(Fault::ServeFailed),
+    }
 }

@@ -36,6 +36,7 @@ struct Watcher {
     since: u64,
     head: ByteString,
     is_answered: bool,
+    is_over: bool,
 }
 
 impl Watcher {
@@ -125,7 +126,17 @@ impl Monitor {
         if self.seats.len() >= SEATS {
             let _ = self.seats.remove(0);
         }
-        (1..=SEATS).find(|place| self.seats.iter().all(|seat| seat.place != *place))
+        for before in 0..SEATS {
+            if self.is_free(before + 1) {
+                return Some(before + 1);
+            }
+        }
+        None
+    }
+
+    // Whether no client has this place.
+    fn is_free(&self, place: usize) -> bool {
+        self.seats.iter().all(|seat| seat.place != place)
     }
 
     // Takes in a connection. If that fails, the connection is closed.
@@ -142,6 +153,7 @@ impl Monitor {
             since: now,
             head: ByteString::new(self.alloc),
             is_answered: false,
+            is_over: false,
         });
     }
 
@@ -159,22 +171,13 @@ impl Monitor {
         }
     }
 
-    // Takes out the seat at a place.
-    fn take_seat(&mut self, place: usize) -> Option<Watcher> {
-        let index = self.seats.iter().position(|seat| seat.place == place)?;
-        if index < self.seats.len() {
-            Some(self.seats.remove(index))
-        } else {
-            None
-        }
-    }
-
     // Serves the client at a place.
     fn attend(&mut self, server: &Server, place: usize, room: &mut [u8]) {
-        if let Some(mut seat) = self.take_seat(place)
-            && seat.hear(self.alloc, server, room)
-        {
-            let _ = self.seats.push(seat);
+        let alloc = self.alloc;
+        for seat in &mut self.seats {
+            if seat.place == place {
+                seat.is_over = !seat.hear(alloc, server, room);
+            }
         }
     }
 
@@ -193,11 +196,10 @@ impl Monitor {
         for event in events.iter() {
             self.serve_token(server, event.token(), room);
         }
+        self.seats.retain(|seat| !seat.is_over && now.saturating_sub(seat.since) < SECONDS);
         if self.waits {
             self.accept_some(server, now);
         }
-        self.seats
-            .retain(|seat| now.saturating_sub(seat.since) < SECONDS);
         self.spares
             .hold((SEATS + 1).saturating_sub(self.seats.len()));
     }

@@ -1,7 +1,7 @@
 //! The settings that the command line asks for.
 
 /// What the program is to do.
-#[derive(Clone, Copy, PartialEq, Eq)]
+#[derive(Clone, Copy)]
 pub enum Task {
     /// Serve as a port mapper.
     Serve,

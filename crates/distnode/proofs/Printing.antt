@@ -15,7 +15,7 @@ use Rattle.dist_run_plan.specs.Plans.{plan_of}
 use Rattle.dist_run_hosts.specs.Setups.{AreOfPlans}
 use Rattle.dist_run_hosts.specs.Orders.{AreObeyed}
 use Rattle.dist_run_hosts.specs.declared.order_fault.OrderFault.{OrderFault}
-use Rattle.dist_run.specs.Runs.{AreInOrder}
+use Rattle.dist_run_hosts.specs.Runs.{AreInOrder}
 use Rattle.dist_script_play.specs.Worlds.{nodes_text, PutsAgreements}
 use Rattle.dist_script_play.proofs.Printing.{in_three}
 use Rattle.distnode.specs.Printed.{order_line, orders_text, closed_node, closed_text, refusal_text, Puts, IsHeld, IsAudited, IsOfRun, PrintsRun, PrintsRunOf}

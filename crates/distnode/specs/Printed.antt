@@ -13,7 +13,7 @@ use Rattle.dist_run_hosts.specs.Setups.{AreOfPlans}
 use Rattle.dist_run_hosts.specs.Orders.{AreObeyed}
 use Rattle.dist_run_hosts.specs.Words.{order_refusal_name}
 use Rattle.dist_run_hosts.specs.declared.order_fault.OrderFault.{OrderFault}
-use Rattle.dist_run.specs.Runs.{AreInOrder}
+use Rattle.dist_run_hosts.specs.Runs.{AreInOrder}
 use Rattle.dist_script_play.specs.Lines.{node_text}
 use Rattle.dist_script_play.specs.Worlds.{nodes_text, AreAgreements}
 use Rattle.dist_commands.specs.declared.fault.Fault.{Fault}

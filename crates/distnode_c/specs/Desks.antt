@@ -16,7 +16,7 @@ use Rattle.distnode_c.specs.declared.desk.DeskError.{DeskError}
 use Rattle.distnode_c.specs.declared.desk.DeskError.TheVariants as desk
 use Rattle.distnode_c.specs.declared.registry.DnServed.{DnServed}
 use Rattle.distnode_c.specs.Codes.{epmd_code}
-use Rattle.distnode_c.specs.Steps.{Copies, Keeps, Silent}
+use Rattle.dist_c_guest.specs.Steps.{Copies, Keeps, Silent}
 
 -- 1 where an answer registers the node that asked
 abbrev pub registered_number : Answer → ℕ

@@ -10,8 +10,9 @@ use Rattle.dist_epmd.specs.declared.message.Answer.TheVariants as answer
 use Rattle.dist_epmd.specs.declared.message.Request.{Request}
 use Rattle.dist_epmd.specs.declared.message.Request.TheVariants as request
 use Rattle.distnode_c.specs.declared.mapper.DnInfo.{DnInfo}
-use Rattle.distnode_c.specs.Codes.{cookie_code, epmd_code}
-use Rattle.distnode_c.specs.Steps.{Copies, Keeps, Silent}
+use Rattle.dist_c_guest.specs.Codes.{cookie_code}
+use Rattle.distnode_c.specs.Codes.{epmd_code}
+use Rattle.dist_c_guest.specs.Steps.{Copies, Keeps, Silent}
 
 -- the frame of what is written is copied, or the reason why nothing is
 abbrev pub Asks : Result (List ℕ) EpmdError → ℕ → ℕ → ℕ → List ℕ → List ℕ → Type 0

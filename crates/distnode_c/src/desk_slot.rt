@@ -4,7 +4,7 @@ ghost use Rattle.distnode_c.specs.declared.desk.RegistryDesk.{RegistryDesk};
 ghost use Rattle.distnode_c.specs.KeptDesk.{kept_desk};
 
 use crate::desk::RegistryDesk;
-use crate::parts::Parts;
+use dist_c_guest::Parts;
 use std::alloc::Global;
 use std::marker::Model;
 

@@ -5,8 +5,8 @@ ghost use Rattle.dist_epmd.specs.Reading.{read_answer};
 ghost use Rattle.dist_epmd.specs.Layout.{written_request};
 ghost use Rattle.distnode_c.specs.Mapper.{Asks, ReportsAlive, ReportsPort, Digests, alive_of};
 
-use crate::codes::{NO_MEMORY, OK, cookie_code, epmd_code};
-use crate::copies::copy_out;
+use crate::codes::epmd_code;
+use dist_c_guest::{NO_MEMORY, OK, cookie_code, copy_out};
 use dist_epmd::{Answer, Asked, EpmdError, NodeInfo, Request, decode_answer, encode_request};
 use dist_frames::{FrameError, write_short};
 use dist_names::ByteString;

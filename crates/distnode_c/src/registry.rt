@@ -2,13 +2,13 @@
 ghost use Rattle.std.specs.Prelude.{◌≡◌, Option, Some, None};
 ghost use Rattle.std.specs.Int.{w16};
 ghost use Rattle.dist_frames.specs.Stream.{first_body};
-ghost use Rattle.distnode_c.specs.Nodes.{Frees};
+ghost use Rattle.dist_c_guest.specs.Nodes.{Frees};
 ghost use Rattle.distnode_c.specs.Desks.{Opens, Asked, Answers, CopiesText, Closes, answer_text};
 
-use crate::codes::{AWAITS, IN_USE, NO_MEMORY, NOT_A_NODE, OK, epmd_code};
-use crate::copies::copy_out;
+use crate::codes::epmd_code;
 use crate::desk::{DeskError, RegistryDesk, registered_number};
 use crate::held::{DnRegistry, REGISTRY_MARK};
+use dist_c_guest::{AWAITS, IN_USE, NO_MEMORY, NOT_A_NODE, OK, copy_out};
 use dist_epmd::{Answer, encode_answer};
 use std::alloc::Global;
 use std::mem::size_of;

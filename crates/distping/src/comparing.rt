@@ -4,7 +4,6 @@ ghost use Rattle.std.specs.Prelude.{◌≡◌, ◌≢◌, ◌||◌, IfOk};
 ghost use Rattle.dist_cluster.specs.Pairs.{is_bad};
 
 use dist_cluster::{Half, Pairing, Summary, first_of, pairing_of};
-use distping_json::{pair_object, summary_object};
 use distping_report::LineSink;
 use distping_words::Fault;
 
@@ -26,13 +25,10 @@ impl Pairs<'_> {
 
     // Prints what can be said of two nodes, if that is to be printed.
     fn put(self, first: &Half<'_>, second: &Half<'_>, pairing: Pairing) -> Result<(), Fault> {
-        let lines = self.lines;
-        if !self.shows(pairing) {
-            Ok(())
-        } else if lines.quiet {
-            lines.write_made(pair_object(lines.alloc, first.node, second.node, pairing))
+        if self.shows(pairing) {
+            self.lines.put_pair(first.node, second.node, pairing)
         } else {
-            lines.put_pair(first.node, second.node, pairing)
+            Ok(())
         }
     }
 }
@@ -52,12 +48,7 @@ fn pair_all(pairs: Pairs<'_>, halves: &[Half<'_>]) -> Result<u8, Fault> {
 
 // Prints how many nodes have which verdict, and how many pairs which word.
 fn put_summary(lines: LineSink<'_>, halves: &[Half<'_>], status: u8) -> Result<(), Fault> {
-    let summary = Summary::of_nodes(lines.alloc, halves)?;
-    if lines.quiet {
-        lines.write_made(summary_object(lines.alloc, &summary, status))
-    } else {
-        lines.put_summary(&summary)
-    }
+    lines.put_summary(&Summary::of_nodes(lines.alloc, halves)?, status)
 }
 
 /// Prints what can be said of these nodes together, and returns the first status that is not 0. `status` is that of the nodes; with

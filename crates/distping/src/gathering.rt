@@ -12,10 +12,8 @@ use dist_cluster::{Group, Target, first_of, name_in_line};
 use dist_names::{NameError, NodeName};
 use dist_probe::ProbeVerdict;
 use dist_program::Resolving;
-use distping_json::{group_object, left_out_object, more_left_out_object};
 use distping_report::{LeftOut, LineSink, MOST_SHOWN, ProbeOutcome};
 use distping_words::{Fault, Wanted};
-use std::net::SocketAddr;
 
 // Whether the command line, or the file, names this node itself.
 fn is_named(targets: &[Target], node: &NodeName) -> bool {
@@ -42,17 +40,12 @@ struct Gathering<'a> {
 impl Gathering<'_> {
     // Leaves out a line that names no node: prints it if it is one of the first, else counts it.
     fn leave_out(&mut self, text: &[u8]) -> Result<(), Fault> {
-        let lines = self.lines;
         if self.shown >= MOST_SHOWN {
             self.left_out.lines = self.left_out.lines.saturating_add(1);
             return Ok(());
         }
         self.shown += 1;
-        if lines.quiet {
-            lines.write_made(left_out_object(lines.alloc, self.group, text))
-        } else {
-            lines.put_left_out(text)
-        }
+        self.lines.put_left_out(self.group, text)
     }
 
     // Adds a node, unless it is there already, or there are enough.
@@ -83,48 +76,26 @@ impl Gathering<'_> {
         }
     }
 
-    // Prints how much of what the port mapper sent was left out, if anything was.
-    fn put_more_left_out(&self) -> Result<(), Fault> {
-        let lines = self.lines;
-        if self.left_out.is_nothing() {
-            Ok(())
-        } else if lines.quiet {
-            lines.write_made(more_left_out_object(lines.alloc, self.group, self.left_out))
-        } else {
-            lines.put_more_left_out(self.left_out)
-        }
-    }
-
     // Prints the verdict on the host, which gave no node, and returns its status.
     fn put_nobody(&self, outcome: &ProbeOutcome) -> Result<u8, Fault>
         ensures { IfOk result (λ status. status ≡ status_of outcome.now.verdict) }
     {
-        let lines = self.lines;
-        if lines.quiet {
-            lines.write_made(group_object(lines.alloc, self.group, outcome))?;
-        } else {
-            lines.put_verdict(outcome.verdict)?;
-        }
+        self.lines.put_nobody(self.group, outcome)?;
         Ok(outcome.verdict.status())
     }
 
     // Takes the nodes that the port mapper named, and returns the status: if it named none, that of a host without nodes.
-    fn take_names(
-        &mut self,
-        nodes: &mut Nodes,
-        address: SocketAddr,
-        names: &Names,
-    ) -> Result<u8, Fault> {
+    fn take_names(&mut self, nodes: &mut Nodes, names: &Names) -> Result<u8, Fault> {
         let lines = self.lines;
-        for line in names.text.as_slice().split(|byte| *byte == b'\n') {
+        for line in names.lines().split(|byte| *byte == b'\n') {
             self.take_line(nodes, line)?;
         }
         self.left_out.is_cut = names.is_cut;
-        self.put_more_left_out()?;
+        lines.put_more_left_out(self.group, self.left_out)?;
         if self.named == 0 {
             lines.put_names(b"")?;
             let verdict = ProbeVerdict::NotRegistered;
-            return self.put_nobody(&no_dial(lines.alloc, Some(address), verdict));
+            return self.put_nobody(&no_dial(lines.alloc, Some(names.address), verdict));
         }
         lines.put_known(self.wanted.choices.mapper_port, self.named)?;
         Ok(self.left_out.status())
@@ -152,7 +123,7 @@ fn ask_group<'x, R: Resolving>(
     gathering.lines.put_heading(group.word())?;
     let dial = context.make_dial(gathering.lines, &group.own, &group.own);
     match ask_census(&dial, context.addresses(&group.own))? {
-        Ok((address, names)) => gathering.take_names(nodes, address, &names),
+        Ok(names) => gathering.take_names(nodes, &names),
         Err(outcome) => gathering.put_nobody(&outcome),
     }
 }
@@ -175,12 +146,11 @@ fn take_target<'x, R: Resolving>(
     }
 }
 
-/// The nodes to dial, and the first status that is not 0 of the hosts that were asked for their nodes.
-pub fn gather<R: Resolving>(context: &Context<'_, R>) -> Result<(Nodes, u8), Fault> {
-    let mut nodes = Nodes::new(context.rt.alloc());
+/// Adds the nodes to dial, and returns the first status that is not 0 of the hosts that were asked for their nodes.
+pub fn gather<R: Resolving>(context: &Context<'_, R>, nodes: &mut Nodes) -> Result<u8, Fault> {
     let mut status = 0;
     for target in &context.wanted.targets {
-        status = first_of(status, take_target(context, target, &mut nodes)?);
+        status = first_of(status, take_target(context, target, nodes)?);
     }
-    Ok((nodes, status))
+    Ok(status)
 }

@@ -4,7 +4,6 @@
 //! together: it decides which nodes are dialled, several at once or again and again, and prints what can be said of them.
 #![tactic(auto)]
 
-mod capturing;
 mod common;
 mod comparing;
 mod gathering;
@@ -16,20 +15,20 @@ mod reply;
 mod together;
 mod watching;
 
-use capturing::read_capture;
 use common::Context;
 use comparing::compare;
 use dist_cluster::first_of;
 use dist_names::NodeName;
 use dist_program::{HostError, Resolving, lookup_host, mapper_port, words_of};
 use dist_secret::Cookie;
-use distping_json::caller_object;
+use distping_capture::read_capture;
 use distping_report::{Caller, LineSink, Listed, Listen};
 use distping_words::{
     Choices, CookieSource, Fault, Instead, Refusal, Wanted, cookie_of, read_roster, wanted_of,
 };
 use gathering::gather;
 use links::{draw_challenge, setup_of, take_connection};
+use nodes::Nodes;
 use std::net::SocketAddr;
 use std::process::ExitCode;
 use together::collect_halves;
@@ -90,29 +89,38 @@ fn perform<R: Resolving + Sync>(rt: &HostRuntime, resolver: &R) -> Result<u8, Re
     let mapper_port = mapper_port(rt)?;
     match wanted_of(rt.alloc(), &words, mapper_port) {
         Ok(mut wanted) => follow(rt, resolver, &mut wanted),
-        Err(Instead::Help) => Ok(print(rt, HELP)?),
-        Err(Instead::Version) => Ok(print(rt, VERSION)?),
+        Err(Instead::Help) => print(rt, HELP),
+        Err(Instead::Version) => print(rt, VERSION),
         Err(Instead::Refusal(refusal)) => Err(refusal),
     }
 }
 
 // Prints the help or the version.
-fn print(rt: &HostRuntime, text: &str) -> Result<u8, Fault> {
+fn print(rt: &HostRuntime, text: &str) -> Result<u8, Refusal> {
     LineSink::on_screen(rt, false).write(text)?;
     Ok(0)
 }
 
-// Reads the file of names and that of the cookie, then listens or checks nodes.
-fn follow<'x, R: Resolving + Sync>(
-    rt: &'x HostRuntime,
-    resolver: &'x R,
+// Reads the file of names and that of the cookie, then reads a capture, listens, or checks nodes.
+fn follow<R: Resolving + Sync>(
+    rt: &HostRuntime,
+    resolver: &R,
     wanted: &mut Wanted<'_>,
 ) -> Result<u8, Refusal> {
     read_names(rt, wanted)?;
-    let read = cookie_read(rt, &wanted.choices)?;
-    let cookie = read.as_ref();
+    let cookie = cookie_read(rt, &wanted.choices)?;
+    Ok(carry_out(rt, resolver, wanted, cookie.as_ref())?)
+}
+
+// Reads a capture, listens, or checks nodes.
+fn carry_out<'x, R: Resolving + Sync>(
+    rt: &'x HostRuntime,
+    resolver: &'x R,
+    wanted: &'x Wanted<'x>,
+    cookie: Option<&'x Cookie>,
+) -> Result<u8, Fault> {
     if let Some(path) = wanted.choices.capture {
-        return Ok(read_capture(rt, path, &wanted.choices, cookie)?);
+        return read_capture(rt, path, &wanted.choices, cookie);
     }
     let context = Context {
         rt,
@@ -121,11 +129,10 @@ fn follow<'x, R: Resolving + Sync>(
         wanted,
         cookie,
     };
-    let status = match (wanted.choices.listen, &wanted.name) {
-        (Some(port), Some(name)) => listen(&context, port, name)?,
-        _ => check_nodes(&context)?,
-    };
-    Ok(status)
+    match (wanted.choices.listen, &wanted.name) {
+        (Some(port), Some(name)) => listen(&context, port, name),
+        _ => check_nodes(&context),
+    }
 }
 
 // The cookie that is tried, or compared with the digests of a capture: for those it has to be named.
@@ -177,21 +184,31 @@ fn listen<R: Resolving>(context: &Context<'_, R>, port: u16, name: &NodeName) ->
         seconds: choices.seconds,
         turns: choices.turns(),
     };
+    print_connection(context.rt, context.screen(), &one)
+}
+
+// Takes one connection, prints the result, and returns its status.
+fn print_connection(rt: &HostRuntime, lines: LineSink<'_>, one: &Listen<'_>) -> Result<u8, Fault> {
     let mut caller = Caller::nobody();
-    let lines = context.screen();
-    let taken = take_connection(context.rt, &one, lines, &mut caller)?;
-    if lines.quiet {
-        lines.write_made(caller_object(lines.alloc, &one, &caller, taken))?;
-    } else {
-        lines.put_outcome(taken)?;
-    }
+    let taken = take_connection(rt, one, lines, &mut caller)?;
+    lines.put_connection(one, &caller, taken)?;
     Ok(taken.status())
 }
 
-// Watches all nodes, or probes each once and prints what can be said of each pair.
+// Finds the nodes, and watches them or probes each once.
 fn check_nodes<R: Resolving + Sync>(context: &Context<'_, R>) -> Result<u8, Fault> {
-    let (nodes, status) = gather(context)?;
-    let names = &nodes.names;
+    let mut nodes = Nodes::new(context.rt.alloc());
+    let status = gather(context, &mut nodes)?;
+    check_all(context, &nodes.names, status)
+}
+
+// Watches these nodes, or probes each once and prints what can be said of each pair. `status` is that of the hosts that were asked for
+// nodes.
+fn check_all<R: Resolving + Sync>(
+    context: &Context<'_, R>,
+    names: &[NodeName],
+    status: u8,
+) -> Result<u8, Fault> {
     let listed = &Listed::new(context.rt.alloc(), names)?;
     let context = &Context { listed, ..*context };
     let choices = &context.wanted.choices;

@@ -7,43 +7,25 @@ use crate::links::probe;
 use dist_cluster::{Half, Target, USUAL};
 use dist_names::NodeName;
 use dist_probe::ProbeVerdict;
-use dist_program::Resolving;
-use distping_json::object_of;
-use distping_report::{Dial, Found, LineSink, ProbeOutcome};
+use dist_program::{Addresses, Resolving};
+use distping_report::{Dial, Found, LineSink};
 use distping_words::{Fault, Wanted, parse_name};
 use std::alloc::Global;
 
-// Our name: the given one, or the usual one at the node's host, so that both names are long or both short.
-fn own_name(alloc: Global, wanted: &Wanted<'_>, node: &NodeName) -> Result<NodeName, Fault> {
-    if let Some(name) = &wanted.name {
-        return Ok(name.try_clone(alloc)?);
-    }
+// Our usual name at the node's host, so that both names are long or both short.
+fn usual_name(alloc: Global, node: &NodeName) -> Result<NodeName, Fault> {
     let mut text = Vec::from_slice(alloc, USUAL)?;
     text.push(b'@')?;
     text.extend_from_slice(node.host())?;
     parse_name(alloc, &text)
 }
 
-// Prints the result of a probe; of several addresses also which got furthest; and if the node was found by `--address`, that nodes don't
-// use it.
-fn put_outcome(dial: &Dial<'_>, outcome: &ProbeOutcome) -> Result<(), Fault> {
-    let lines = dial.lines;
-    if lines.quiet {
-        return lines.write_made(object_of(lines.alloc, dial, outcome));
+// Our name: the given one, or else the usual one.
+fn own_name(alloc: Global, wanted: &Wanted<'_>, node: &NodeName) -> Result<NodeName, Fault> {
+    match &wanted.name {
+        Some(name) => Ok(name.try_clone(alloc)?),
+        None => usual_name(alloc, node),
     }
-    let count = u32::try_from(outcome.verdicts.len()).unwrap_or(u32::MAX);
-    if let Some(address) = &outcome.found.address
-        && count > 1
-    {
-        lines.put_furthest(address, count)?;
-    }
-    if let Some(host) = dial.choices.address
-        && outcome.verdict.status() == 0
-        && host.as_bytes() != dial.node.host()
-    {
-        lines.put_other_way(dial.node)?;
-    }
-    lines.put_verdict(outcome.verdict)
 }
 
 // What is kept of a probe. The flags of a node with another name are ignored.
@@ -62,6 +44,19 @@ fn half_of<'n>(node: &'n NodeName, found: &Found, verdict: ProbeVerdict) -> Half
     }
 }
 
+// Probes a node, prints the result, and returns what is kept of it.
+fn dial_and_print<'n>(
+    dial: &Dial<'_>,
+    addresses: Addresses,
+    node: &'n NodeName,
+) -> Result<Half<'n>, Fault>
+    ensures { IfOk result (λ half. half.node.now ≡ node.now) }
+{
+    let outcome = probe(dial, addresses)?;
+    dial.lines.put_probe(dial, &outcome)?;
+    Ok(half_of(node, &outcome.found, outcome.verdict))
+}
+
 /// Prints the heading of a node (all have one unless a single node is asked for), probes the node, prints the result, and returns what is kept of it.
 pub fn print_probe<'n, R: Resolving>(
     context: &Context<'_, R>,
@@ -75,9 +70,7 @@ pub fn print_probe<'n, R: Resolving>(
     }
     let own = own_name(context.rt.alloc(), context.wanted, node)?;
     let dial = context.make_dial(lines, &own, node);
-    let outcome = probe(&dial, context.addresses(node))?;
-    put_outcome(&dial, &outcome)?;
-    Ok(half_of(node, &outcome.found, outcome.verdict))
+    dial_and_print(&dial, context.addresses(node), node)
 }
 
 /// The verdict on a node, with no step printed.

@@ -5,13 +5,12 @@ ghost use Rattle.std.specs.Prelude.{◌≡◌, ◌⊎◌, IfOk};
 use crate::common::Context;
 use crate::grouping::split_group;
 use crate::probing::verdict_upon;
-use dist_cluster::{Latencies, Observation, VerdictChange, Watch};
+use dist_cluster::{Latencies, Observation, Watch};
 use dist_names::{ByteString, NodeName};
 use dist_probe::ProbeVerdict;
 use dist_program::{Resolving, deadline_in};
 use dist_stream::time_left;
-use distping_json::{change_object, latency_object};
-use distping_report::{Answers, LineSink, Seen, now_seconds, utc_text, verdict_word_in};
+use distping_report::{Answers, LineSink, Seen, now_seconds};
 use distping_words::{Fault, Rhythm};
 use std::alloc::{AllocError, Global};
 use std::thread::{self, map_indices};
@@ -66,19 +65,6 @@ fn look_at<'n, R: Resolving>(
     })
 }
 
-// Prints a change.
-fn put_change(lines: LineSink<'_>, seen: &Seen<'_>, change: &VerdictChange) -> Result<(), Fault> {
-    let time = utc_text(lines.alloc, change.at)?;
-    if lines.quiet {
-        return lines.write_made(change_object(lines.alloc, &time, seen, change));
-    }
-    let before = match &change.before {
-        Some(before) => verdict_word_in(before),
-        None => b"",
-    };
-    lines.put_change(&time, seen.node, seen.verdict, before)
-}
-
 impl Course {
     // Takes the result of a probe, and prints it if it is a change. Keeps the time that the answer took.
     fn take_in(
@@ -101,7 +87,7 @@ impl Course {
             return Ok(());
         };
         self.has_changed = self.has_changed || change.before.is_some();
-        put_change(lines, seen, &change)
+        lines.put_change(seen, &change)
     }
 }
 
@@ -146,19 +132,30 @@ fn put_all_answers(
     course: &Course,
 ) -> Result<(), Fault> {
     for (node, latencies) in nodes.iter().zip(course.latencies.iter()) {
-        let summary = latencies.summary()?;
-        let answers = Answers {
+        lines.put_answers(&Answers {
             node,
             rounds,
-            summary,
-        };
-        if lines.quiet {
-            lines.write_made(latency_object(lines.alloc, &answers))?;
-        } else {
-            lines.put_answers(&answers)?;
-        }
+            summary: latencies.summary()?,
+        })?;
     }
     Ok(())
+}
+
+// Probes all nodes again and again, prints what changes, and at the end the times that their answers took.
+fn play_rounds<R: Resolving + Sync>(
+    context: &Context<'_, R>,
+    nodes: &[NodeName],
+    rhythm: Rhythm,
+    course: &mut Course,
+) -> Result<(), Fault> {
+    let rt = context.rt;
+    let mut until = Instant::now(rt).ok().ok_or(Fault::NoTime)?;
+    for _ in 0..rhythm.rounds {
+        thread::sleep(rt, time_left(rt, until));
+        until = deadline_in(rt, rhythm.seconds).ok().ok_or(Fault::NoTime)?;
+        play_round(context, 0, nodes, course)?;
+    }
+    put_all_answers(context.screen(), nodes, rhythm.rounds, course)
 }
 
 /// Probes all nodes again and again, prints what changes, and at the end the times that their answers took. A round begins
@@ -170,14 +167,7 @@ pub fn watch_all<R: Resolving + Sync>(
 ) -> Result<u8, Fault>
     ensures { IfOk result (λ status. (status ≡ 0) ⊎ (status ≡ 11)) }
 {
-    let rt = context.rt;
-    let mut course = new_course(rt.alloc(), nodes.len())?;
-    let mut until = Instant::now(rt).ok().ok_or(Fault::NoTime)?;
-    for _ in 0..rhythm.rounds {
-        thread::sleep(rt, time_left(rt, until));
-        until = deadline_in(rt, rhythm.seconds).ok().ok_or(Fault::NoTime)?;
-        play_round(context, 0, nodes, &mut course)?;
-    }
-    put_all_answers(context.screen(), nodes, rhythm.rounds, &course)?;
+    let mut course = new_course(context.rt.alloc(), nodes.len())?;
+    play_rounds(context, nodes, rhythm, &mut course)?;
     Ok(if course.has_changed { CHANGED } else { 0 })
 }

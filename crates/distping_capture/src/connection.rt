@@ -28,7 +28,7 @@ const MOST_SILENT: u64 = 45_000_000_000;
 const MOST_MESSAGES: usize = 16;
 
 /// What a connection carries.
-#[derive(Clone, Copy, Debug, PartialEq, Eq)]
+#[derive(Clone, Copy)]
 pub enum Traffic {
     /// Not known yet.
     Unknown,
@@ -424,7 +424,7 @@ impl CapturedConnection {
 
     // Reads what the connection carries, and returns what a port mapper answered.
     fn read(&mut self, alloc: Global, at: u64) -> Result<Option<Answer>, AllocError> {
-        if self.content == Traffic::Unknown {
+        if matches!(self.content, Traffic::Unknown) {
             self.recognize(alloc);
         }
         match self.content {

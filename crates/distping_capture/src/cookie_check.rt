@@ -6,7 +6,7 @@ ghost use Rattle.distping_capture.specs.CookieCheck.{check_of, cookie_check, coo
 use dist_secret::{Cookie, digest};
 
 /// Which sides showed the cookie of the command line.
-#[derive(Clone, Copy, Debug, PartialEq, Eq)]
+#[derive(Clone, Copy)]
 pub enum CookieCheck {
     /// Both did.
     Both,

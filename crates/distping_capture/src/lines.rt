@@ -10,8 +10,8 @@ use dist_epmd::{Answer, NodeInfo, Request};
 use dist_epmd_calls::LookupError;
 use dist_frames::first_body;
 use dist_messages::{MessageView, Side, read_in_place};
-use dist_names::{ByteString, Flags};
-use dist_probe::{Peer, ProbeVerdict};
+use dist_names::Flags;
+use dist_probe::ProbeVerdict;
 use distping_report::LinePiece::{self, Digits, Escaped, Foreign, Host, Name, Number, Text};
 use distping_report::{LineSink, utc_text};
 use distping_words::Fault;
@@ -90,18 +90,13 @@ fn put_word<'x>(
 
 // Prints what a side says of itself; in the older form it has no creation.
 fn put_node(lines: LineSink<'_>, node: &NodeDescription<'_>) -> Result<(), Fault> {
-    let flags = node.flags;
     match node.creation {
-        Some(creation) => lines.put_peer(&Peer {
-            flags,
-            creation,
-            name: ByteString::from_slice(lines.alloc, node.name)?,
-        }),
+        Some(creation) => lines.put_peer(node.name, node.flags, creation),
         None => lines.put(&[
             Text("   node      "),
             Name(node.name),
             Text(", flags "),
-            Digits(flags),
+            Digits(node.flags),
         ]),
     }
 }

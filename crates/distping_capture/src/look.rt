@@ -6,7 +6,7 @@ use dist_names::{Flags, NodeName};
 use std::alloc::Global;
 
 /// What the first bytes of a side look like.
-#[derive(Clone, Copy, Debug, PartialEq, Eq)]
+#[derive(Clone, Copy)]
 pub enum Look {
     /// Nothing yet: there are too few.
     Open,

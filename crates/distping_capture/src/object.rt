@@ -5,7 +5,7 @@ use crate::cookie_check::CookieCheck;
 use crate::dials::PastDial;
 use crate::facts::{Facts, NodeDescription};
 use crate::outcome::AttemptOutcome;
-use distping_json::{Value, object_line};
+use distping_report::{Value, object_line};
 use std::alloc::{AllocError, Global};
 
 // For how many milliseconds it was up, or null.

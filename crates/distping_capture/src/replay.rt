@@ -6,7 +6,7 @@ ghost use Rattle.dist_stream.specs.Stream.{new_stream};
 use dist_stream::{Heard, Stream, Took};
 
 /// What stands behind the last byte of a side.
-#[derive(Clone, Copy, Debug, PartialEq, Eq)]
+#[derive(Clone, Copy)]
 pub enum ReplayEnd {
     /// The side closed the connection (FIN).
     Closed,

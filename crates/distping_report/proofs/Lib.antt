@@ -1,1 +1,4 @@
 pub mod Behind
+pub mod Members
+pub mod ObjectLine
+pub mod Shallow

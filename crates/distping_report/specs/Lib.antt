@@ -3,3 +3,5 @@ pub mod TakenWords
 pub mod ManyTexts
 pub mod Watched
 pub mod Shown
+pub mod Objects
+pub mod Layouts

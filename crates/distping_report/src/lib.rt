@@ -1,8 +1,7 @@
-//! What distping prints for people: a line for each step, each verdict, and what can be said of several nodes; and the results, as far
-//! as they are printed.
+//! What distping prints: for people a line for each step, each verdict, and what can be said of several nodes; for programs a JSON
+//! object for each result; and the results, as far as they are printed.
 //!
-//! It only writes what it is given, and reads no socket and no file. Text from another machine or the command line is escaped. Another
-//! crate makes the JSON objects.
+//! It only writes what it is given, and reads no socket and no file. Text from another machine or the command line is escaped.
 #![tactic(auto)]
 
 mod asked;
@@ -12,6 +11,7 @@ mod lines;
 mod listed;
 mod many_texts;
 mod moment;
+mod objects;
 mod page;
 mod piece;
 mod shown;
@@ -21,11 +21,12 @@ mod watched;
 pub use asked::{Dial, Listen};
 pub use found::{Found, ProbeOutcome, Registration};
 pub use left_out::LeftOut;
-pub use lines::{LineSink, Output};
+pub use lines::LineSink;
 pub use listed::Listed;
 pub use moment::{now_seconds, utc_text};
+pub use objects::{Value, object_line};
 pub use page::Page;
-pub use piece::{LinePiece, line_of, push_piece};
+pub use piece::LinePiece;
 pub use shown::MOST_SHOWN;
 pub use taken::{Caller, Taken};
-pub use watched::{Answers, Seen, verdict_word_in};
+pub use watched::{Answers, Seen};

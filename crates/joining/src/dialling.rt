@@ -79,8 +79,8 @@ fn dialled_end(
     peer: &NodeName,
     opening: Opening,
 ) -> Result<(Node, EndId), Fault> {
-    let mut node = Node::new(alloc, setup.try_clone(alloc)?);
     let peer = peer.try_clone(alloc)?;
+    let mut node = Node::new(alloc, setup.try_clone(alloc)?);
     let end_ = step(alloc, &mut node, &Event::Dial { peer, opening })?.end_;
     Ok((node, end_))
 }

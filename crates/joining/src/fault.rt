@@ -3,7 +3,7 @@
 ghost use Rattle.std.specs.Prelude.{◌≡◌};
 ghost use Rattle.joining.specs.Faults.{fault_status};
 
-use dist_program::{HostError, PortError};
+use dist_program::{HostError, PortError, TextError};
 use distribution::{Awaited, CookieError, LookupError, StepError, TurnError, Why};
 use std::alloc::AllocError;
 use std::{fmt, io};
@@ -75,24 +75,11 @@ impl Fault {
         }
     }
 
-    // The second part, unless it is made of what the fault holds. A node with another cookie sends nothing, and closes.
+    // The second part, unless it is made of what the fault holds.
     fn explanation(&self) -> &'static str {
         match self {
-            Fault::NoHost(HostError::NoName) => ": the host's name has no address here",
-            Fault::NoHost(HostError::Failed) =>
-                ": the resolver failed, as where no name server answers it",
-            Fault::NoHost(HostError::Silent) => ": the resolver gave no answer in time",
-            Fault::NoHost(HostError::NoDescriptors) =>
-                ": no descriptor was left to ask the resolver with",
+            Fault::NoHost(error) => host_text(*error),
             Fault::NotFound(LookupError::Limit) => ": the port mapper gave no whole answer in time",
-            Fault::NotUp(_, Some(Awaited::Status)) =>
-                ": the handshake did not end well: the node said nothing to our name",
-            Fault::NotUp(_, Some(Awaited::Challenge)) =>
-                ": the handshake did not end well: the node did not say its challenge",
-            Fault::NotUp(_, Some(Awaited::Ack)) =>
-                ": the handshake did not end well: the node did not acknowledge our digest, as where it has another cookie",
-            Fault::NotUp(Why::WrongFlags, _) =>
-                ": the handshake did not end well: the node lacks a flag that OTP 25 and newer require",
             Fault::NotUp(..) => ": the handshake did not end well",
             Fault::Lost(_) => ": the link is lost",
             _ => "",
@@ -117,7 +104,7 @@ impl Fault {
     }
 
     /// How far a dial got, in the order of its steps: the host's name, the port mapper, the registration, the node's port, its status,
-    /// its challenge, the acknowledgement. A node whose name fits sends its challenge. A fault of this machine counts as more than any.
+    /// its challenge, the acknowledgement. A fault of this machine counts as more than any.
     pub fn reach(&self) -> u8 {
         match self {
             Fault::NoHost(_) => 0,
@@ -125,24 +112,75 @@ impl Fault {
             Fault::NotFound(LookupError::NotThere) => 3,
             Fault::NotFound(_) => 2,
             Fault::NoNode => 4,
-            Fault::NotUp(_, Some(Awaited::Ack)) | Fault::NotUp(Why::WrongDigest, None) => FOUND,
-            Fault::NotUp(_, Some(Awaited::Challenge))
-            | Fault::NotUp(Why::WrongName | Why::WrongFlags, None) => 7,
-            Fault::NotUp(Why::StatusRefused, None) => 6,
-            Fault::NotUp(..) => 5,
+            Fault::NotUp(why, awaited) => handshake_reach(*why, *awaited),
             _ => 9,
         }
+    }
+}
+
+// Why a host has no address.
+fn host_text(error: HostError) -> &'static str {
+    match error {
+        HostError::NoName => ": the host's name has no address here",
+        HostError::Failed => ": the resolver failed, as where no name server answers it",
+        HostError::Silent => ": the resolver gave no answer in time",
+        HostError::NoDescriptors => ": no descriptor was left to ask the resolver with",
+        HostError::NoMemory => "",
+    }
+}
+
+// What was missing in a handshake. A node with another cookie sends nothing, and closes.
+fn missing_text(why: Why, awaited: Option<Awaited>) -> &'static str {
+    match awaited {
+        Some(Awaited::Status) => ": the node said nothing to our name",
+        Some(Awaited::Challenge) => ": the node did not say its challenge",
+        Some(Awaited::Ack) =>
+            ": the node did not acknowledge our digest, as where it has another cookie",
+        _ if why == Why::WrongFlags => ": the node lacks a flag that OTP 25 and newer require",
+        _ => "",
+    }
+}
+
+// How far a handshake got. A node whose name fits sends its challenge.
+fn handshake_reach(why: Why, awaited: Option<Awaited>) -> u8 {
+    match awaited {
+        Some(Awaited::Ack) => FOUND,
+        Some(Awaited::Challenge) => 7,
+        Some(_) => 5,
+        None => match why {
+            Why::WrongDigest => FOUND,
+            Why::WrongName | Why::WrongFlags => 7,
+            Why::StatusRefused => 6,
+            _ => 5,
+        },
     }
 }
 
 impl fmt::Display for Fault {
     fn fmt<W: fmt::Write>(&self, f: &mut fmt::Formatter<W>) -> fmt::Result {
         f.write_str(self.text())?;
+        f.write_str(self.explanation())?;
         match self {
             Fault::NoCookie(error) => write!(f, ": {error}"),
             Fault::NotFound(error) if *error != LookupError::Limit => write!(f, ": {error}"),
-            _ => f.write_str(self.explanation()),
+            Fault::NotUp(why, awaited) => f.write_str(missing_text(*why, *awaited)),
+            _ => Ok(()),
         }
+    }
+}
+
+impl From<TextError> for Fault {
+    fn from(error: TextError) -> Fault {
+        match error {
+            TextError::NoText => Fault::BadCommandLine,
+            TextError::NoMemory => Fault::NoMemory,
+        }
+    }
+}
+
+impl From<PortError> for Fault {
+    fn from(error: PortError) -> Fault {
+        Fault::BadMapperPort(error)
     }
 }
 

@@ -43,6 +43,18 @@ fn fault_of(desk: &MemoryDesk, end_: EndId, outcome: Outcome) -> Fault {
     Fault::NotUp(why, awaited_message(desk, end_))
 }
 
+// What a handshake came to that ended so.
+fn result_of(
+    desk: &MemoryDesk,
+    end_: EndId,
+    reached: Reached,
+) -> Result<(UpRecord, Vec<u8>), Fault> {
+    match reached {
+        Reached::Up { record, rest } => Ok((record, rest)),
+        Reached::Ended(outcome) => Err(fault_of(desk, end_, outcome)),
+    }
+}
+
 /// A step of our node that sends no challenge: only a frame makes it send one.
 pub fn step(alloc: Global, node: &mut Node, event: &Event) -> Result<Reply, Fault> {
     Ok(node.step(alloc, event, 0)?)
@@ -74,8 +86,6 @@ pub fn shake_hands<S: Stream>(
     let opened = step(alloc, &mut node, &Event::Opened { end_, link: 0 })?;
     let mut desk = MemoryDesk::new(alloc, node, end_)?;
     let first = opened.say.as_slice();
-    match drive_desk(alloc, stream, &mut desk, end_, first, challenge) {
-        Reached::Up { record, rest } => Ok((record, rest)),
-        Reached::Ended(outcome) => Err(fault_of(&desk, end_, outcome)),
-    }
+    let reached = drive_desk(alloc, stream, &mut desk, end_, first, challenge);
+    result_of(&desk, end_, reached)
 }

@@ -14,8 +14,8 @@ pub struct Keeping<'a, R> {
     pub rt: &'a R,
     /// Since when the link is kept.
     pub start: Instant,
-    /// Where the length of each packet is sent, for the thread that prints it.
-    pub lengths: &'a Sender<usize>,
+    /// Where the length of each packet is sent, for the thread that prints it, which ends once this is let go.
+    pub lengths: Sender<usize>,
     /// Whether the program should leave. Whoever sets it wakes the link, by shutting its socket for reads.
     pub ended: &'a AtomicBool,
 }
@@ -113,9 +113,9 @@ impl Link {
     }
 
     /// Keeps the link until the program should leave, or nobody prints, which ends it, or until it is lost.
-    pub fn keep<R: Wait + Clock>(&mut self, with: &Keeping<'_, R>) -> Result<(), Fault> {
+    pub fn keep<R: Wait + Clock>(&mut self, with: Keeping<'_, R>) -> Result<(), Fault> {
         for _ in 0..u64::MAX {
-            if !self.take_turn(with)? {
+            if !self.take_turn(&with)? {
                 break;
             }
         }

@@ -17,8 +17,7 @@ use command::{Invocation, JoinRequest, request_of};
 use cookie::cookie_of;
 use dialling::join_node;
 use dist_program::{
-    CONNECT_SECONDS, HostError, Resolving, TextError, draw, lookup_host, mapper_port, report,
-    words_of,
+    CONNECT_SECONDS, HostError, Resolving, draw, lookup_host, mapper_port, report, words_of,
 };
 use distribution::{Cookies, Creation, Limits, Release, Setup, Version};
 use fault::Fault;
@@ -65,12 +64,8 @@ fn main(rt: HostRuntime) -> ExitCode {
 
 // Does what the command line asks for. `own` is the same runtime, for calls that may wait.
 fn perform<R: Resolving + Copy + Send + 'static>(rt: HostRuntime, own: R) -> Result<(), Fault> {
-    let words = match words_of(&rt) {
-        Ok(words) => words,
-        Err(TextError::NoText) => return Err(Fault::BadCommandLine),
-        Err(TextError::NoMemory) => return Err(Fault::NoMemory),
-    };
-    let mapper_port = mapper_port(&rt).map_err(Fault::BadMapperPort)?;
+    let words = words_of(&rt)?;
+    let mapper_port = mapper_port(&rt)?;
     match request_of(rt.alloc(), &words, mapper_port)? {
         Invocation::Prints(text) => print(&rt, text),
         Invocation::Joins(wanted) => {
@@ -121,16 +116,13 @@ fn stay<R: Resolving + Copy + Send + 'static>(
     let start = Instant::now(&own)?;
     let ended = mark_of_end(rt, &own, link)?;
     let (lengths, printer) = start_printing(rt, own, &link.record)?;
-    let kept = link.keep(&Keeping {
+    let kept = link.keep(Keeping {
         rt: &own,
         start,
-        lengths: &lengths,
+        lengths,
         ended: &ended,
     });
-    drop(lengths);
-    let printed = printer.join(&own);
-    kept?;
-    printed?;
+    kept.and(printer.join(&own))?;
     print(&rt, "left\n")
 }
 

@@ -3,7 +3,7 @@
 use crate::fault::Fault;
 use crossbeam_channel::{Receiver, Sender, bounded};
 use dist_program::Resolving;
-use distribution::{Dflag, UpRecord};
+use distribution::{Dflag, Flags, UpRecord};
 use std::alloc::{AllocError, Global};
 use std::io::{ErrorKind, Write};
 use std::sync::Wait;
@@ -38,6 +38,17 @@ fn print_packets<R: Wait>(
     Ok(())
 }
 
+// Appends the names of these flags, and ends the line.
+fn push_flags(text: &mut String, flags: Flags) -> Result<(), AllocError> {
+    for flag in &Dflag::all() {
+        if flags.has(flag.flags()) {
+            text.push_str(" ")?;
+            text.push_str(flag.name())?;
+        }
+    }
+    text.push_str("\n")
+}
+
 // The lines for a peer that was joined: its name, and its creation if that is known; the flags that both announced.
 fn up_text(alloc: Global, record: &UpRecord) -> Result<String, AllocError> {
     let peer = std::str::from_utf8(record.peer.bytes()).unwrap_or("?");
@@ -45,13 +56,7 @@ fn up_text(alloc: Global, record: &UpRecord) -> Result<String, AllocError> {
         Some(creation) => format!(in alloc; "up {peer} creation {}\nflags", creation.0)?,
         None => format!(in alloc; "up {peer}\nflags")?,
     };
-    for flag in &Dflag::all() {
-        if record.common.has(flag.flags()) {
-            text.push_str(" ")?;
-            text.push_str(flag.name())?;
-        }
-    }
-    text.push_str("\n")?;
+    push_flags(&mut text, record.common)?;
     Ok(text)
 }
 

@@ -1,10 +1,7 @@
-//! The words of a row, bytes in hexadecimal digits, and a node as the port mapper knows it. Each word that is reported has a blank
-//! after it.
+//! The words of a row, and bytes in hexadecimal digits. Each word that is reported has a blank after it.
 
 ghost use Rattle.std.specs.Prelude.{◌<◌};
 
-use dist_epmd::NodeInfo;
-use dist_names::ByteString;
 use std::alloc::Global;
 use std::fmt::Write;
 
@@ -69,26 +66,4 @@ pub fn put_bytes(alloc: Global, printed: &mut String, bytes: &[u8]) -> Option<()
     }
     let digits = hex::encode(alloc, bytes).ok()?;
     put_word(printed, &digits)
-}
-
-/// A node at port 9001 with this name, in digits.
-pub fn node_of(alloc: Global, name: &str) -> Option<NodeInfo> {
-    Some(NodeInfo {
-        port: 9001,
-        node_type: 77,
-        protocol: 0,
-        highest: 6,
-        lowest: 5,
-        name: ByteString::from_vec(bytes_in(alloc, name)?),
-        extra: ByteString::new(alloc),
-    })
-}
-
-/// Reports a node: its five numbers, its name and its extra bytes.
-pub fn put_node(alloc: Global, printed: &mut String, node: &NodeInfo) -> Option<()> {
-    let (port, kind, protocol) = (node.port, node.node_type, node.protocol);
-    let (highest, lowest) = (node.highest, node.lowest);
-    write!(printed, "{port} {kind} {protocol} {highest} {lowest} ").ok()?;
-    put_bytes(alloc, printed, node.name.as_slice())?;
-    put_bytes(alloc, printed, node.extra.as_slice())
 }

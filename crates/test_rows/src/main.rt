@@ -1,6 +1,6 @@
-//! Plays rows of bytes: names, cookies and their digests, frames, packets, handshake messages, verdicts of a watch, captures,
-//! and the streams that their segments make; over streams in memory the registry and a client of the port mapper, and a probe
-//! that talks with a node; and scripts, with what they print. The rows are files in the folder in which the program runs.
+//! Plays rows of bytes: names, cookies and their digests, frames, packets and handshake messages; and over streams in memory the
+//! registry and a client of the port mapper, and a probe that talks with a node. The rows are files in the folder in which the
+//! program runs.
 //!
 //! What the rows expect is typed from the ERTS User's Guide (EPMD Protocol, Distribution Protocol), from captured handshakes, from
 //! other programs (digests) and from the rules of `docs/PROTOCOL.md`. Each file is played with its bytes in one piece and then byte by
@@ -8,18 +8,16 @@
 #![tactic(auto)]
 
 mod asked;
-mod captures;
-mod changes;
 mod cookies;
 mod digits;
 mod frames;
 mod handshake;
+mod mapper;
 mod names;
 mod packets;
 mod readers;
 mod refusals;
 mod rows;
-mod scripts;
 mod served;
 mod streams;
 mod talks;
@@ -29,7 +27,7 @@ use std::process::ExitCode;
 use std::{fs, io};
 
 /// The files of rows, and their subjects.
-const FILES: [(&str, Subject); 17] = [
+const FILES: [(&str, Subject); 15] = [
     ("node_names", Subject::Names),
     ("cookies", Subject::Cookies),
     ("digests", Subject::Cookies),
@@ -44,9 +42,7 @@ const FILES: [(&str, Subject); 17] = [
     ("full_registry", Subject::PortMapper),
     ("talks", Subject::Talks),
     ("other_talks", Subject::Talks),
-    ("changes", Subject::Changes),
-    ("captures", Subject::Captures),
-    ("streams", Subject::Streams),
+    ("broken_talks", Subject::Talks),
 ];
 
 /// Prints how many rows each file has, or the first row with another result.
@@ -56,20 +52,21 @@ fn main(rt: HostRuntime) -> ExitCode {
             return ExitCode::FAILURE;
         }
     }
-    match scripts::play_files(&rt) {
-        Ok(()) => ExitCode::SUCCESS,
-        Err(_) => ExitCode::FAILURE,
-    }
+    ExitCode::SUCCESS
 }
 
 fn is_file_so(rt: &HostRuntime, name: &str, subject: Subject) -> io::Result<bool> {
     let text = fs::read_to_string(rt, name)?;
-    match rows::first_wrong(rt.alloc(), subject, &text) {
-        Some((pieces, row)) => println!(rt; "{name}, {pieces}: {row}")?,
-        None => {
-            println!(rt; "{name}: {} rows", rows::count(&text))?;
-            return Ok(true);
+    let mut count = 0usize;
+    for pieces in ["whole", "bytes"] {
+        match rows::play_file(rt.alloc(), subject, &text, pieces) {
+            Ok(rows) => count = rows,
+            Err(row) => {
+                println!(rt; "{name}, {pieces}: {row}")?;
+                return Ok(false);
+            }
         }
     }
-    Ok(false)
+    println!(rt; "{name}: {count} rows")?;
+    Ok(true)
 }

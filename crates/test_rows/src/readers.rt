@@ -1,28 +1,18 @@
-//! Readers and writers that fail.
+//! A reader that fails.
 
 use std::io;
-use std::io::{Error, ErrorKind, Read, Write};
+use std::io::{Error, ErrorKind, Read};
 
 /// Reads a text by a list of calls, repeats the last forever, and counts them. A call is the most bytes that it gives; or `E`,
 /// the end; or a failure: `I` interrupted, `W` would block, `U` unexpected end, `F` other.
 #[derive(Drop)]
 pub struct Scripted<'t> {
-    text: &'t [u8],
-    calls: &'t str,
-    reads: usize,
-}
-
-impl<'t> Scripted<'t> {
-    /// A reader of this text with these calls, separated by blanks.
-    pub fn new(text: &'t [u8], calls: &'t str) -> Scripted<'t> {
-        let reads = 0;
-        Scripted { text, calls, reads }
-    }
-
+    /// What is not read yet.
+    pub text: &'t [u8],
+    /// The calls to come, joined by commas.
+    pub calls: &'t str,
     /// How many calls were made.
-    pub fn reads(&self) -> usize {
-        self.reads
-    }
+    pub reads: u64,
 }
 
 // The most bytes that a call gives, or how it fails.
@@ -40,10 +30,8 @@ fn most_of(call: &str) -> Result<usize, ErrorKind> {
 impl Read for Scripted<'_> {
     fn read(&mut self, buf: &mut [u8]) -> io::Result<usize> {
         self.reads = self.reads.saturating_add(1);
-        let (call, rest) = self
-            .calls
-            .split_once(' ')
-            .unwrap_or((self.calls, self.calls));
+        let calls = self.calls;
+        let (call, rest) = calls.split_once(',').unwrap_or((calls, calls));
         self.calls = rest;
         match most_of(call) {
             Ok(most) => {
@@ -54,25 +42,5 @@ impl Read for Scripted<'_> {
             }
             Err(kind) => Err(Error::from(kind)),
         }
-    }
-}
-
-/// Keeps what is written. If `is_unflushed`, each flush fails.
-#[derive(Drop)]
-pub struct Sink {
-    pub taken: Vec<u8>,
-    pub is_unflushed: bool,
-}
-
-impl Write for Sink {
-    fn write(&mut self, buf: &[u8]) -> io::Result<usize> {
-        self.taken.write(buf)
-    }
-
-    fn flush(&mut self) -> io::Result<()> {
-        if self.is_unflushed {
-            return Err(Error::from(ErrorKind::Other));
-        }
-        Ok(())
     }
 }

@@ -1,30 +1,34 @@
-//! The stream of a row: `WHO BYTES PIECES LIMIT FAULT NUMBER`; the last two or four words may be missing.
-//!
-//! PIECES is `whole`, `bytes` for one byte each way, `deaf` if nothing arrives, `mute` if nothing can be written, or how many bytes a
-//! write takes. LIMIT is a number of turns. FAULT is `read` or `write`: the one with this NUMBER fails.
+//! Streams over memory. Their bytes come in PIECES: `whole`, `bytes` for one byte each way, `deaf` if nothing arrives, `mute` if
+//! nothing can be written, or how many bytes a write takes. A FAULT is `read` or `write`: the one with this NUMBER fails.
 
-use crate::digits::{bytes_in, word};
+use crate::digits::bytes_in;
 use dist_stream::FaultStream;
 use std::alloc::Global;
 
-/// How many turns a row allows.
-pub fn limit_of(case: &str) -> usize {
-    word(case, 3).parse::<usize>().unwrap_or(100_000)
+/// The pieces that a row names, or else those of the run.
+pub fn pieces_of<'p>(said: &'p str, pieces: &'p str) -> &'p str {
+    if said.is_empty() { pieces } else { said }
 }
 
-/// The stream of a row, with these pieces if the row names none.
-pub fn stream_of(alloc: Global, case: &str, pieces: &str) -> Option<FaultStream> {
-    let said = word(case, 2);
-    let pieces = if said.is_empty() { pieces } else { said };
-    let mut stream = FaultStream::new(alloc, bytes_in(alloc, word(case, 1))?);
+/// A stream that gives these bytes. Without a fault in the row none occurs.
+pub fn stream_of(
+    alloc: Global,
+    bytes: &str,
+    pieces: &str,
+    fault: &str,
+    number: &str,
+) -> Option<FaultStream> {
+    let mut stream = FaultStream::new(alloc, bytes_in(alloc, bytes)?);
     set_pieces(&mut stream, pieces)?;
-    let number = word(case, 5).parse::<u64>().unwrap_or(0);
-    set_fault(&mut stream, word(case, 4), number);
+    match fault {
+        "read" => stream.fail_read = number.parse::<u64>().ok()?,
+        "write" => stream.fail_write = number.parse::<u64>().ok()?,
+        _ => {}
+    }
     Some(stream)
 }
 
-/// Lets the bytes of a stream arrive in these pieces.
-pub fn set_pieces(stream: &mut FaultStream, pieces: &str) -> Option<()> {
+fn set_pieces(stream: &mut FaultStream, pieces: &str) -> Option<()> {
     let all = usize::MAX;
     let (heard, taken) = match pieces {
         "whole" => (all, all),
@@ -35,13 +39,4 @@ pub fn set_pieces(stream: &mut FaultStream, pieces: &str) -> Option<()> {
     };
     stream.read_sizes.push(heard).ok()?;
     stream.write_sizes.push(taken).ok()
-}
-
-/// Lets the read or the write with this number fail, or none.
-pub fn set_fault(stream: &mut FaultStream, fault: &str, number: u64) {
-    match fault {
-        "read" => stream.fail_read = number,
-        "write" => stream.fail_write = number,
-        _ => {}
-    }
 }

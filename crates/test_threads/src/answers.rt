@@ -1,14 +1,12 @@
-//! What a node answers before a step, compared with the step itself; a node whose steps are used up; one that forgets why ends were
-//! closed; and the opening for a peer's version.
+//! What a node answers before a step, compared with the step itself; a node whose steps are used up; and the opening for a peer's
+//! version.
 
-use crate::rows::{TableKind, first_wrong};
-use crate::setting::{CHALLENGE, do_word, event, node_after, setup_of};
-use dist_core::{Node, Opening, Reply, StepError};
+use crate::setting::{CHALLENGE, event, node_after, setup_of, word};
+use dist_core::{Event, Node, Opening, Reply, Setup, StepError, Why};
 use dist_drive::opening_for;
 use dist_epmd::PortInfo;
 use dist_peers::EndId;
 use std::alloc::Global;
-use std::fmt::Write;
 use std::test::*;
 
 // accepted_handshake; wrong_digest, at an end that comes up and at one with a challenge; dialled_handshake.
@@ -27,65 +25,65 @@ fn is_same(one: &Result<Reply, StepError>, other: &Result<Reply, StepError>) -> 
     }
 }
 
-// Whether the answer before a step equals the step, as does the step of a node of the same setup with a copy of the event.
-fn is_foretold(alloc: Global, node: &mut Node, twin: &mut Node, word: &str) -> Option<bool> {
-    let event = event(alloc, word)?;
-    let copy = event.try_clone(alloc).ok()?;
-    let answer = node.answer(alloc, &event, CHALLENGE);
-    let reply = node.step(alloc, &event, CHALLENGE);
-    let other = twin.step(alloc, &copy, CHALLENGE);
-    Some(copy == event && is_same(&answer, &reply) && is_same(&other, &reply))
+// Whether the answer before a step equals the step.
+fn is_foretold(alloc: Global, node: &mut Node, event: &Event) -> bool {
+    let answer = node.answer(alloc, event, CHALLENGE);
+    let reply = node.step(alloc, event, CHALLENGE);
+    is_same(&answer, &reply)
 }
 
-// Whether that is so of each word of a script.
-fn are_foretold(alloc: Global, node: &mut Node, twin: &mut Node, script: &str) -> Option<bool> {
+// Whether that is so of each word of a script, and a copy of the word's event equals it.
+fn are_foretold(alloc: Global, node: &mut Node, script: &str) -> Option<bool> {
     for word in script.split(' ').skip(1) {
-        if !is_foretold(alloc, node, twin, word)? {
+        let event = event(alloc, word)?;
+        let copy = event.try_clone(alloc).ok()?;
+        if !copy.is_same(&event) || !is_foretold(alloc, node, &event) {
             return Some(false);
         }
     }
     Some(true)
 }
 
-// The same for two new nodes, of which the second is made from a copy of the setup.
+// The same of a new node.
 fn is_right(alloc: Global, script: &str) -> Option<bool> {
-    let setup = setup_of(alloc, script.starts_with('a'))?;
-    let mut twin = Node::new(alloc, setup.try_clone(alloc).ok()?);
-    let mut node = Node::new(alloc, setup);
-    are_foretold(alloc, &mut node, &mut twin, script)
+    let mut node = node_after(alloc, word(script, 0))?;
+    are_foretold(alloc, &mut node, script)
+}
+
+fn is_same_setup(one: &Setup, other: &Setup) -> bool {
+    one.name.is_same(&other.name)
+        && one.cookies.is_same(&other.cookies)
+        && one.version == other.version
+        && one.flags == other.flags
+        && one.required == other.required
+        && one.creation == other.creation
+        && one.allow.is_none()
+        && other.allow.is_none()
+        && one.limits == other.limits
+}
+
+// Whether a copy of the setup of node b, which lets all nodes connect, equals it.
+fn is_copied(alloc: Global) -> Option<bool> {
+    let setup = setup_of(alloc, "b")?;
+    let copy = setup.try_clone(alloc).ok()?;
+    Some(is_same_setup(&copy, &setup))
 }
 
 #[test]
 fn answer_before_step(rt: HostRuntime) {
     for script in SCRIPTS {
-        assert_eq!(rt; is_right(rt.alloc(), script), Some(true), "{script}");
+        assert!(rt; is_right(rt.alloc(), script) == Some(true), "{script}");
     }
+    assert!(rt; is_copied(rt.alloc()) == Some(true));
 }
 
-// How many of so many ticks a node accepts.
-fn count_accepted(alloc: Global, node: &mut Node, ticks: u32) -> Option<u32> {
-    let tick = event(alloc, "tick")?;
-    let mut taken = 0u32;
+// How many of so many ticks a node accepts at end 0.
+fn count_accepted(node: &mut Node, ticks: u32) -> u32 {
+    let mut accepted = 0u32;
     for _ in 0..ticks {
-        taken = taken.saturating_add(node.step(alloc, &tick, 0).is_ok() as u32);
+        accepted = accepted.saturating_add(node.tick(EndId(0)).is_ok() as u32);
     }
-    Some(taken)
-}
-
-// A node takes this many ticks: how many it accepts, and how it answers one more, the loss of its end, and a connection.
-fn spend_steps(alloc: Global, node: &mut Node, ticks: u32) -> Option<String> {
-    let taken = count_accepted(alloc, node, ticks)?;
-    let mut seen = format!(in alloc; "{taken}").ok()?;
-    put_answer(alloc, &mut seen, node, "tick")?;
-    put_answer(alloc, &mut seen, node, "ended")?;
-    put_answer(alloc, &mut seen, node, "incoming")?;
-    Some(seen)
-}
-
-// Adds the answer of a node to the event for a word.
-fn put_answer(alloc: Global, seen: &mut String, node: &mut Node, word: &str) -> Option<()> {
-    let answer = do_word(alloc, node, word)?;
-    write!(seen, " {answer:?}").ok()
+    accepted
 }
 
 // Node b takes three steps before.
@@ -94,36 +92,10 @@ fn steps_spent(rt: HostRuntime) {
     let Some(mut node) = node_after(rt.alloc(), "b incoming name reply") else {
         panic!(rt; "no memory");
     };
-    let seen = spend_steps(rt.alloc(), &mut node, 1_048_573);
-    let wanted = "1048573 Err(Spent) Ok(()) Err(Spent)";
-    assert_eq!(rt; seen.as_deref(), Some(wanted));
-}
-
-// A node and its words; how ends 0 and 1 then stand, and the oldest pending end. A number forgets the causes of the closed ends below
-// it; they then count as `Ended`.
-const FORGOTTEN: &str = "\
-b incoming incoming replaced => Gone(Replaced) Pending Some(EndId(1))
-b incoming incoming replaced 0 => Gone(Replaced) Pending Some(EndId(1))
-b incoming incoming replaced 1 => Gone(Ended) Pending Some(EndId(1))
-b incoming incoming replaced 2 => Gone(Ended) Pending Some(EndId(1))
-b incoming 9 => Pending NoSuchEnd Some(EndId(0))
-b incoming name reply incoming => Up Pending Some(EndId(1))
-b incoming name reply 9 => Up NoSuchEnd None";
-
-/// How ends 0 and 1 of a node stand after its words, and its oldest pending end.
-pub fn ends_after(alloc: Global, text: &str) -> Option<String> {
-    let mut node = node_after(alloc, text)?;
-    let oldest = node.oldest_pending();
-    let (first, second) = (node.still(EndId(0)), node.still(EndId(1)));
-    format!(in alloc; "{first:?} {second:?} {oldest:?}").ok()
-}
-
-#[test]
-fn causes_are_forgotten(rt: HostRuntime) {
-    assert_eq!(rt;
-        first_wrong(&rt, rt.alloc(), TableKind::Ends, FORGOTTEN),
-        None
-    );
+    assert_eq!(rt; count_accepted(&mut node, 1_048_573), 1_048_573);
+    assert!(rt; node.tick(EndId(0)) == Err(StepError::Spent));
+    assert!(rt; node.lose(EndId(0), Why::Ended) == Ok(()));
+    assert!(rt; node.accept() == Err(StepError::Spent));
 }
 
 // A peer whose highest version is 5 is dialled as of old.

@@ -1,7 +1,6 @@
 //! Histories of two nodes under locks, and the result of their audit, unchanged and with one change.
 
-use crate::rows::{TableKind, first_wrong};
-use crate::seats::{LETTERS, SeatedNode, play, sides_of};
+use crate::seats::{SeatedNode, sides_after};
 use crate::setting::{number, word};
 use dist_audit::audit;
 use dist_core::Event;
@@ -12,36 +11,28 @@ use std::alloc::Global;
 use std::sync::Wait;
 use std::test::*;
 
-// One handshake: which histories are audited, and the node of each step, with its event. Tickets of a: 0 dial, 1 opened, 4, 5, 7 frames.
-// Of b: 2 incoming, 3, 6 frames.
+// One handshake: the node of each step, and its event. Tickets of a: 0 dial, 1 opened, 4, 5, 7 frames. Of b: 2 incoming, 3, 6 frames.
 const HANDSHAKE: &str =
-    "ab: a dial, a opened, b incoming, b name, a ok, a challenge, b reply, a acknowledgement";
-
-// No history; one node alone with a connection that no node dialled; a dial; and a second one after its end was lost.
-const SMALL: &str = "\
-none: b incoming => not agreed
-b: b incoming => Unpaired
-ab: a dial => not agreed
-ab: a dial, a ended, a dial => not agreed";
+    "a dial, a opened, b incoming, b name, a ok, a challenge, b reply, a acknowledgement";
 
 fn put_closed(all: &mut Vec<Closed>, side: SeatedNode) -> Option<()> {
     let closed = close(side.node.into_book(), side.seats).ok()?;
     all.push(closed).ok()
 }
 
-// The closed nodes that a text names, after its steps. `None`: memory was refused, or the text is wrong.
-fn histories(rt: &impl Wait, alloc: Global, text: &str) -> Option<Vec<Closed>> {
-    let (letters, steps) = text.split_once(": ")?;
-    let mut sides = sides_of(alloc)?;
-    if play(rt, alloc, &mut sides, steps)? < steps.split(", ").count() {
-        return None;
+fn put_all_closed(all: &mut Vec<Closed>, sides: Vec<SeatedNode>) -> Option<()> {
+    for side in sides {
+        put_closed(all, side)?;
     }
+    Some(())
+}
+
+// Nodes a and b, closed after these steps. `None`: memory was refused, or a step.
+fn histories(rt: &impl Wait, alloc: Global, steps: &str) -> Option<Vec<Closed>> {
+    let mut sides = sides_after(rt, alloc, steps)?;
+    let _ = sides.pop();
     let mut all = Vec::new(alloc);
-    for (side, letter) in sides.into_iter().zip(LETTERS.chars()) {
-        if letters.contains(letter) {
-            put_closed(&mut all, side)?;
-        }
-    }
+    put_all_closed(&mut all, sides)?;
     Some(all)
 }
 
@@ -103,20 +94,12 @@ fn alter_row(alloc: Global, all: &mut [Closed], row: &str) -> Option<()> {
     put_altered(alloc, line, word(row, 2))
 }
 
-// Does what each part says, and returns how many go right: up to the first for which the audit has another result.
-fn right_parts(alloc: Global, all: &mut [Closed]) -> usize {
-    let mut right = 0usize;
-    for part in ALTERED.split(", ") {
-        let is_so = match part.split_once("? ") {
-            Some((_, wanted)) => answer(alloc, all) == wanted,
-            None => alter_row(alloc, all, part).is_some(),
-        };
-        if !is_so {
-            return right;
-        }
-        right = right.saturating_add(1);
+// Whether the audit has the result that a part names, `? RESULT`; or else changes a line.
+fn is_so(alloc: Global, all: &mut [Closed], part: &str) -> bool {
+    match part.strip_prefix("? ") {
+        Some(wanted) => answer(alloc, all) == wanted,
+        None => alter_row(alloc, all, part).is_some(),
     }
-    right
 }
 
 // A ticket of the other node; two tickets exchanged; the link of the connection that came, a byte of a frame's body, and a byte of what
@@ -133,21 +116,30 @@ fn audited_handshake(rt: HostRuntime) {
     let Some(mut all) = histories(&rt, rt.alloc(), HANDSHAKE) else {
         panic!(rt; "no history");
     };
-    assert_eq!(rt;
-        right_parts(rt.alloc(), &mut all),
-        ALTERED.split(", ").count()
-    );
+    for part in ALTERED.split(", ") {
+        assert!(rt; is_so(rt.alloc(), &mut all, part), "{part}");
+    }
 }
 
-/// The result of the audit of the closed nodes that a text names, after its steps.
-pub fn audit_answer(rt: &impl Wait, alloc: Global, text: &str) -> Option<String> {
-    let all = histories(rt, alloc, text)?;
-    answer(alloc, &all).to_string(alloc).ok()
+// The result of the audit of these histories, or of node b's alone.
+fn audit_answer(
+    rt: &impl Wait,
+    alloc: Global,
+    steps: &str,
+    is_b_alone: bool,
+) -> Option<&'static str> {
+    let all = histories(rt, alloc, steps)?;
+    Some(answer(alloc, all.get(usize::from(is_b_alone)..)?))
 }
 
+// No node; a connection that no node dialled; two dials of a node.
 #[test]
 fn small_audits(rt: HostRuntime) {
-    assert_eq!(rt; first_wrong(&rt, rt.alloc(), TableKind::Audit, SMALL), None);
+    assert_eq!(rt; answer(rt.alloc(), &[]), "not agreed");
+    let alone = audit_answer(&rt, rt.alloc(), "b incoming", true);
+    assert_eq!(rt; alone, Some("Unpaired"));
+    let dialled = audit_answer(&rt, rt.alloc(), "a dial, a ended, a dial", false);
+    assert_eq!(rt; dialled, Some("not agreed"));
 }
 
 // Whether an audit finds that both agree, or runs out of memory and then finds it on the next try.

@@ -1,11 +1,9 @@
 //! Calls that drive an end: their stream fails, ends, is cut or is quiet, their turns run out, or memory does.
 
-use crate::rows::{TableKind, first_wrong};
 use crate::setting::{CHALLENGE, Rising, bytes_of, node_after, number, word};
-use dist_drive::{Desk, FaultStream, MemoryDesk, Outcome, Reached, drive, handshake};
+use dist_drive::{Desk, FaultStream, MemoryDesk, Outcome, drive};
 use dist_peers::EndId;
 use std::alloc::Global;
-use std::fmt::Write;
 use std::test::*;
 
 // Adds the sizes between commas; `-` is none.
@@ -18,24 +16,27 @@ fn put_sizes(sizes: &mut Vec<usize>, text: &str, at: u64) -> Option<()> {
     Some(())
 }
 
+// Lets the reads and writes of a stream go as a row says.
+fn set_faults(stream: &mut FaultStream, row: &str, at: u64) -> Option<()> {
+    stream.fail_read = number(word(row, 5), 0);
+    stream.fail_write = number(word(row, 6), 0);
+    put_sizes(&mut stream.read_sizes, word(row, 3), at)?;
+    put_sizes(&mut stream.write_sizes, word(row, 4), at)
+}
+
 fn stream_of(alloc: Global, row: &str, at: u64) -> Option<FaultStream> {
     let mut input = bytes_of(alloc, word(row, 1))?;
     input.truncate(number(word(row, 2), at) as usize);
     let mut stream = FaultStream::new(alloc, input);
-    stream.fail_read = number(word(row, 5), 0);
-    stream.fail_write = number(word(row, 6), 0);
-    put_sizes(&mut stream.read_sizes, word(row, 3), at)?;
-    put_sizes(&mut stream.write_sizes, word(row, 4), at)?;
+    set_faults(&mut stream, row, at)?;
     Some(stream)
 }
 
-/// The desk of the first end: of node a, which `dialled` node b; or of node b, whose end is `gone` before the call, `unknown` to the
-/// node, or accepted.
-pub fn desk_of(alloc: Global, side: &str) -> Option<MemoryDesk> {
+// The desk of the first end: of node a, which `dialled` node b; or of node b, whose end is `gone` before the call, or accepted.
+fn desk_of(alloc: Global, side: &str) -> Option<MemoryDesk> {
     let text = match side {
         "dialled" => "a dial opened",
         "gone" => "b incoming replaced",
-        "unknown" => "b",
         _ => "b incoming",
     };
     MemoryDesk::new(alloc, node_after(alloc, text)?, EndId(0)).ok()
@@ -43,13 +44,13 @@ pub fn desk_of(alloc: Global, side: &str) -> Option<MemoryDesk> {
 
 // Reports how a call of a row ended, which loss was reported, and how the end stands; the numbers of frames given to the node, of bytes
 // written, of the node's entries; and of reads and writes, 0 where the row has several calls.
-fn put_seen(
-    printed: &mut String,
+fn report_of(
+    alloc: Global,
     row: &str,
     outcome: Outcome,
     desk: &MemoryDesk,
     stream: &FaultStream,
-) -> Option<()> {
+) -> Option<String> {
     let steps = desk.list();
     let loss = match steps.last() {
         Some(step) => step.0.lost_why(),
@@ -63,50 +64,33 @@ fn put_seen(
     } else {
         0
     };
-    write!(
-        printed,
-        "{outcome:?} {loss:?} {still:?} {frames} {written} {entries}; {calls}"
-    )
-    .ok()
+    format!(in alloc; "{outcome:?} {loss:?} {still:?} {frames} {written} {entries}; {calls}").ok()
 }
 
-// What is reported of the call of a row, played with this number. A dialled end has sent its name, and its challenge is the second
-// number drawn; that of an accepted end is the first.
-fn play_row(alloc: Global, row: &str, at: u64) -> Option<String> {
+// Drives the end of a desk as a row says. A dialled end has sent its name, and its challenge is the second number drawn; that of an
+// accepted end is the first.
+fn drive_row(
+    alloc: Global,
+    row: &str,
+    stream: &mut FaultStream,
+    desk: &mut MemoryDesk,
+) -> Option<Outcome> {
     let (first, drawn) = match word(row, 0) {
         "dialled" => ("name", CHALLENGE - 1),
         _ => ("-", CHALLENGE),
     };
     let first = bytes_of(alloc, first)?;
-    let mut stream = stream_of(alloc, row, at)?;
-    let mut desk = desk_of(alloc, word(row, 0))?;
     let mut draws = Rising(drawn);
     let limit = number(word(row, 7), 0) as usize;
-    let outcome = drive(
-        alloc,
-        &mut stream,
-        &mut desk,
-        &mut draws,
-        EndId(0),
-        &first,
-        limit,
-    );
-    let mut printed = String::new(alloc);
-    put_seen(&mut printed, row, outcome, &desk, &stream)?;
-    Some(printed)
+    Some(drive(alloc, stream, desk, &mut draws, EndId(0), &first, limit))
 }
 
-/// What is reported of the calls of a row, one for each of its numbers, where all report the same.
-pub fn play_calls(alloc: Global, row: &str) -> Option<String> {
-    let mut seen = String::new(alloc);
-    for at in number(word(row, 8), 0)..number(word(row, 9), 0) {
-        let next = play_row(alloc, row, at)?;
-        if !seen.is_empty() && seen != next {
-            return None;
-        }
-        seen = next;
-    }
-    Some(seen)
+// What is reported of the call of a row, played with this number.
+fn play_row(alloc: Global, row: &str, at: u64) -> Option<String> {
+    let mut stream = stream_of(alloc, row, at)?;
+    let mut desk = desk_of(alloc, word(row, 0))?;
+    let outcome = drive_row(alloc, row, &mut stream, &mut desk)?;
+    report_of(alloc, row, outcome, &desk, &stream)
 }
 
 // The side; the frames that it receives, and how many bytes of them; the most bytes of each read and of each write in turn, 0 for a
@@ -114,7 +98,7 @@ pub fn play_calls(alloc: Global, row: &str) -> Option<String> {
 // reported.
 //
 // Packets after a handshake are not given to the node; what the last turn read still is. The loss of the end that is gone was reported
-// to its node before the call. The loss of the unknown end can't be reported: its first frame is refused.
+// to its node before the call.
 const ROWS: &str = "\
 # drive_faults
 accepted name+reply 999 28,23 - 0 0 100 0 1 => Closed(Ended) Some(Ended) Gone(Ended) 2 56 0; 5
@@ -137,9 +121,8 @@ accepted name+reply+packets 999 0,0,0,0 - 0 0 40 0 1 => Limit None Pending 0 0 0
 accepted name+reply+packets 999 28,0,0,0 - 0 0 3 0 1 => Limit None Pending 1 37 1; 3
 accepted name+reply+packets 999 28,0,0,0 - 0 0 1 0 1 => Limit None Pending 1 0 1; 1
 accepted name+reply+packets 999 28,23,13,0 - 0 0 6 0 1 => Limit None Up 2 56 1; 6
-# drive_of_a_gone_end, and one that is unknown
+# drive_of_a_gone_end
 gone name+reply+packets 999 - - 0 0 100 0 1 => Closed(Replaced) None Gone(Replaced) 0 0 0; 0
-unknown name+reply+packets 999 - - 0 0 100 0 1 => Closed(GaveUp) None NoSuchEnd 0 0 0; 1
 # a peer that knows version 5 alone
 accepted old_name+reply 999 20,23 - 0 0 100 0 1 => Closed(Ended) Some(Ended) Gone(Ended) 2 48 0; 5
 accepted old_name+reply 999 20,23,0,0 - 0 0 6 0 1 => Limit None Up 2 48 1; 6
@@ -158,45 +141,13 @@ dialled ok+challenge+acknowledgement+packets 999 at,100 - 0 0 100 1 70 => Closed
 
 #[test]
 fn driven_calls_go_as_their_rows_say(rt: HostRuntime) {
-    assert_eq!(rt; first_wrong(&rt, rt.alloc(), TableKind::Drive, ROWS), None);
-}
-
-// A stream whose first read gives this many bytes: frames, and packets behind them.
-fn stream_with_packets(alloc: Global, read: &str) -> Option<FaultStream> {
-    let mut stream = FaultStream::new(alloc, bytes_of(alloc, "name+reply+packets")?);
-    put_sizes(&mut stream.read_sizes, read, 0)?;
-    Some(stream)
-}
-
-/// What a handshake leaves unread of a stream, in hexadecimal digits, if its first read gives this many bytes.
-pub fn rest_of(alloc: Global, read: &str) -> Option<String> {
-    let mut stream = stream_with_packets(alloc, read)?;
-    let mut desk = desk_of(alloc, "accepted")?;
-    let mut draws = Rising(CHALLENGE);
-    let reached = handshake(alloc, &mut stream, &mut desk, &mut draws, EndId(0), b"", 9);
-    digits_left(alloc, &reached)
-}
-
-fn digits_left(alloc: Global, reached: &Reached) -> Option<String> {
-    match reached {
-        Reached::Up { record: _, rest } => {
-            let digits = hex::encode(alloc, rest).ok()?;
-            format!(in alloc; "0x{digits}").ok()
+    for row in ROWS.lines() {
+        let (case, wanted) = row.split_once(" => ").unwrap_or((row, ""));
+        for at in number(word(case, 8), 0)..number(word(case, 9), 0) {
+            let seen = play_row(rt.alloc(), case, at);
+            assert_eq!(rt; seen.as_deref(), Some(wanted), "{row}");
         }
-        Reached::Ended(_) => None,
     }
-}
-
-// The frames have 51 bytes: how many the first read gives, and what it leaves after the frames.
-const RESTS: &str = "\
-51 => 0x
-52 => 0x00
-59 => 0x0000000000000005
-64 => 0x00000000000000050102030405";
-
-#[test]
-fn a_handshake_leaves_what_came_behind_it(rt: HostRuntime) {
-    assert_eq!(rt; first_wrong(&rt, rt.alloc(), TableKind::Rest, RESTS), None);
 }
 
 // A call that runs out of memory reports it like any fault, and the end is lost, which takes no memory. A request is refused in the

@@ -1,6 +1,6 @@
-//! Tests, from outside, of driven ends, of the queue of dial orders, of nodes and registries under locks, of the audit's results
-//! for histories, and of several nodes if memory is refused or a setup changes; of runs on sockets of this host, each audited; of a
-//! connection that nobody accepts; and of the port mapper's calls and clients if a peer is quiet, resets or half-closes, or memory is
+//! Tests, from outside, of steps that are foretold or used up, of driven ends, of the queue of dial orders, of nodes and registries under
+//! locks, and of the audit's results for histories; of worlds seen from both sides; of runs on sockets of this host, each audited; of a
+//! connection that nobody accepts; of the port mapper's calls if a peer is quiet, resets or half-closes; and of what is left if memory is
 //! refused. Every listener is at a port that the system chooses. Scripts of one node or several, bytes and names, and what is read and
 //! written of them, are in the rows of `test_rows`. A program joins a node, and leaves it, in `bin/check_joining`.
 //!
@@ -14,15 +14,9 @@ mod audits;
 #[cfg(test)]
 mod backlog;
 #[cfg(test)]
-mod clients;
-#[cfg(test)]
-mod desks;
-#[cfg(test)]
 mod drives;
 #[cfg(test)]
 mod memory;
-#[cfg(test)]
-mod rows;
 #[cfg(test)]
 mod runs;
 #[cfg(test)]

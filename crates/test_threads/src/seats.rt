@@ -1,8 +1,7 @@
 //! Nodes under locks, each with two seats that give it events in turn, and the queue of dial orders.
 
-use crate::setting::{CHALLENGE, event, setup_of, word};
-use dist_core::StepError;
-use dist_locked::{Closed, DialOrder, LockedNode, Orders, Seat, Tickets, close, dispatch};
+use crate::setting::{CHALLENGE, LETTERS, event, setup_of, word};
+use dist_locked::{Closed, DialOrder, LockedNode, Orders, Seat, Tickets, close};
 use std::alloc::Global;
 use std::sync::{Arc, Wait};
 use std::test::*;
@@ -18,42 +17,64 @@ pub struct SeatedNode {
     pub seats: Vec<Seat>,
 }
 
-/// The nodes by their letters, in the order of `sides_of`.
-pub const LETTERS: &str = "acb";
-
-fn seated_node(alloc: Global, tickets: &Arc<Tickets, Global>, is_a: bool) -> Option<SeatedNode> {
+fn seated_node(alloc: Global, tickets: &Arc<Tickets, Global>, letter: &str) -> Option<SeatedNode> {
     let tickets = Arc::try_clone(tickets).ok()?;
-    let (node, seats) = LockedNode::new(alloc, setup_of(alloc, is_a)?, tickets, 2).ok()?;
+    let (node, seats) = LockedNode::new(alloc, setup_of(alloc, letter)?, tickets, 2).ok()?;
     Some(SeatedNode { node, seats })
 }
 
-/// Nodes a, c and b, which draw their tickets from one counter. Node c is set up as b is.
-pub fn sides_of(alloc: Global) -> Option<Vec<SeatedNode>> {
+// Nodes a, b and c, which draw their tickets from one counter.
+fn sides_of(alloc: Global) -> Option<Vec<SeatedNode>> {
     let tickets = Arc::new(alloc, Tickets::new()).ok()?;
     let mut sides = Vec::new(alloc);
-    for letter in LETTERS.chars() {
-        sides
-            .push(seated_node(alloc, &tickets, letter == 'a')?)
-            .ok()?;
+    for letter in ["a", "b", "c"] {
+        let side = seated_node(alloc, &tickets, letter)?;
+        sides.push(side).ok()?;
     }
     Some(sides)
 }
 
-/// Makes the steps of a text, `NODE WORD, NODE WORD, ..`, by the first and the second seats in turn, until one runs out of memory.
-/// Returns how many were made; `None` if one was refused for another reason, or memory was refused before a step.
-pub fn play(rt: &impl Wait, alloc: Global, sides: &mut [SeatedNode], text: &str) -> Option<usize> {
-    let mut made = 0usize;
-    for step in text.split_terminator(", ") {
-        let event = event(alloc, word(step, 1))?;
+// Makes the steps of a text, `NODE WORD, NODE WORD, ..`, by the first and the second seats in turn, and counts them. `None`: one was
+// refused.
+fn play(
+    rt: &impl Wait,
+    alloc: Global,
+    sides: &mut [SeatedNode],
+    text: &str,
+    made: &mut usize,
+) -> Option<()> {
+    for step in text.split(", ") {
         let side = sides.get_mut(LETTERS.find(word(step, 0))?)?;
-        let seat = side.seats.get_mut(made % 2)?;
-        match side.node.step(rt, seat, &event, CHALLENGE).err() {
-            None => made = made.saturating_add(1),
-            Some(StepError::NoMemory) => return Some(made),
-            Some(_) => return None,
+        let seat = side.seats.get_mut(*made % 2)?;
+        let event = event(alloc, word(step, 1))?;
+        if side.node.step(rt, seat, &event, CHALLENGE).is_err() {
+            return None;
         }
+        *made = made.saturating_add(1);
     }
-    Some(made)
+    Some(())
+}
+
+/// Nodes a, b and c after these steps.
+pub fn sides_after(rt: &impl Wait, alloc: Global, steps: &str) -> Option<Vec<SeatedNode>> {
+    let mut sides = sides_of(alloc)?;
+    play(rt, alloc, &mut sides, steps, &mut 0)?;
+    Some(sides)
+}
+
+fn second(mut sides: Vec<SeatedNode>) -> Option<SeatedNode> {
+    let _ = sides.pop();
+    sides.pop()
+}
+
+/// Node b.
+pub fn node_b(alloc: Global) -> Option<SeatedNode> {
+    second(sides_of(alloc)?)
+}
+
+/// Node b after these steps.
+pub fn node_b_after(rt: &impl Wait, alloc: Global, steps: &str) -> Option<SeatedNode> {
+    second(sides_after(rt, alloc, steps)?)
 }
 
 /// The result of `close`: how many lines the history has, how many entries the node has, and how many of its ends are up, and open; or
@@ -85,22 +106,24 @@ const STEPS: &str = "b incoming, b name, b reply, b incoming";
 
 const CLOSINGS: &str = "0 0 0 0, 1 0 0 1, 2 1 0 1, 3 1 1 1, 4 1 1 2";
 
-// Whether the second seat has the greeting, and `close` has the right result, for the steps that were made. `None`: memory was refused
-// before a step.
-fn is_closed(rt: &impl Wait, alloc: Global) -> Option<bool> {
+// Whether the second seat has the greeting, and `close` has the right result, for the steps that were made. How many these are at least,
+// the caller says. `None`: memory was refused to the test itself.
+fn is_closed(rt: &impl Wait, alloc: Global, least: usize) -> Option<bool> {
     let mut sides = sides_of(alloc)?;
-    let made = play(rt, alloc, &mut sides, STEPS)?;
-    let side = sides.pop()?;
+    let mut made = 0usize;
+    let _ = play(rt, alloc, &mut sides, STEPS, &mut made);
+    let side = second(sides)?;
     let is_kept = is_greeting(&side.seats)?;
     let closing = closing(alloc, side)?;
-    Some(is_kept && CLOSINGS.split(", ").nth(made) == Some(closing.as_str()))
+    let is_right = CLOSINGS.split(", ").nth(made) == Some(closing.as_str());
+    Some(is_kept && is_right && made >= least)
 }
 
 // Each request for memory of a node under a lock is refused in turn, as `rt try --test --fail-alloc N` does for N = 1, 2, ..: a step
 // that runs out of memory leaves the node, its history and the seats unchanged.
 #[test]
 fn memory_refused_in_a_step(rt: HostRuntime) {
-    assert!(rt; is_closed(&rt, rt.alloc()) != Some(false));
+    assert!(rt; is_closed(&rt, rt.alloc(), 0) != Some(false));
 }
 
 // The second seat of node c makes three steps, after two of node b.
@@ -109,9 +132,8 @@ const STEPS_OF_ANOTHER: &str = "\
 
 // The result of `close` of node b without its second seat, or with that of node c in its place.
 fn closing_without(rt: &impl Wait, alloc: Global, is_replaced: bool) -> Option<String> {
-    let mut sides = sides_of(alloc)?;
-    play(rt, alloc, &mut sides, STEPS_OF_ANOTHER)?;
-    let (mut side, mut other) = (sides.pop()?, sides.pop()?);
+    let mut sides = sides_after(rt, alloc, STEPS_OF_ANOTHER)?;
+    let (mut other, mut side) = (sides.pop()?, sides.pop()?);
     let _ = side.seats.pop();
     if is_replaced {
         side.seats.push(other.seats.pop()?).ok()?;
@@ -119,53 +141,33 @@ fn closing_without(rt: &impl Wait, alloc: Global, is_replaced: bool) -> Option<S
     closing(alloc, side)
 }
 
-// The number of an order that was taken; 99 for none.
-fn order_number(taken: Option<DialOrder>) -> u32 {
-    match taken {
-        Some(order) => order.0,
-        None => 99,
-    }
-}
-
-// The orders 4, 5 and 6 are put into a queue of two, three are taken, 7 is put and taken: which puts succeed, what is taken, and how
-// many orders are left.
-fn orders_in_turn(rt: &impl Wait, alloc: Global) -> Option<String> {
+// The orders 4, 5 and 6 are put into a queue of two, three are taken, 7 is put and taken.
+fn are_in_turn(rt: &impl Wait, alloc: Global) -> Option<bool> {
     let (orders, mut put, mut one, two) = Orders::new(alloc, 2).ok()?;
-    let first = orders.put(rt, &mut put, DialOrder(4)).is_ok();
-    let second = orders.put(rt, &mut put, DialOrder(5)).is_ok();
-    let third = order_number(orders.put(rt, &mut put, DialOrder(6)).err());
-    let oldest = order_number(orders.take(rt, &mut one));
-    let next = order_number(orders.take(rt, &mut one));
-    let none = order_number(orders.take(rt, &mut one));
-    let fourth = orders.put(rt, &mut put, DialOrder(7)).is_ok();
-    let last = order_number(orders.take(rt, &mut one));
+    let first = orders.put(rt, &mut put, DialOrder(4));
+    let second = orders.put(rt, &mut put, DialOrder(5));
+    let third = orders.put(rt, &mut put, DialOrder(6));
+    let oldest = orders.take(rt, &mut one);
+    let next = orders.take(rt, &mut one);
+    let none = orders.take(rt, &mut one);
+    let fourth = orders.put(rt, &mut put, DialOrder(7));
+    let last = orders.take(rt, &mut one);
     let left = orders.settle(rt, put, one, two);
-    format!(in alloc; "{first} {second} {third} {oldest} {next} {none} {fourth} {last} {left}").ok()
-}
-
-// The orders of a run with two dials, all taken by the first worker: the dials, and the last order of each worker.
-fn take_dispatched(rt: &impl Wait, alloc: Global) -> Option<String> {
-    let (orders, put, mut one, _) = Orders::new(alloc, 4).ok()?;
-    let _ = dispatch(rt, &orders, put, 2);
-    let first = order_number(orders.take(rt, &mut one));
-    let second = order_number(orders.take(rt, &mut one));
-    let third = order_number(orders.take(rt, &mut one));
-    let fourth = order_number(orders.take(rt, &mut one));
-    let none = order_number(orders.take(rt, &mut one));
-    format!(in alloc; "{first} {second} {third} {fourth} {none}").ok()
+    let are_put = [first, second, third, fourth] == [Ok(()), Ok(()), Err(DialOrder(6)), Ok(())];
+    let are_taken = [oldest, next, none, last]
+        == [
+            Some(DialOrder(4)),
+            Some(DialOrder(5)),
+            None,
+            Some(DialOrder(7)),
+        ];
+    Some(are_put && are_taken && left == 0)
 }
 
 #[test]
 fn two_seats_and_orders(rt: HostRuntime) {
-    assert!(rt; is_closed(&rt, rt.alloc()) == Some(true));
-    assert_eq!(rt;
-        orders_in_turn(&rt, rt.alloc()).as_deref(),
-        Some("true true 6 4 5 99 true 7 0")
-    );
-    assert_eq!(rt;
-        take_dispatched(&rt, rt.alloc()).as_deref(),
-        Some("0 1 4294967295 4294967295 99")
-    );
+    assert!(rt; is_closed(&rt, rt.alloc(), 4) == Some(true));
+    assert!(rt; are_in_turn(&rt, rt.alloc()) == Some(true));
     let missing = closing_without(&rt, rt.alloc(), false);
     assert_eq!(rt; missing.as_deref(), Some("MissingSeat"));
     let absent = closing_without(&rt, rt.alloc(), true);

@@ -40,26 +40,21 @@ fn read_after_quiet(stream: &mut SocketStream, room: &mut [u8; 8]) -> Heard {
     heard
 }
 
-// What a server reads that waits for at most a millisecond: at once, after its client has sent something, and after the client is gone.
-fn quiet_and_heard(rt: &HostRuntime) -> Option<([Heard; 3], [u8; 8])> {
-    let (mut client, mut server) = connection(rt, b"")?;
-    let wait = Some(Duration::from_millis(1));
-    server.get_ref().set_read_timeout(wait).ok()?;
-    let mut room = [0u8; 8];
-    let quiet = server.read(&mut room);
-    let _ = client.write(b"abc");
-    let said = read_after_quiet(&mut server, &mut room);
-    drop(client);
-    Some((
-        [quiet, said, read_after_quiet(&mut server, &mut room)],
-        room,
-    ))
-}
-
+// The server waits for at most a millisecond.
 #[test]
 fn a_socket_is_quiet_until_something_comes(rt: HostRuntime) {
-    let wanted = [Heard::Quiet, Heard::Bytes(3), Heard::Bytes(0)];
-    assert_eq!(rt; quiet_and_heard(&rt), Some((wanted, *b"abc\0\0\0\0\0")));
+    let Some((mut client, mut server)) = connection(&rt, b"") else {
+        panic!(rt; "no connection");
+    };
+    let wait = Some(Duration::from_millis(1));
+    assert!(rt; server.get_ref().set_read_timeout(wait).is_ok());
+    let mut room = [0u8; 8];
+    assert_eq!(rt; server.read(&mut room), Heard::Quiet);
+    let _ = client.write(b"abc");
+    assert_eq!(rt; read_after_quiet(&mut server, &mut room), Heard::Bytes(3));
+    assert!(rt; room == *b"abc\0\0\0\0\0");
+    drop(client);
+    assert_eq!(rt; read_after_quiet(&mut server, &mut room), Heard::Bytes(0));
 }
 
 // Serves one request on connection 1, and returns the result and whether `a` is then registered.
@@ -69,54 +64,43 @@ fn serve_one(rt: &HostRuntime, server: &mut SocketStream) -> (Result<Served, Loo
     (served, registry.port_please(b"a").is_some())
 }
 
-// The result of serving a client that resets, and whether `a` is then registered. The client resets in the middle of the request, or of
-// the answer, since it leaves a byte unread.
-fn after_reset(
-    rt: &HostRuntime,
-    said: &[u8],
-) -> Option<(Took, (Result<Served, LookupError>, bool))> {
-    let (client, mut server) = connection(rt, said)?;
-    let took = server.write(b"x");
-    drop(client);
-    Some((took, serve_one(rt, &mut server)))
-}
-
+// The client resets in the middle of the request, or of the answer, since it leaves a byte unread.
 #[test]
 fn a_peer_that_resets_leaves_no_registration(rt: HostRuntime) {
     for said in [CUT, REGISTRATION] {
-        let reported = after_reset(&rt, said);
+        let Some((client, mut server)) = connection(&rt, said) else {
+            panic!(rt; "no connection");
+        };
+        assert_eq!(rt; server.write(b"x"), Took::Bytes(1));
+        drop(client);
+        let (served, is_registered) = serve_one(&rt, &mut server);
         let is_lost = matches!(
-            reported,
-            Some((
-                Took::Bytes(1),
-                (
-                    Err(LookupError::ReadFailed | LookupError::WriteFailed),
-                    false
-                )
-            ))
+            served,
+            Err(LookupError::ReadFailed | LookupError::WriteFailed)
         );
-        assert!(rt; is_lost, "{reported:?}");
+        assert!(rt; is_lost && !is_registered, "{served:?}");
     }
 }
 
-// The result of serving a client that half-closes, whether `a` is then registered, and what the client reads after the socket was given
-// back and closed.
-fn after_half_close(
+// Whether a client that half-closes is served so, with `a` registered or not, and then reads this much of the answer.
+fn is_answered(
     rt: &HostRuntime,
     said: &[u8],
-) -> Option<((Result<Served, LookupError>, bool), Heard)> {
+    wanted: Result<Served, LookupError>,
+    read: usize,
+) -> Option<bool> {
     let (mut client, mut server) = connection(rt, said)?;
     client.get_ref().shutdown(Shutdown::Write).ok()?;
-    let served = serve_one(rt, &mut server);
+    let (served, is_registered) = serve_one(rt, &mut server);
     drop(server.into_inner());
-    Some((served, client.read(&mut [0u8; 8])))
+    let heard = client.read(&mut [0u8; 8]);
+    Some(served == wanted && is_registered == wanted.is_ok() && heard == Heard::Bytes(read))
 }
 
 #[test]
 fn a_peer_that_half_closes_is_answered(rt: HostRuntime) {
-    let whole = ((Ok(Served::Registered), true), Heard::Bytes(6));
-    let cut = ((Err(LookupError::Ended), false), Heard::Bytes(0));
-    for (said, wanted) in [(REGISTRATION, whole), (CUT, cut)] {
-        assert_eq!(rt; after_half_close(&rt, said), Some(wanted));
-    }
+    let whole = is_answered(&rt, REGISTRATION, Ok(Served::Registered), 6);
+    assert!(rt; whole == Some(true));
+    let cut = is_answered(&rt, CUT, Err(LookupError::Ended), 0);
+    assert!(rt; cut == Some(true));
 }

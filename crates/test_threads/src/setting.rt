@@ -1,6 +1,6 @@
-//! What the rows share: two nodes, what each sends in a handshake, the events, and a source of challenges.
+//! What the tests share: three nodes, what a and b send in a handshake, the events, and a source of challenges.
 
-use dist_core::{Event, Node, Opening, Setup, StepError, Why};
+use dist_core::{Event, Node, Opening, Setup, Why};
 use dist_drive::Draws;
 use dist_names::{ByteString, NodeName};
 use dist_peers::EndId;
@@ -10,27 +10,50 @@ use std::alloc::Global;
 /// The challenge of node b.
 pub const CHALLENGE: u32 = 123456789;
 
-const NODE_A: &str =
-    "node a@127.0.0.1 ABCDEFGHIJKLMNOPQRSTUVWXYZabcdefghijklmnopqrstuvwxyz0 401000004 5";
+/// Nodes a, b and c. Node a limits which nodes may connect, so that its list of names is copied where a setup is.
+pub const NODES: &str = "\
+node a@127.0.0.1 ABCDEFGHIJKLMNOPQRSTUVWXYZabcdefghijklmnopqrstuvwxyz0 401000004 5 allow b@127.0.0.1
+node b@127.0.0.1 ABCDEFGHIJKLMNOPQRSTUVWXYZabcdefghijklmnopqrstuvwxyz0 101000104 6
+node c@127.0.0.1 ABCDEFGHIJKLMNOPQRSTUVWXYZabcdefghijklmnopqrstuvwxyz0 101000104 8
+";
 
-const NODE_B: &str =
-    "node b@127.0.0.1 ABCDEFGHIJKLMNOPQRSTUVWXYZabcdefghijklmnopqrstuvwxyz0 101000104 6";
+/// The letters of the nodes, in their order.
+pub const LETTERS: &str = "abc";
 
-// Frames in hexadecimal digits. Node a sends its name, a reply to the challenge 123456789, one with a wrong bit, and the status
-// `true`; node b sends the other statuses, this challenge and its acknowledgement; then come a tick and a packet of 5 bytes. The old
-// name is that of a node that only knows version 5, written by hand from the ERTS User's Guide, Distribution Handshake: a tag, the
-// version 5, the flags 4 in four bytes, the name.
-const FRAMES: &str = "\
-name 001a4e000000040100000400000005000b61403132372e302e302e31
-old_name 00126e00050000000461403132372e302e302e31
-reply 001572075bcd15d174ab98d277d9f5a5611c2c9f419d9f
-wrong_reply 001572075bcd15d174ab98d277d9f5a5611c2c9f419d9e
-true 00057374727565
-ok 0003736f6b
-nok 0004736e6f6b
-challenge 001e4e0000000101000104075bcd1500000006000b62403132372e302e302e31
-acknowledgement 001161d174ab98d277d9f5a5611c2c9f419d9f
-packets 00000000000000050102030405";
+// Node a sends its name, a reply to the challenge 123456789, one with a wrong bit, and the status `true`; node b sends the other
+// statuses, this challenge and its acknowledgement; then come a tick and a packet of 5 bytes. The old name is that of a node that only
+// knows version 5, written by hand from the ERTS User's Guide, Distribution Handshake: a tag, the version 5, the flags 4 in four bytes,
+// the name.
+const FRAMES: [(&str, &[u8]); 10] = [
+    (
+        "name",
+        b"\x00\x1aN\x00\x00\x00\x04\x01\x00\x00\x04\x00\x00\x00\x05\x00\x0ba@127.0.0.1",
+    ),
+    ("old_name", b"\x00\x12n\x00\x05\x00\x00\x00\x04a@127.0.0.1"),
+    (
+        "reply",
+        b"\x00\x15r\x07\x5b\xcd\x15\xd1\x74\xab\x98\xd2\x77\xd9\xf5\xa5\x61\x1c\x2c\x9f\x41\x9d\x9f",
+    ),
+    (
+        "wrong_reply",
+        b"\x00\x15r\x07\x5b\xcd\x15\xd1\x74\xab\x98\xd2\x77\xd9\xf5\xa5\x61\x1c\x2c\x9f\x41\x9d\x9e",
+    ),
+    ("true", b"\x00\x05strue"),
+    ("ok", b"\x00\x03sok"),
+    ("nok", b"\x00\x04snok"),
+    (
+        "challenge",
+        b"\x00\x1eN\x00\x00\x00\x01\x01\x00\x01\x04\x07\x5b\xcd\x15\x00\x00\x00\x06\x00\x0bb@127.0.0.1",
+    ),
+    (
+        "acknowledgement",
+        b"\x00\x11a\xd1\x74\xab\x98\xd2\x77\xd9\xf5\xa5\x61\x1c\x2c\x9f\x41\x9d\x9f",
+    ),
+    (
+        "packets",
+        b"\x00\x00\x00\x00\x00\x00\x00\x05\x01\x02\x03\x04\x05",
+    ),
+];
 
 /// This number, then the next one, and so on.
 #[derive(Drop)]
@@ -46,53 +69,36 @@ impl Draws for Rising {
     }
 }
 
-/// The setup of node a, or of node b.
-pub fn setup_of(alloc: Global, is_a: bool) -> Option<Setup> {
-    let line = if is_a { NODE_A } else { NODE_B };
+/// The setup of the node with this letter. `None`, here and below: memory was refused.
+pub fn setup_of(alloc: Global, letter: &str) -> Option<Setup> {
+    let line = NODES.lines().nth(LETTERS.find(letter)?)?;
     match script_of(alloc, line.as_bytes()).ok()? {
         Script::Events { node, .. } => Some(node),
         Script::Happenings { .. } => None,
     }
 }
 
-/// What stands behind this word: a text has parts, with `between` between them, and a part has a word, `up_to`, and the rest.
-pub fn behind(text: &'static str, between: &str, up_to: char, word: &str) -> Option<&'static str> {
-    for part in text.split(between) {
-        if let Some((known, rest)) = part.split_once(up_to)
-            && known == word
-        {
-            return Some(rest);
+// The frame of this name; no bytes for any other word.
+fn frame(word: &str) -> &'static [u8] {
+    for (name, bytes) in FRAMES {
+        if name == word {
+            return bytes;
         }
     }
-    None
-}
-
-// The digits of a frame.
-fn digits_of(word: &str) -> Option<&'static str> {
-    behind(FRAMES, "\n", ' ', word)
+    b""
 }
 
 /// The bytes of frames joined by `+`; `-` is no byte.
 pub fn bytes_of(alloc: Global, words: &str) -> Option<Vec<u8>> {
     let mut bytes = Vec::new(alloc);
-    put_frames(alloc, &mut bytes, words)?;
+    for word in words.split('+') {
+        bytes.extend_from_slice(frame(word)).ok()?;
+    }
     Some(bytes)
 }
 
-fn put_frames(alloc: Global, bytes: &mut Vec<u8>, words: &str) -> Option<()> {
-    for word in words.split('+') {
-        put_frame(alloc, bytes, digits_of(word).unwrap_or(""))?;
-    }
-    Some(())
-}
-
-fn put_frame(alloc: Global, bytes: &mut Vec<u8>, digits: &str) -> Option<()> {
-    let more = hex::decode(alloc, digits).ok()?;
-    bytes.extend_from_slice(&more).ok()
-}
-
-/// The event for a word: a frame; `dial` of node b; the end is `opened`, has `ended`, or is `replaced`; a connection is `incoming`; for
-/// any other word, a tick is due. It is for end 0, or after `1:` for end 1.
+/// The event for a word: a frame; `dial` of node b; the end is `opened`, or is `replaced` or has `ended`; a connection is `incoming`;
+/// for any other word, a tick is due. It is for end 0, or after `1:` for end 1.
 pub fn event(alloc: Global, word: &str) -> Option<Event> {
     let (end_, word) = match word.strip_prefix("1:") {
         Some(word) => (EndId(1), word),
@@ -103,10 +109,10 @@ pub fn event(alloc: Global, word: &str) -> Option<Event> {
         let opening = Opening::New;
         return Some(Event::Dial { peer, opening });
     }
-    let Some(digits) = digits_of(word) else {
+    let Some(body) = frame(word).get(2..) else {
         return Some(short_event(end_, word));
     };
-    let body = ByteString::from_vec(hex::decode(alloc, digits.get(4..)?).ok()?);
+    let body = ByteString::from_slice(alloc, body).ok()?;
     Some(Event::Frame { end_, body })
 }
 
@@ -127,26 +133,21 @@ fn short_event(end_: EndId, word: &str) -> Event {
     }
 }
 
-/// Gives a node the event for a word; a number forgets the causes of the closed ends below it. `None`, here and below: memory was
-/// refused.
-pub fn do_word(alloc: Global, node: &mut Node, word: &str) -> Option<Result<(), StepError>> {
-    if let Ok(below) = word.parse::<u32>() {
-        node.forget(EndId(below));
-        return Some(Ok(()));
+// Gives a node the events for the words behind its letter. `None`: it refused one.
+fn do_words(alloc: Global, node: &mut Node, text: &str) -> Option<()> {
+    for word in text.split(' ').skip(1) {
+        let event = event(alloc, word)?;
+        if node.step(alloc, &event, CHALLENGE).is_err() {
+            return None;
+        }
     }
-    let event = event(alloc, word)?;
-    match node.step(alloc, &event, CHALLENGE) {
-        Ok(_) => Some(Ok(())),
-        Err(error) => Some(Err(error)),
-    }
+    Some(())
 }
 
-/// The node with which a text begins, a or b, after its words.
+/// The node with whose letter a text begins, after the words behind it.
 pub fn node_after(alloc: Global, text: &str) -> Option<Node> {
-    let mut node = Node::new(alloc, setup_of(alloc, text.starts_with('a'))?);
-    for word in text.split(' ').skip(1) {
-        let _ = do_word(alloc, &mut node, word)?;
-    }
+    let mut node = Node::new(alloc, setup_of(alloc, word(text, 0))?);
+    do_words(alloc, &mut node, text)?;
     Some(node)
 }
 

@@ -2,19 +2,57 @@
 //!
 //! A silent peer delays nothing: no lock is held while a stream is read.
 
-use crate::seats::{closing, play, sides_of};
+use crate::seats::{closing, node_b, node_b_after};
 use crate::setting::{CHALLENGE, Rising, bytes_of};
 use dist_core::{Event, Still};
 use dist_drive::{FaultStream, Heard, Mapper, Stream, Took};
-use dist_epmd::{Answer, Registry, decode_request};
-use dist_locked::{LockedNode, LockedRegistry, Seat, SharedMapper, drive_end};
+use dist_epmd::{Answer, NodeInfo, Registry, Request};
+use dist_locked::{LockedNode, LockedRegistry, Seat, SharedMapper, drive_end, settle};
 use dist_peers::EndId;
 use std::alloc::Global;
 use std::sync::Wait;
 use std::test::*;
 use std::thread;
-use std::thread::Threads;
 use std::time::{Clock, Duration};
+
+// Gives the node a hundred connections. Returns after how many of these steps the end was pending.
+fn come<R: Wait>(rt: &R, node: &LockedNode, seat: &mut Seat) -> u64 {
+    let mut pending = 0u64;
+    for link in 0..100u64 {
+        if let Ok((_, reply)) = node.step(rt, seat, &Event::Incoming { link }, 0) {
+            let is_pending = node.still(rt, reply.end_) == Still::Pending;
+            pending = pending.saturating_add(is_pending as u64);
+        }
+    }
+    pending
+}
+
+// The same of a thread, which has the seat meanwhile.
+fn work<R: Wait>(rt: &R, node: &LockedNode, mut seat: Seat) -> (Seat, u64) {
+    let pending = come(rt, node, &mut seat);
+    (seat, pending)
+}
+
+// Each line of the history has its receipt, and right after each step its end was pending.
+#[test]
+fn two_threads_on_one_node(rt: HostRuntime) {
+    let Some(mut side) = node_b(rt.alloc()) else {
+        panic!(rt; "no memory");
+    };
+    let (Some(two), Some(one)) = (side.seats.pop(), side.seats.pop()) else {
+        panic!(rt; "no seats");
+    };
+    let node = &side.node;
+    let ((one, ones), (two, twos)) = thread::join(
+        &rt,
+        move || work(&rt, node, one),
+        move || work(&rt, node, two),
+    );
+    let _ = side.seats.push(one);
+    let _ = side.seats.push(two);
+    assert!(rt; (ones, twos) == (100, 100));
+    assert_eq!(rt; closing(rt.alloc(), side).as_deref(), Some("200 0 0 200"));
+}
 
 // A stream in memory. When it has no bytes, its read waits until end 1 is up, and looks at most a thousand times.
 #[derive(Drop)]
@@ -50,125 +88,51 @@ fn looks_until_up<R: Wait + Clock>(rt: &R, node: &LockedNode) -> u64 {
     1000
 }
 
-// Gives the node this many connections. Returns the seat, and after how many of the steps the end was pending.
-fn come<R: Wait>(rt: &R, node: &LockedNode, mut seat: Seat, links: u64) -> (Seat, u64) {
-    let mut pending = 0u64;
-    for link in 0..links {
-        if let Ok((_, reply)) = node.step(rt, &mut seat, &Event::Incoming { link }, 0) {
-            let is_pending = node.still(rt, reply.end_) == Still::Pending;
-            pending = pending.saturating_add(is_pending as u64);
-        }
-    }
-    (seat, pending)
-}
-
-// What a thread does with its seat.
-#[derive(Clone, Copy)]
-struct Work {
-    // Which end it drives.
-    end_: EndId,
-    // The frames that the end's peer sends; or `comes`: then no end is driven, and the node is given a hundred connections.
-    says: &'static str,
-}
-
-// Does it. Returns the seat, and how often the stream looked, or how many connections were pending.
-fn do_work<R: Wait + Clock>(
+// Drives an end, whose peer sends this, for three turns. Returns the seat, and how often the stream looked.
+fn drive_patiently<R: Wait + Clock>(
     rt: &R,
     alloc: Global,
     node: &LockedNode,
     seat: Seat,
-    work: Work,
-) -> Option<(Seat, u64)> {
-    if work.says == "comes" {
-        return Some(come(rt, node, seat, 100));
-    }
+    end_: EndId,
+    said: Vec<u8>,
+) -> (Seat, u64) {
     let mut stream = Patient {
         rt,
         node,
         looks: 0,
-        inner: FaultStream::new(alloc, bytes_of(alloc, work.says)?),
+        inner: FaultStream::new(alloc, said),
     };
     let mut draws = Rising(CHALLENGE);
-    let driven = drive_end(
-        rt,
-        alloc,
-        node,
-        seat,
-        &mut stream,
-        &mut draws,
-        work.end_,
-        &[],
-        3,
-    );
-    Some((driven.ok()?.seat, stream.looks))
-}
-
-// Two threads work, each with a seat, which it puts back. Returns what each counted.
-fn work_at_once<R: Threads + Wait + Clock + Sync>(
-    rt: &R,
-    alloc: Global,
-    node: &LockedNode,
-    seats: &mut Vec<Seat>,
-    says: (&'static str, &'static str),
-) -> Option<(u64, u64)> {
-    let (first, second) = (seats.pop()?, seats.pop()?);
-    let end_ = EndId(0);
-    let one = Work { end_, says: says.0 };
-    let end_ = EndId(1);
-    let two = Work { end_, says: says.1 };
-    let (ones, twos) = thread::join(
-        rt,
-        move || do_work(rt, alloc, node, first, one),
-        move || do_work(rt, alloc, node, second, two),
-    );
-    let (ones, twos) = (put_back(seats, ones), put_back(seats, twos));
-    Some((ones?, twos?))
-}
-
-fn put_back(seats: &mut Vec<Seat>, worked: Option<(Seat, u64)>) -> Option<u64> {
-    let (seat, count) = worked?;
-    seats.push(seat).ok()?;
-    Some(count)
-}
-
-// The same at node b, after these steps; and the result of `close`.
-fn by_two<R: Threads + Wait + Clock + Sync>(
-    rt: &R,
-    alloc: Global,
-    steps: &str,
-    says: (&'static str, &'static str),
-) -> Option<(u64, u64, String)> {
-    let mut sides = sides_of(alloc)?;
-    play(rt, alloc, &mut sides, steps)?;
-    let mut side = sides.pop()?;
-    let (ones, twos) = work_at_once(rt, alloc, &side.node, &mut side.seats, says)?;
-    Some((ones, twos, closing(alloc, side)?))
-}
-
-// Each line of the history has its receipt, and right after each step its end was pending.
-#[test]
-fn two_threads_on_one_node(rt: HostRuntime) {
-    let Some((ones, twos, closing)) = by_two(&rt, rt.alloc(), "", ("comes", "comes")) else {
-        panic!(rt; "no memory");
-    };
-    assert!(rt; (ones, twos) == (100, 100));
-    assert_eq!(rt; closing.as_str(), "200 0 0 200");
+    let driven = drive_end(rt, alloc, node, seat, &mut stream, &mut draws, end_, &[], 3);
+    let (seat, _) = settle(rt, node, end_, driven);
+    (seat, stream.looks)
 }
 
 // The stream of end 0, whose peer is silent, sees that end 1 has come up, whose peer sends a whole handshake, and then ends.
 #[test]
 fn silent_peer(rt: HostRuntime) {
-    let says = ("-", "name+reply");
-    let seen = by_two(&rt, rt.alloc(), "b incoming, b incoming", says);
-    let Some((looks, _, closing)) = seen else {
+    let alloc = rt.alloc();
+    let Some(mut side) = node_b_after(&rt, alloc, "b incoming, b incoming") else {
         panic!(rt; "no memory");
     };
+    let (Some(two), Some(one)) = (side.seats.pop(), side.seats.pop()) else {
+        panic!(rt; "no seats");
+    };
+    let Some(said) = bytes_of(alloc, "name+reply") else {
+        panic!(rt; "no memory");
+    };
+    let node = &side.node;
+    let ((one, looks), (two, _)) = thread::join(
+        &rt,
+        move || drive_patiently(&rt, alloc, node, one, EndId(0), Vec::new(alloc)),
+        move || drive_patiently(&rt, alloc, node, two, EndId(1), said),
+    );
+    let _ = side.seats.push(one);
+    let _ = side.seats.push(two);
     assert!(rt; looks < 1000);
-    assert_eq!(rt; closing.as_str(), "5 1 1 1");
+    assert_eq!(rt; closing(alloc, side).as_deref(), Some("5 1 1 1"));
 }
-
-// The registration of `a` at port 9001.
-const REGISTRATION: &[u8] = b"x\x23\x29M\x00\x00\x06\x00\x05\x00\x01a\x00\x00";
 
 // Registers node a on this connection. Returns the result, and the creation.
 fn register_a<R: Wait>(
@@ -177,7 +141,7 @@ fn register_a<R: Wait>(
     shared: &LockedRegistry,
     conn: u64,
 ) -> Option<(u8, u32)> {
-    let request = decode_request(alloc, REGISTRATION).ok()?;
+    let request = Request::Alive(NodeInfo::of_node(alloc, b"a", 9001, false).ok()?);
     match SharedMapper::new(rt, shared).ask(alloc, conn, &request) {
         Ok(
             Answer::AliveX {

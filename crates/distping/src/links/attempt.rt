@@ -91,7 +91,8 @@ impl<'a> AddressAttempt<'a> {
     fn connect_within(
         &mut self,
         port: u16,
-        (step, next): (TimedStep, TimedStep),
+        step: TimedStep,
+        next: TimedStep,
     ) -> io::Result<ProbeStream<'a>> {
         let rt = self.dial.rt;
         let until = deadline_after(rt, self.budget.share(step))?;
@@ -102,20 +103,16 @@ impl<'a> AddressAttempt<'a> {
         Ok(DeadlineStream::new(stream, rt, until))
     }
 
-    /// The same, or how the port was not reached, which is printed behind this word.
+    /// The same, or how the port was not reached.
     pub(crate) fn connect(
         &mut self,
-        word: &'static str,
         port: u16,
-        steps: (TimedStep, TimedStep),
-    ) -> Result<Result<ProbeStream<'a>, Unreached>, Fault> {
-        match self.connect_within(port, steps) {
-            Ok(stream) => Ok(Ok(stream)),
-            Err(error) => {
-                let place = unreached_by(&error);
-                self.dial.lines.put_unreached(word, port, place)?;
-                Ok(Err(place))
-            }
+        step: TimedStep,
+        next: TimedStep,
+    ) -> Result<ProbeStream<'a>, Unreached> {
+        match self.connect_within(port, step, next) {
+            Ok(stream) => Ok(stream),
+            Err(error) => Err(unreached_by(&error)),
         }
     }
 }

@@ -18,6 +18,7 @@ use distping_report::{Caller, LineSink, Listen, Taken};
 use distping_words::Fault;
 use std::alloc::Global;
 use std::io;
+use std::net::{SocketAddr, TcpStream};
 
 // A result of the system for the listener, or the fault that it failed.
 fn or_fault<T: Drop>(given: io::Result<T>) -> Result<T, Fault> {
@@ -25,6 +26,18 @@ fn or_fault<T: Drop>(given: io::Result<T>) -> Result<T, Fault> {
         Ok(it) => Ok(it),
         Err(error) => Err(Fault::ListenFailed(error.kind())),
     }
+}
+
+// Prints where a connection came from, and makes it one that ends in time.
+fn talk_with<'a>(
+    rt: &'a HostRuntime,
+    listen: &Listen<'_>,
+    lines: LineSink<'_>,
+    socket: TcpStream,
+    from: &SocketAddr,
+) -> Result<ProbeStream<'a>, Fault> {
+    lines.put_taken(from)?;
+    or_fault(talk_over(rt, SocketStream::new(socket), listen.seconds))
 }
 
 // Listens, and waits for one connection. `None` if no node dialled in time.
@@ -36,13 +49,13 @@ fn accept<'a>(
 ) -> Result<Option<ProbeStream<'a>>, Fault> {
     let listener = or_fault(bind_listener(rt, listen.place, listen.port))?;
     lines.put_listening(listen.port, &listen.setup.name)?;
-    let Some((socket, from)) = or_fault(await_caller(rt, &listener, listen.patience))? else {
-        return Ok(None);
-    };
-    caller.address = Some(from);
-    lines.put_taken(&from)?;
-    let stream = or_fault(talk_over(rt, SocketStream::new(socket), listen.seconds))?;
-    Ok(Some(stream))
+    match or_fault(await_caller(rt, &listener, listen.patience))? {
+        Some((socket, from)) => {
+            caller.address = Some(from);
+            Ok(Some(talk_with(rt, listen, lines, socket, &from)?))
+        }
+        None => Ok(None),
+    }
 }
 
 // Whether a node asks for a name, instead of sending its own.
@@ -99,7 +112,30 @@ fn greet(
     }
 }
 
-// Talks with the node that dialled, prints what it sent about itself, and returns the result.
+// Talks as this node with the one that dialled, prints what that sent about itself, and returns the result.
+fn meet(
+    limited: &mut Limited<'_, ProbeStream<'_>>,
+    node: &mut Node,
+    listen: &Listen<'_>,
+    lines: LineSink<'_>,
+    caller: &mut Caller,
+) -> Result<Taken, Fault>
+    // `open_node` returned the node.
+    requires { AwaitsName listen.now.setup.now node.old }
+{
+    let inbound = match hear(lines.alloc, limited, node.awaits(END)) {
+        Ok(inbound) => inbound,
+        Err(taken) => return Ok(taken),
+    };
+    if let Content::Name(peer) = &inbound.content {
+        lines.put_peer(peer.name.as_slice(), peer.flags, peer.creation)?;
+    }
+    let (taken, peer) = greet(lines.alloc, limited, node, listen, inbound);
+    caller.peer = peer;
+    Ok(taken)
+}
+
+// Talks with the node that dialled, and returns the result.
 fn attend(
     stream: &mut ProbeStream<'_>,
     listen: &Listen<'_>,
@@ -108,20 +144,10 @@ fn attend(
 ) -> Result<Taken, Fault> {
     let left = listen.turns;
     let mut limited = Limited { stream, left };
-    let mut node = match open_node(lines.alloc, listen.setup) {
-        Ok(node) => node,
-        Err(error) => return Ok(step_verdict(error)),
-    };
-    let inbound = match hear(lines.alloc, &mut limited, node.awaits(END)) {
-        Ok(inbound) => inbound,
-        Err(taken) => return Ok(taken),
-    };
-    if let Content::Name(peer) = &inbound.content {
-        lines.put_peer(peer)?;
+    match open_node(lines.alloc, listen.setup) {
+        Ok(mut node) => meet(&mut limited, &mut node, listen, lines, caller),
+        Err(error) => Ok(step_verdict(error)),
     }
-    let (taken, peer) = greet(lines.alloc, &mut limited, &mut node, listen, inbound);
-    caller.peer = peer;
-    Ok(taken)
 }
 
 /// Takes one connection, prints what the other side sends, and returns the result. `caller` gets what was found out.

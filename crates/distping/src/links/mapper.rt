@@ -5,20 +5,24 @@ ghost use Rattle.distping.specs.Places.{lookup_verdict};
 
 use crate::links::attempt::{AddressAttempt, ProbeStream, Stop};
 use crate::links::front::FrontStream;
+use dist_epmd::PortInfo;
 use dist_epmd_calls::{LookupError, ask_names, lookup};
 use dist_names::ByteString;
 use dist_probe::{ProbeVerdict, mapper_verdict};
 use dist_program::{TimedStep, at_port};
 use dist_stream::connect_by;
-use distping_report::{Dial, Registration};
+use distping_report::Registration;
 use distping_words::Fault;
+use std::net::SocketAddr;
 use std::time::Instant;
 
-/// The names that a port mapper knows, on whole lines.
+/// The names that the port mapper of a host knows.
 #[derive(Drop)]
 pub struct Names {
-    /// The lines.
-    pub text: ByteString,
+    /// The address at which it was asked.
+    pub address: SocketAddr,
+    // The front of its answer.
+    text: ByteString,
     /// Whether the answer is longer than what is read.
     pub is_cut: bool,
 }
@@ -42,36 +46,51 @@ fn whole_lines(text: &[u8]) -> &[u8] {
     }
 }
 
-// Asks for all names on this connection. If the answer is cut, its whole lines are kept.
-fn ask_front(
-    dial: &Dial<'_>,
-    stream: &mut FrontStream<ProbeStream<'_>>,
-) -> Result<Names, LookupError> {
-    let alloc = dial.lines.alloc;
-    let (_port, text) = ask_names(alloc, stream, dial.choices.turns())?;
-    let is_cut = stream.is_cut();
-    if !is_cut {
-        return Ok(Names { text, is_cut });
+impl Names {
+    /// The whole lines of what was read.
+    pub fn lines(&self) -> &[u8] {
+        if self.is_cut {
+            whole_lines(self.text.as_slice())
+        } else {
+            self.text.as_slice()
+        }
     }
-    let text = ByteString::from_slice(alloc, whole_lines(text.as_slice()))?;
-    Ok(Names { text, is_cut })
 }
 
 impl<'a> AddressAttempt<'a> {
     // A connection to the port mapper.
     fn connect_to_mapper(&mut self) -> Result<FrontStream<ProbeStream<'a>>, Stop> {
-        let steps = (TimedStep::Mapper, TimedStep::Lookup);
         let port = self.dial.choices.mapper_port;
-        match self.connect("epmd     ", port, steps)? {
+        match self.connect(port, TimedStep::Mapper, TimedStep::Lookup) {
             Ok(stream) => Ok(FrontStream::new(stream)),
-            Err(place) => Err(Stop::Verdict(mapper_verdict(place))),
+            Err(place) => {
+                self.dial.lines.put_unreached("epmd     ", port, place)?;
+                Err(Stop::Verdict(mapper_verdict(place)))
+            }
         }
+    }
+
+    // Asks for all names on this connection.
+    fn names_over(&self, front: &mut FrontStream<ProbeStream<'_>>) -> Result<Names, LookupError> {
+        let (_port, text) = ask_names(self.dial.lines.alloc, front, self.dial.choices.turns())?;
+        Ok(Names {
+            address: self.address,
+            text,
+            is_cut: front.is_cut(),
+        })
+    }
+
+    // The names that the port mapper knows, if it answers by this time.
+    fn names_by(&self, until: Instant) -> Option<Names> {
+        let place = at_port(&self.address, self.dial.choices.mapper_port);
+        let stream = connect_by(self.dial.rt, &place, until).ok()?;
+        self.names_over(&mut FrontStream::new(stream)).ok()
     }
 
     /// All names that the port mapper knows.
     pub(crate) fn ask_for_names(&mut self) -> Result<Names, Stop> {
         let mut front = self.connect_to_mapper()?;
-        let answer = ask_front(&self.dial, &mut front);
+        let answer = self.names_over(&mut front);
         self.budget
             .settle(TimedStep::Lookup, front.stream.time_left());
         match answer {
@@ -82,13 +101,6 @@ impl<'a> AddressAttempt<'a> {
                 Err(Stop::Verdict(lookup_verdict(error)))
             }
         }
-    }
-
-    // The names that the port mapper knows, if it answers by this time.
-    fn names_by(&self, until: Instant) -> Option<Names> {
-        let place = at_port(&self.address, self.dial.choices.mapper_port);
-        let stream = connect_by(self.dial.rt, &place, until).ok()?;
-        ask_front(&self.dial, &mut FrontStream::new(stream)).ok()
     }
 
     // Prints why there is no registration, and the names that are registered there, if the port mapper answers by this time. It asks for
@@ -102,37 +114,47 @@ impl<'a> AddressAttempt<'a> {
         if !self.dial.listed.is_first(self.dial.node.host()) {
             return lines.put_listed();
         }
-        let Some(names) = self.names_by(until) else {
-            return Ok(());
-        };
-        lines.put_names(names.text.as_slice())?;
-        if names.is_cut {
-            lines.put_cut()?;
+        if let Some(names) = self.names_by(until) {
+            lines.put_names(names.lines())?;
+            if names.is_cut {
+                lines.put_cut()?;
+            }
         }
         Ok(())
     }
 
-    // Asks the port mapper for the node, and prints its registration. Returns its port, or why it has none, and when the time of the lookup
-    // ends.
-    fn ask_for_port(&mut self) -> Result<Result<u16, (LookupError, Instant)>, Stop> {
-        let dial = self.dial;
-        let mut front = self.connect_to_mapper()?;
-        let (short, limit) = (dial.node.short(), dial.choices.turns());
-        let answer = lookup(dial.lines.alloc, &mut front, short, limit);
+    // What the port mapper answers about the node on this connection.
+    fn look_up(&mut self, front: FrontStream<ProbeStream<'_>>) -> Result<PortInfo, LookupError> {
+        let mut front = front;
+        let (short, limit) = (self.dial.node.short(), self.dial.choices.turns());
+        let answer = lookup(self.dial.lines.alloc, &mut front, short, limit);
         self.budget
             .settle(TimedStep::Lookup, front.stream.time_left());
-        match answer {
-            Ok(info) => {
-                dial.lines
-                    .put_registration(dial.choices.mapper_port, &info)?;
-                self.found.registration = Some(Registration {
-                    port: info.port,
-                    highest: info.highest,
-                    lowest: info.lowest,
-                });
-                Ok(Ok(info.port))
+        answer
+    }
+
+    // Keeps the node's registration, prints it, and returns its port.
+    fn take_registration(&mut self, info: &PortInfo) -> Result<u16, Fault> {
+        self.found.registration = Some(Registration {
+            port: info.port,
+            highest: info.highest,
+            lowest: info.lowest,
+        });
+        let port = self.dial.choices.mapper_port;
+        self.dial.lines.put_registration(port, info)?;
+        Ok(info.port)
+    }
+
+    // Asks the port mapper for the node's port.
+    fn ask_for_port(&mut self) -> Result<u16, Stop> {
+        let front = self.connect_to_mapper()?;
+        let until = front.stream.deadline();
+        match self.look_up(front) {
+            Ok(info) => Ok(self.take_registration(&info)?),
+            Err(error) => {
+                self.put_unregistered(error, until)?;
+                Err(Stop::Verdict(lookup_verdict(error)))
             }
-            Err(error) => Ok(Err((error, front.stream.deadline()))),
         }
     }
 
@@ -140,15 +162,9 @@ impl<'a> AddressAttempt<'a> {
     pub fn find_port(&mut self) -> Result<u16, Stop>
         ensures given { IfSome self.old.dial.choices.port (λ port. result ≡ Ok port) }
     {
-        if let Some(port) = self.dial.choices.port {
-            return Ok(port);
-        }
-        match self.ask_for_port()? {
-            Ok(port) => Ok(port),
-            Err((error, until)) => {
-                self.put_unregistered(error, until)?;
-                Err(Stop::Verdict(lookup_verdict(error)))
-            }
+        match self.dial.choices.port {
+            Some(port) => Ok(port),
+            None => self.ask_for_port(),
         }
     }
 }

@@ -8,12 +8,25 @@ use dist_names::{Creation, Flags, NodeName};
 use dist_program::draw;
 use dist_secret::{Cookie, Cookies};
 use distping_words::Fault;
+use std::alloc::Global;
 
 /// A random number of 32 bits.
 pub fn draw_challenge(rt: &HostRuntime) -> Result<u32, Fault>
     ensures { IfErr result (λ fault. fault ≡ Fault.NoRandomBytes) }
 {
     draw(rt).ok().ok_or(Fault::NoRandomBytes)
+}
+
+// This cookie, or one that is never used.
+fn cookie_for(alloc: Global, cookie: Option<&Cookie>) -> Result<Cookie, Fault>
+    ensures { IfOk result (λ it. IfSome cookie.entry (λ c. it ≡ c.now)) }
+{
+    match cookie {
+        Some(cookie) => Ok(cookie.try_clone(alloc)?),
+        None => Cookie::from_bytes(alloc, b"none")
+            .ok()
+            .ok_or(Fault::NoMemory),
+    }
 }
 
 /// The setup of a node with this name that only asks, with a random creation. If there is no cookie, it has one that is never used.
@@ -36,14 +49,10 @@ pub fn setup_of(
     ensures cookie { IfOk result (λ s. IfSome cookie.entry (λ c. s.cookies ≡ record { usual = c.now; own = [] })) }
 {
     let (alloc, creation) = (rt.alloc(), draw_challenge(rt)?);
-    let cookie = match cookie {
-        Some(cookie) => cookie.try_clone(alloc)?,
-        None => Cookie::from_bytes(alloc, b"none")
-            .ok()
-            .ok_or(Fault::NoMemory)?,
-    };
+    let name = own.try_clone(alloc)?;
+    let cookie = cookie_for(alloc, cookie)?;
     Ok(Setup {
-        name: own.try_clone(alloc)?,
+        name,
         cookies: Cookies::new(alloc, cookie),
         version: Version::Six,
         flags,

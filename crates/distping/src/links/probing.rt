@@ -13,8 +13,8 @@ use distping_report::{Dial, ProbeOutcome};
 use distping_words::Fault;
 use std::net::SocketAddr;
 
-/// The names that the port mapper of a host knows, and the address at which it was asked, or the result if it gave none.
-pub type Census = Result<(SocketAddr, Names), ProbeOutcome>;
+/// The names that the port mapper of a host knows, or the result if it gave none.
+pub type Census = Result<Names, ProbeOutcome>;
 
 // The time of each step, for all these addresses together.
 fn budget_for(dial: &Dial<'_>, addresses: &[SocketAddr]) -> Budget {
@@ -46,12 +46,12 @@ fn find_names(
     dial: &Dial<'_>,
     addresses: &[SocketAddr],
     all: &mut Tries,
-) -> Result<Option<(SocketAddr, Names)>, Fault> {
+) -> Result<Option<Names>, Fault> {
     let mut budget = budget_for(dial, addresses);
     for address in addresses {
         let mut attempt = AddressAttempt::begin(dial, address, addresses, budget)?;
         let verdict = match attempt.ask_for_names() {
-            Ok(names) => return Ok(Some((*address, names))),
+            Ok(names) => return Ok(Some(names)),
             Err(Stop::Verdict(verdict)) => verdict,
             Err(Stop::Fault(fault)) => return Err(fault),
         };
@@ -89,7 +89,7 @@ pub fn ask_census(dial: &Dial<'_>, addresses: Addresses) -> Result<Census, Fault
     };
     let mut all = Tries::nothing(dial.lines.alloc);
     match find_names(dial, &addresses, &mut all)? {
-        Some(known) => Ok(Ok(known)),
+        Some(names) => Ok(Ok(names)),
         None => Ok(Err(all.into_outcome(addresses))),
     }
 }

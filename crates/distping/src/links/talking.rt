@@ -25,17 +25,6 @@ fn is_tls(dial: &Dial<'_>, place: &SocketAddr, until: Instant) -> bool {
     }
 }
 
-// Prints the status that the node sent, what it sent about itself, and what the verdict says about the cookie.
-fn put_report(dial: &Dial<'_>, report: &Report) -> Result<(), Fault> {
-    if let Some(status) = report.status {
-        dial.lines.put_status(dial.own, dial.choices.flags, status)?;
-    }
-    if let Some(peer) = &report.peer {
-        dial.lines.put_peer(peer)?;
-    }
-    dial.lines.put_cookie(report.verdict())
-}
-
 // Talks with the node.
 fn talk_with_node(dial: &Dial<'_>, stream: &mut ProbeStream<'_>) -> Result<Report, Fault> {
     let fresh = draw_challenge(dial.rt)?;
@@ -51,30 +40,53 @@ fn talk_with_node(dial: &Dial<'_>, stream: &mut ProbeStream<'_>) -> Result<Repor
     ))
 }
 
-impl AddressAttempt<'_> {
-    // Connects to the node, and talks with it. Returns what it sent, and when the time of the talk ends.
-    fn connect_and_talk(&mut self, port: u16) -> Result<(Report, Instant), Stop> {
-        let steps = (TimedStep::Port, TimedStep::Talk);
-        match self.connect("connect  ", port, steps)? {
-            Ok(mut stream) => {
+impl<'a> AddressAttempt<'a> {
+    // A connection to the node.
+    fn connect_to_node(&mut self, port: u16) -> Result<ProbeStream<'a>, Stop> {
+        match self.connect(port, TimedStep::Port, TimedStep::Talk) {
+            Ok(stream) => {
                 self.dial.lines.put_connected(&self.address, port)?;
-                let report = talk_with_node(&self.dial, &mut stream)?;
-                self.budget.settle(TimedStep::Talk, stream.time_left());
-                Ok((report, stream.deadline()))
+                Ok(stream)
             }
-            Err(place) => Err(Stop::Verdict(port_verdict(place))),
+            Err(place) => {
+                self.dial.lines.put_unreached("connect  ", port, place)?;
+                Err(Stop::Verdict(port_verdict(place)))
+            }
         }
+    }
+
+    // Talks with the node, and keeps what it sent. Returns the verdict.
+    fn talk(&mut self, stream: ProbeStream<'_>) -> Result<ProbeVerdict, Fault> {
+        let mut stream = stream;
+        let report = talk_with_node(&self.dial, &mut stream)?;
+        self.budget.settle(TimedStep::Talk, stream.time_left());
+        let verdict = report.verdict();
+        self.found.status = report.status;
+        self.found.peer = report.peer;
+        Ok(verdict)
+    }
+
+    // Prints the status that the node sent, what it sent about itself, and what the verdict says about the cookie.
+    fn put_talk(&self, verdict: ProbeVerdict) -> Result<(), Fault> {
+        let dial = self.dial;
+        if let Some(status) = self.found.status {
+            dial.lines.put_status(dial.own, dial.choices.flags, status)?;
+        }
+        if let Some(peer) = &self.found.peer {
+            dial.lines
+                .put_peer(peer.name.as_slice(), peer.flags, peer.creation)?;
+        }
+        dial.lines.put_cookie(verdict)
     }
 
     /// Finds the node's port, talks with the node, and prints what it sent.
     pub(crate) fn probe_node(&mut self) -> Result<ProbeVerdict, Stop> {
         let port = self.find_port()?;
         self.found.port = Some(port);
-        let (report, until) = self.connect_and_talk(port)?;
-        put_report(&self.dial, &report)?;
-        let verdict = report.verdict();
-        self.found.status = report.status;
-        self.found.peer = report.peer;
+        let stream = self.connect_to_node(port)?;
+        let until = stream.deadline();
+        let verdict = self.talk(stream)?;
+        self.put_talk(verdict)?;
         match verdict {
             ProbeVerdict::Gone(AwaitedMessage::Status) | ProbeVerdict::Reset(AwaitedMessage::Status)
                 if is_tls(&self.dial, &at_port(&self.address, port), until) => {

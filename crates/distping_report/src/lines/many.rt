@@ -1,12 +1,18 @@
-//! The lines about several nodes: where their names come from, what can be said of each pair, a summary, and the changes of watched nodes.
+//! The lines about several nodes, or their objects: where their names come from, what can be said of each pair, a summary, and the
+//! changes of watched nodes.
 
 use crate::left_out::LeftOut;
 use crate::lines::LineSink;
 use crate::lines::verdicts::exit_mark;
 use crate::many_texts::{answers_line, left_out_line, summary_lines};
+use crate::moment::utc_text;
+use crate::objects::{
+    change_object, latency_object, left_out_object, more_left_out_object, pair_object,
+    summary_object,
+};
 use crate::piece::LinePiece::{Escaped, Foreign, Name, Number, Text};
-use crate::watched::Answers;
-use dist_cluster::{Pairing, Summary};
+use crate::watched::{Answers, Seen, verdict_word_in};
+use dist_cluster::{Group, Pairing, Summary, VerdictChange};
 use dist_names::NodeName;
 use dist_probe::ProbeVerdict;
 use distping_words::Fault;
@@ -27,13 +33,20 @@ impl LineSink<'_> {
         ])
     }
 
-    /// Prints a text that the port mapper has in place of a node's name.
-    pub fn put_left_out(self, text: &[u8]) -> Result<(), Fault> {
-        self.write_made(left_out_line(self.alloc, text))
+    /// Prints a text that the port mapper of a host has in place of a node's name.
+    pub fn put_left_out(self, group: &Group, text: &[u8]) -> Result<(), Fault> {
+        if self.quiet {
+            self.write_made(left_out_object(self.alloc, group, text))
+        } else {
+            self.write_made(left_out_line(self.alloc, text))
+        }
     }
 
-    /// Prints how much of the port mapper's answer was left out.
-    pub fn put_more_left_out(self, left_out: LeftOut) -> Result<(), Fault> {
+    /// Prints how much of the answer of a host's port mapper was left out, if anything was.
+    pub fn put_more_left_out(self, group: &Group, left_out: LeftOut) -> Result<(), Fault> {
+        if self.quiet && !left_out.is_nothing() {
+            return self.write_made(more_left_out_object(self.alloc, group, left_out));
+        }
         if left_out.lines > 0 {
             let front = "!  epmd      no nodes' names, and left out: ";
             self.put_count(front, left_out.lines, " more lines")?;
@@ -55,6 +68,9 @@ impl LineSink<'_> {
         second: &'x NodeName,
         pairing: Pairing,
     ) -> Result<(), Fault> {
+        if self.quiet {
+            return self.write_made(pair_object(self.alloc, first, second, pairing));
+        }
         let mark = match pairing {
             Pairing::Agree => "✓",
             Pairing::NotReached | Pairing::Unsure => " ",
@@ -80,13 +96,17 @@ impl LineSink<'_> {
         }
     }
 
-    /// Prints how many nodes have which verdict, and how many pairs which word.
-    pub fn put_summary(self, summary: &Summary) -> Result<(), Fault> {
-        self.write_made(summary_lines(self.alloc, summary))
+    /// Prints how many nodes have which verdict, and how many pairs which word. `status` is the exit status.
+    pub fn put_summary(self, summary: &Summary, status: u8) -> Result<(), Fault> {
+        if self.quiet {
+            self.write_made(summary_object(self.alloc, summary, status))
+        } else {
+            self.write_made(summary_lines(self.alloc, summary))
+        }
     }
 
-    /// Prints the verdict on a watched node at this time, and the word of the one before, if there was one.
-    pub fn put_change<'x>(
+    // Prints the line of the verdict on a watched node at this time, and the word of the one before; that is empty if there was none.
+    fn put_watched<'x>(
         self,
         time: &'x str,
         node: &'x NodeName,
@@ -108,8 +128,25 @@ impl LineSink<'_> {
         ])
     }
 
+    /// Prints that a watched node has another verdict than before, if it had one.
+    pub fn put_change(self, seen: &Seen<'_>, change: &VerdictChange) -> Result<(), Fault> {
+        let time = utc_text(self.alloc, change.at)?;
+        if self.quiet {
+            return self.write_made(change_object(self.alloc, &time, seen, change));
+        }
+        let before = match &change.before {
+            Some(before) => verdict_word_in(before),
+            None => b"",
+        };
+        self.put_watched(&time, seen.node, seen.verdict, before)
+    }
+
     /// Prints how long a watched node's answers took.
     pub fn put_answers(self, answers: &Answers<'_>) -> Result<(), Fault> {
-        self.write_made(answers_line(self.alloc, answers))
+        if self.quiet {
+            self.write_made(latency_object(self.alloc, answers))
+        } else {
+            self.write_made(answers_line(self.alloc, answers))
+        }
     }
 }

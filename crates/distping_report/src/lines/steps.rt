@@ -7,8 +7,8 @@ use dist_epmd::PortInfo;
 use dist_epmd_calls::LookupError;
 use dist_flags::{Dflag, Release, ReleaseShown, is_refused_by_all, oldest_refusal, release_shown};
 use dist_messages::Status;
-use dist_names::{Flags, NodeName, escape_lines};
-use dist_probe::{Peer, ProbeVerdict, Unreached, style_of};
+use dist_names::{Creation, Flags, NodeName, escape_lines};
+use dist_probe::{ProbeVerdict, Unreached, style_of};
 use distping_words::Fault;
 use std::net::SocketAddr;
 
@@ -91,15 +91,6 @@ impl LineSink<'_> {
         self.put_text(
             "   host      that address is this machine itself: the name leads to no other host from here",
         )
-    }
-
-    /// Prints that the node was found by way of `--address`, which nodes don't use.
-    pub fn put_other_way(self, node: &NodeName) -> Result<(), Fault> {
-        self.put(&[
-            Text("!  address   nodes do not know --address: they dial what "),
-            Name(node.host()),
-            Text(" resolves to, which was not tried"),
-        ])
     }
 
     /// Prints the registration that the port mapper has.
@@ -222,9 +213,8 @@ impl LineSink<'_> {
         }
     }
 
-    /// Prints what the node sent about itself.
-    pub fn put_peer(self, peer: &Peer) -> Result<(), Fault> {
-        let flags = peer.flags;
+    /// Prints what a node says about itself.
+    pub fn put_peer(self, name: &[u8], flags: Flags, creation: Creation) -> Result<(), Fault> {
         let kind = if flags.has(Dflag::Published.flags()) {
             ", published, creation "
         } else {
@@ -236,9 +226,9 @@ impl LineSink<'_> {
         };
         self.put(&[
             Text("✓  node      "),
-            Name(peer.name.as_slice()),
+            Name(name),
             Text(kind),
-            Number(peer.creation.0),
+            Number(creation.0),
             Text(", flags "),
             Digits(flags),
             Text(before),

@@ -1,11 +1,16 @@
-//! The lines of the result of a probe, and of a connection that was taken.
+//! The lines of the result of a probe, and of a connection that was taken, or their objects.
 
 ghost use Rattle.std.specs.Prelude.{◌≡◌, IfOk, string_bytes};
 ghost use Rattle.distping_report.specs.Texts.{mark_of, verdict_lines};
 
+use crate::asked::{Dial, Listen};
+use crate::found::ProbeOutcome;
 use crate::lines::LineSink;
-use crate::piece::LinePiece::{Host, Number, Text};
-use crate::taken::Taken;
+use crate::objects::{caller_object, group_object, object_of};
+use crate::piece::LinePiece::{Host, Name, Number, Text};
+use crate::taken::{Caller, Taken};
+use dist_cluster::Group;
+use dist_names::NodeName;
 use dist_probe::ProbeVerdict;
 use distping_words::Fault;
 use std::alloc::{AllocError, Global};
@@ -28,7 +33,7 @@ fn verdict_lines(alloc: Global, verdict: ProbeVerdict) -> Result<String, AllocEr
 }
 
 impl LineSink<'_> {
-    /// Prints the result of a connection that was taken.
+    /// Prints the line of the result of a connection that was taken.
     pub fn put_outcome(self, taken: Taken) -> Result<(), Fault> {
         self.put(&[
             Text(exit_mark(taken.status())),
@@ -39,8 +44,31 @@ impl LineSink<'_> {
         ])
     }
 
-    /// Prints which of several addresses got furthest.
-    pub fn put_furthest(self, address: &SocketAddr, count: u32) -> Result<(), Fault> {
+    /// Prints the result of a connection that was taken.
+    pub fn put_connection(
+        self,
+        listen: &Listen<'_>,
+        caller: &Caller,
+        taken: Taken,
+    ) -> Result<(), Fault> {
+        if self.quiet {
+            self.write_made(caller_object(self.alloc, listen, caller, taken))
+        } else {
+            self.put_outcome(taken)
+        }
+    }
+
+    // Prints that the node was found by way of `--address`, which nodes don't use.
+    fn put_other_way(self, node: &NodeName) -> Result<(), Fault> {
+        self.put(&[
+            Text("!  address   nodes do not know --address: they dial what "),
+            Name(node.host()),
+            Text(" resolves to, which was not tried"),
+        ])
+    }
+
+    // Prints which of several addresses got furthest.
+    fn put_furthest(self, address: &SocketAddr, count: u32) -> Result<(), Fault> {
         self.put(&[
             Text("   furthest  "),
             Host(address.ip()),
@@ -62,9 +90,39 @@ impl LineSink<'_> {
         }
     }
 
-    /// Prints a verdict.
+    /// Prints the lines of a verdict.
     pub fn put_verdict(self, verdict: ProbeVerdict) -> Result<(), Fault> {
         self.put_details(verdict)?;
         self.write_made(verdict_lines(self.alloc, verdict))
+    }
+
+    /// Prints the result of a probe; of several addresses also which got furthest; and if the node was found by `--address`, that nodes
+    /// don't use it.
+    pub fn put_probe(self, dial: &Dial<'_>, outcome: &ProbeOutcome) -> Result<(), Fault> {
+        if self.quiet {
+            return self.write_made(object_of(self.alloc, dial, outcome));
+        }
+        let count = u32::try_from(outcome.verdicts.len()).unwrap_or(u32::MAX);
+        if let Some(address) = &outcome.found.address
+            && count > 1
+        {
+            self.put_furthest(address, count)?;
+        }
+        if let Some(host) = dial.choices.address
+            && outcome.verdict.status() == 0
+            && host.as_bytes() != dial.node.host()
+        {
+            self.put_other_way(dial.node)?;
+        }
+        self.put_verdict(outcome.verdict)
+    }
+
+    /// Prints the result for a host that gave no node.
+    pub fn put_nobody(self, group: &Group, outcome: &ProbeOutcome) -> Result<(), Fault> {
+        if self.quiet {
+            self.write_made(group_object(self.alloc, group, outcome))
+        } else {
+            self.put_verdict(outcome.verdict)
+        }
     }
 }

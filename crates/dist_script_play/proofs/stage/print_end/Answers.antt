@@ -1,4 +1,4 @@
-use Rattle.dist_script_play.proofs.Pages.{there}
+use Rattle.dist_script.proofs.Fronts.{there}
 use Rattle.dist_script_play.proofs.Worlds.{ends}
 use Rattle.dist_script_play.proofs.stage.print_end.Goals as goal
 

@@ -1,0 +1,15 @@
+-- What is lent of a node in C's memory.
+use Rattle.std.specs.Prelude.{Some}
+use Rattle.std.specs.Borrow.{Lends, MutBor, Fml}
+use Rattle.dist_c_guest.specs.declared.guest.Guest.{Guest}
+use Rattle.dist_c_guest.specs.contracts.guest.Guest as guest
+use Rattle.dist_c_guest.specs.declared.slot.Slot.{Slot}
+use Rattle.dist_c_guest.specs.contracts.slot.Slot.{the_row}
+
+-- the slot with this guest in it
+abbrev pub holding : Slot → Guest → Slot
+holding s g = record s { guest = Some g }
+
+-- the slot holds in the end what the guest has become that was lent
+abbrev pub LendsGuest : MutBor Slot → MutBor Guest → Fml
+LendsGuest s g = Lends the_row guest.the_row s g (holding s.now)

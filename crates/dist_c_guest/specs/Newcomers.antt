@@ -1,0 +1,37 @@
+-- The steps of newcomers, a connection that came and a dial: the oldest end that is not up makes room for them.
+use Rattle.std.specs.Prelude.{◌≡◌, ℕ, ◌⊎◌, List, Option, Some, None, Result, Ok, Err}
+use Rattle.dist_names.specs.declared.name_error.NameError.{NameError}
+use Rattle.dist_messages.specs.declared.opening.Opening.{Opening}
+use Rattle.dist_peers.specs.declared.entry.EndId.{EndId}
+use Rattle.dist_core_ends.specs.declared.why.Why.TheVariants as why
+use Rattle.dist_core.specs.declared.event.Event.{Event}
+use Rattle.dist_core.specs.declared.event.Event.TheVariants as event
+use Rattle.dist_c_guest.specs.declared.guest.Guest.{Guest}
+use Rattle.dist_c_guest.specs.Room.{MakesRoom, room_for}
+use Rattle.dist_c_guest.specs.declared.replies.DnReply.{DnReply}
+use Rattle.dist_c_guest.specs.Codes.{name_code, why_number}
+use Rattle.dist_c_guest.specs.Steps.{Keeps, Steps}
+
+-- a reply beside which it is reported which end made room, and why it was closed; 0 where none did
+abbrev pub with_room : Option EndId → DnReply → DnReply
+with_room None r = record r { closed = 0; closed_id = 0 }
+with_room (Some x) r = record r { closed = why_number why.GaveUp; closed_id = x.0 }
+
+-- nothing changed, no end made room, and the call answered so
+abbrev pub Declines : ℕ → ℕ → Option Guest → Option Guest → DnReply → DnReply → Type 0
+Declines wanted code old new was is = Keeps wanted code old new (with_room None was) is
+
+-- THE STEP OF A NEWCOMER: first an end made room for it, where one has to; then its own step was made, or refused. Which end made
+-- room is reported in any case.
+abbrev pub ComesAt : Option EndId → Event → ℕ → Guest → Option Guest → DnReply → DnReply → Type 0
+ComesAt lost v code s new was is = (mid : Guest) × (r : DnReply) × MakesRoom lost s mid × Steps v 0 code (Some mid) new was r × (is ≡ with_room lost r)
+
+-- the same at a node that may hold no guest (1)
+abbrev pub Comes : Event → ℕ → Option Guest → Option Guest → DnReply → DnReply → Type 0
+Comes v code None new was is = Declines 1 code None new was is
+Comes v code (Some s) new was is = ComesAt (room_for v s.node) v code s new was is
+
+-- the step of a dial, or the reason why the bytes are no name; memory may run out for the name (3)
+abbrev pub Dials : Result (List ℕ) NameError → Opening → ℕ → Option Guest → Option Guest → DnReply → DnReply → Type 0
+Dials (Ok p) o code old new was is = Comes (event.Dial p o) code old new was is ⊎ Declines 3 code old new was is
+Dials (Err e) o code old new was is = Declines (name_code e) code old new was is

@@ -1,0 +1,75 @@
+//! The pointer to a guest that C holds.
+ghost use Rattle.std.specs.Prelude.{◌≡◌, Option, Some, None};
+ghost use Rattle.dist_c_guest.specs.declared.guest.Guest.{Guest};
+ghost use Rattle.std.specs.Borrow.{sem};
+ghost use Rattle.dist_c_guest.specs.Kept.{owns_guest};
+
+use crate::guest::Guest;
+use crate::parts::Parts;
+use std::alloc::Global;
+use std::marker::Model;
+
+/// A place for a boxed guest. Its pointer means something only where the place holds one.
+#[repr(C)]
+#[derive(Drop)]
+pub struct Slot {
+    at: *mut u8,
+    /// The guest that it holds.
+    pub ghost guest: { Option Guest },
+}
+
+impl Model for Slot {
+    ghost also_owns = { λ s. owns_guest s.at s.guest };
+}
+
+// The guest has no other owner, so it goes with its place to whatever thread that goes to.
+unsafe impl Send for Slot {}
+
+impl Slot {
+    ghost use Rattle.dist_c_guest.specs.Lending.{LendsGuest};
+
+    /// Lends the guest.
+    pub fn lend(&mut self) -> &mut Guest
+        requires { (s : Guest) × (self.old.guest ≡ Some s) }
+        ensures* lends { sem 𝓛 (LendsGuest self.entry result) }
+        ensures value { self.old.guest ≡ Some result.now }
+    {
+        unsafe { &mut *(self.at as *mut Guest) }
+    }
+
+    // Reads the pointer, and what the slot owned goes with it.
+    fn take_parts(&mut self, alloc: Global) -> Parts<Guest, Global>
+        requires { (s : Guest) × (self.old.guest ≡ Some s) }
+        ensures { (self.old.guest ≡ Some result.value) × (self.new.guest ≡ None) }
+    {
+        Parts {
+            ptr: self.at as *mut Guest,
+            alloc,
+        }
+    }
+
+    // Writes the pointer, and what the parts owned goes with it.
+    fn put_parts(&mut self, parts: Parts<Guest, Global>)
+        requires { self.old.guest ≡ None }
+        ensures { self.new.guest ≡ Some parts.value }
+    {
+        let Parts { ptr, alloc: _ } = parts;
+        self.at = ptr as *mut u8;
+    }
+
+    /// Takes the guest out.
+    pub fn take(&mut self, alloc: Global) -> Box<Guest>
+        requires { (s : Guest) × (self.old.guest ≡ Some s) }
+        ensures { (self.old.guest ≡ Some result.value) × (self.new.guest ≡ None) }
+    {
+        self.take_parts(alloc).into_box()
+    }
+
+    /// Puts a guest in.
+    pub fn put(&mut self, guest: Box<Guest>)
+        requires { self.old.guest ≡ None }
+        ensures { self.new.guest ≡ Some guest.value }
+    {
+        self.put_parts(Parts::of(guest));
+    }
+}

@@ -1,0 +1,11 @@
+use Rattle.std.proofs.lemmas.Result.{IfOk-weaker}
+use Rattle.distping_report.specs.Layouts.{node_layout}
+use Rattle.distping_report.specs.Objects.{shape_of}
+use Rattle.distping_report.proofs.Shallow.{node_shallow}
+use Rattle.distping_report.proofs.objects.nodes.node_line.Goals as goal
+
+pub returns : goal.returns
+returns c =
+    let layout = node_layout c.args.node.now (shape_of c.args.name) c.args.outcome.now in
+    let shallow = node_shallow c.args.node.now c.args.name c.args.outcome.now in
+    IfOk-weaker c.end_line.result _ _ (λ line ends. ends c.in_ok-out.out c.in_ok-out.ensures layout shallow.less c.in_ok-put_node.ensures) c.end_line.ensures

@@ -1,0 +1,7 @@
+use Rattle.std.proofs.Common.{rules, string_bytes, subst}
+use Rattle.std.proofs.lemmas.Result.{IfOk-weaker}
+use Rattle.distping_report.specs.Objects.{IsObjectLine}
+use Rattle.distping_report.proofs.objects.watched.object_of_change.Goals as goal
+
+pub returns : goal.returns
+returns c = IfOk-weaker c.object_line.result _ _ (λ line is. subst (λ l. IsObjectLine l (string_bytes line)) (search rules) is) c.object_line.ensures

@@ -1,0 +1,78 @@
+//! Values that several kinds of objects share.
+
+ghost use Rattle.std.specs.Prelude.{◌≡◌, option_map};
+ghost use Rattle.dist_messages.specs.Spelling.{text_of};
+ghost use Rattle.distping_report.specs.Layouts.{address_text, answer_word, release_word};
+ghost use Rattle.distping_report.specs.Objects.{number, number_or_null, shape_of, text_or_null};
+
+use crate::objects::member::Value;
+use dist_flags::Release;
+use dist_messages::Status;
+use dist_probe::{ProbeVerdict, Unreached};
+use std::net::SocketAddr;
+
+/// A number of 16 bits.
+pub fn small_number(value: u16) -> Value<'static>
+    ensures { shape_of result ≡ number value }
+{
+    Value::Number(u64::from(value))
+}
+
+/// A number, or null.
+pub fn number_or_null(value: Option<u16>) -> Value<'static>
+    ensures { shape_of result ≡ number_or_null value }
+{
+    match value {
+        Some(value) => small_number(value),
+        None => Value::Null,
+    }
+}
+
+/// An address without its port, or null.
+pub fn address_or_null(address: Option<SocketAddr>) -> Value<'static>
+    ensures { shape_of result ≡ text_or_null (option_map address_text address) }
+{
+    match address {
+        Some(address) => Value::Host(address.ip()),
+        None => Value::Null,
+    }
+}
+
+/// The status that the node sent, or null.
+pub fn status_or_null(status: Option<Status>) -> Value<'static>
+    ensures { shape_of result ≡ text_or_null (option_map text_of status) }
+{
+    match status {
+        Some(status) => Value::Name(status.text()),
+        None => Value::Null,
+    }
+}
+
+/// How a connect ended, if the verdict is about that, or null.
+pub fn answer_or_null(verdict: ProbeVerdict) -> Value<'static>
+    ensures { shape_of result ≡ text_or_null (answer_word verdict) }
+{
+    match verdict {
+        ProbeVerdict::MapperRefused | ProbeVerdict::PortRefused => Value::Text(
+            Unreached::Refused.name(),
+        ),
+        ProbeVerdict::MapperUnreachable(unreached) | ProbeVerdict::PortUnreachable(unreached) => {
+            Value::Text(unreached.name())
+        }
+        _ => Value::Null,
+    }
+}
+
+/// The word of a release.
+pub fn release_word(release: Release) -> &'static str
+    ensures { result.now ≡ release_word release }
+{
+    match release {
+        Release::Before23 => "before 23",
+        Release::Otp23 => "23",
+        Release::Otp24 => "24",
+        Release::Otp25 => "25",
+        Release::Otp28 => "28",
+        Release::Otp29 => "29",
+    }
+}
