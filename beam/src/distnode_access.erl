@@ -26,11 +26,11 @@ cookie_for(Peer) ->
 
 %% The library reads a cookie as the file .erlang.cookie has it, where spaces at the end belong to none; OTP takes any atom.
 text(Cookie) ->
-    case unicode:characters_to_list(atom_to_binary(Cookie, utf8)) of
-        [] -> {error, 'CookieEmpty'};
+    case atom_to_binary(Cookie, utf8) of
+        <<>> -> {error, 'CookieEmpty'};
         Text ->
-            case {lists:all(fun(C) -> C >= 16#20 andalso C =< 16#7E end, Text), lists:last(Text)} of
-                {true, Last} when Last =/= $\s -> {ok, list_to_binary(Text)};
+            case {[C || <<C>> <= Text, C < 16#20 orelse C > 16#7E], binary:last(Text)} of
+                {[], Last} when Last =/= $\s -> {ok, Text};
                 _ -> {error, 'CookieBadByte'}
             end
     end.

@@ -27,8 +27,8 @@ call_epmd(Epmd, Function, Arguments) ->
 
 %% The address of the peer at a socket: it ends the process where the connection is gone.
 remote(Transport, Socket, Node) ->
-    case {Transport:peername(Socket), dist_util:split_node(Node)} of
-        {{ok, {Ip, _} = Address}, {node, _, Host}} ->
+    case {Transport:peername(Socket), split(Node)} of
+        {{ok, {Ip, _} = Address}, {_, [$@ | Host]}} ->
             #net_address{address = Address, host = Host, protocol = Transport:protocol(), family = (driver(Ip)):family()};
         _ -> ?shutdown(no_node)
     end.
@@ -59,8 +59,8 @@ nodelay() ->
 
 %% The parts of a node's name: it ends the process where the host has dots and may have none, or the other way round.
 parts(Driver, Node, LongOrShort) ->
-    case string:split(atom_to_list(Node), "@") of
-        [Name, Host] when Host =/= [] ->
+    case split(Node) of
+        {Name, [$@ | Host]} when Host =/= [] ->
             IsLong = lists:member($., Host),
             case {LongOrShort, IsLong} of
                 {longnames, false} ->
@@ -75,6 +75,8 @@ parts(Driver, Node, LongOrShort) ->
             error_logger:error_msg("** Nodename ~p illegal **~n", [Node]),
             ?shutdown(Node)
     end.
+
+split(Node) -> lists:splitwith(fun(C) -> C =/= $@ end, atom_to_list(Node)).
 
 -spec bad_host(string(), string(), node()) -> no_return().
 bad_host(How, Host, Node) ->

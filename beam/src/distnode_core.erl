@@ -308,7 +308,7 @@ ignored({_, St}) -> St.
 watch(Pid, #st{watched = Watched} = St) when is_map_key(Pid, Watched) -> St;
 watch(Pid, #st{watched = Watched} = St) -> St#st{watched = Watched#{Pid => monitor(process, Pid)}}.
 
-note(What, #st{counts = Counts} = St) -> St#st{counts = maps:update_with(What, fun(N) -> N + 1 end, 1, Counts)}.
+note(What, #st{counts = Counts} = St) -> St#st{counts = Counts#{What => maps:get(What, Counts, 0) + 1}}.
 
 %% ---- the node
 

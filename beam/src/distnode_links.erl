@@ -126,7 +126,7 @@ refused(Peer, Code, L) ->
 
 named(Id, Peer, L) ->
     case link_of(Id, L) of
-        #link{} = Link -> {ok, [], put_link(Id, Link#link{peer = Peer}, L)};
+        #link{} = Link -> {ok, [], change(Id, Link#link{peer = Peer}, L)};
         none -> {ok, [], L}
     end.
 
@@ -134,7 +134,7 @@ named(Id, Peer, L) ->
 vetoed(Id, Pid, L) ->
     case link_of(Id, L) of
         #link{owner = Pid, stage = Stage, peer = Peer} = Link when Peer =/= none, Stage =:= shaking orelse Stage =:= ready ->
-            L1 = put_link(Id, Link#link{stage = ready}, L),
+            L1 = change(Id, Link#link{stage = ready}, L),
             case want_of(Peer, L1) of
                 #want{} = Want -> give(Id, Want, L1);
                 none -> {retry, [], L1}
@@ -169,7 +169,7 @@ handed(Id, Giver, L) ->
 came_up(Id, Pid, L) ->
     case link_of(Id, L) of
         #link{owner = Pid, stage = Stage, peer = Peer} = Link when Stage =:= shaking; Stage =:= ready ->
-            L1 = put_link(Id, Link#link{stage = admitted}, L),
+            L1 = change(Id, Link#link{stage = admitted}, L),
             case want_of(Peer, L1) of
                 #want{setup = Pid} -> {ok, [], drop_want(Peer, L1)};
                 _ -> {ok, [], L1}
@@ -179,7 +179,7 @@ came_up(Id, Pid, L) ->
 
 done(Id, Pid, L) ->
     case link_of(Id, L) of
-        #link{owner = Pid, stage = admitted} -> {ok, [], move(Id, admitted, up, L)};
+        #link{owner = Pid, stage = admitted} = Link -> {ok, [], change(Id, Link#link{stage = up}, L)};
         _ -> {gone, [], L}
     end.
 
@@ -250,9 +250,8 @@ link_of(Id, #links{ends = Ends}) -> maps:get(Id, Ends, none).
 want_of(Peer, #links{wants = Wants}) -> maps:get(Peer, Wants, none).
 holdings(Pid, #links{held = Held}) -> maps:get(Pid, Held, []).
 
-move(Id, From, To, L) ->
-    #link{stage = From} = Link = link_of(Id, L),
-    put_link(Id, Link#link{stage = To}, L).
+%% Of an end whose owner and giver stay.
+change(Id, Link, #links{ends = Ends} = L) -> L#links{ends = Ends#{Id := Link}}.
 
 put_link(Id, Link, L) ->
     #links{ends = Ends} = L1 = drop_link(Id, L),

@@ -26,9 +26,9 @@
 %% node has closed the end meanwhile. An own dial throws {distnode, {message, What, Kept}} where a message came to this process
 %% instead of a frame, with what to begin with again; {distnode, {closed, Why, Status}} or {distnode, {failed, Why}}.
 -spec other_started(module(), pid(), term(), map(), {node(), [term()]}, pid()) -> no_return().
-other_started(Transport, Kernel, Socket, Info, {MyNode, Allowed}, Timer) ->
+other_started(Transport, Kernel, Socket, #{cookie := {ok, Cookie}} = Info, {MyNode, Allowed}, Timer) ->
     Data = data(Transport, Kernel, Socket, MyNode, Timer, Info),
-    start(accepted, Transport, Socket, Info),
+    start(accepted, Transport, Socket, Info#{cookie := Cookie}),
     try dist_util:handshake_other_started(Data#hs_data{allowed = Allowed})
     catch
         exit:shutdown ->
@@ -75,7 +75,7 @@ keep(Script) ->
     ok.
 
 send(accepted, <<"snok">>, _) -> throw({distnode, nok});
-send(accepted, <<$s, _/binary>>, Script) -> ask_cookie(Script);
+send(accepted, <<$s, _/binary>>, _) -> ok;
 send(accepted, <<$N, Flags:64, Challenge:32, _/binary>>, Script) -> challenged(Flags, Challenge, Script);
 send(accepted, <<$a, _/binary>>, Script) -> admitted(Script);
 send(dialled, <<$N, Flags:64, _/binary>>, Script) -> challenged(Flags, none, Script);
@@ -87,9 +87,7 @@ recv() ->
 
 %% Of an accepted peer: its name, `true` where net_kernel asks whether it lives, its reply.
 recv(accepted, [], Script) -> {ok, name(Script)};
-recv(accepted, [<<"salive">>], Script) ->
-    ask_cookie(Script),
-    {ok, "strue"};
+recv(accepted, [<<"salive">>], _) -> {ok, "strue"};
 recv(accepted, [<<$N, _/binary>> | _], Script) -> {ok, [$r, 0, 0, 0, 0 | digest(Script)]};
 %% Of a dialled peer: a status, its challenge, its acknowledgement.
 recv(dialled, [<<$N, _/binary>>], Script) ->
@@ -202,12 +200,13 @@ number(Creation) -> Creation.
 %% The digest that dist_util expects. That the peer has shown the right one is the node's decision, made already.
 digest(#{cookie := Cookie, challenge := Challenge}) -> binary_to_list(digest(Cookie, Challenge)).
 
-digest(Cookie, Challenge) -> erlang:md5([atom_to_list(Cookie) | integer_to_list(Challenge)]).
+digest(Cookie, Challenge) -> erlang:md5([Cookie | integer_to_list(Challenge)]).
 
-%% dist_util asks for the cookie next. Where it is changed in between, an accepted peer is refused before its acknowledgement.
+%% dist_util asks for the cookie next. An accepted peer has the cookie that was asked for at its name: where that is changed before
+%% dist_util asks, the peer is refused before its acknowledgement.
 ask_cookie(#{peer := Peer} = Script) -> keep(Script#{cookie => cookie(Peer)}).
 
-cookie(Peer) -> erlang:get_cookie(binary_to_atom(Peer, latin1)).
+cookie(Peer) -> atom_to_list(erlang:get_cookie(binary_to_atom(Peer, latin1))).
 
 %% A dialled peer may have said its acknowledgement by now. The digest of the challenge 0 shows which cookie dist_util was given.
 replied(Challenge, Shown, #{peer := Peer, cookie := Asked} = Script) ->

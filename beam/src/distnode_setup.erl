@@ -3,7 +3,7 @@
 %% ready with that peer, its own dial or a connection that the peer made meanwhile; that one it holds to its end. A process
 %% beside it finds the peer and connects, so that another end can be reported to it at any time.
 -module(distnode_setup).
--export([start/7, setup/8, dial/2]).
+-export([start/7, setup/8, dial/3]).
 
 -include_lib("kernel/include/dist_util.hrl").
 
@@ -37,23 +37,21 @@ not_hidden(hidden, Node) ->
     end;
 not_hidden(_, _) -> ok.
 
-%% The peer is looked for while the node is asked, and is connected to only once the node dials.
 want(#setup{left = 0} = S) -> failed(S, gave_up);
-want(#setup{peer = Peer, left = Left} = S0) ->
-    S = start_dialler(S0#setup{left = Left - 1}),
+want(#setup{peer = Peer, left = Left, wait = Wait} = S0) ->
+    S = S0#setup{left = Left - 1},
     ok = distnode_core:want(distnode_access:of_peer(Peer, [])),
     receive
         {distnode, {dial, End}} -> dial_now(End, S)
-    after 0 -> await(end_dial(S), S#setup.wait)
+    after 0 -> await(S, Wait)
     end.
-
-dial_now(End, #setup{dialler = none} = S) -> dial_now(End, start_dialler(S));
-dial_now(End, #setup{dialler = Dialler, wait = Wait} = S) ->
-    Dialler ! {self(), {dial, End}},
-    await(S#setup{end_of = End}, 6 * Wait).
 
 %% A dial has its times for the port mapper, the connection and each frame; without one this process waits for an end that
 %% somebody else has with that peer.
+dial_now(End, #setup{transport = Transport, driver = Driver, name = Name, host = Host, wait = Wait} = S) ->
+    Dialler = spawn_opt(?MODULE, dial, [self(), End, {Transport, Driver, Name, Host, Wait}], distnode_carrier:setup_options()),
+    await(S#setup{dialler = Dialler, end_of = End}, 6 * Wait).
+
 await(#setup{dialler = Dialler} = S, Wait) ->
     receive
         {distnode, Message} -> receive_message(Message, S, Wait);
@@ -62,7 +60,6 @@ await(#setup{dialler = Dialler} = S, Wait) ->
     after Wait -> failed(S, gave_up)
     end.
 
-receive_message({dial, End}, #setup{socket = none, end_of = none} = S, _) -> dial_now(End, S);
 receive_message({dial, End}, S, _) -> dial_now(End, end_dial(S));
 receive_message({ready, Transport, Socket, Info}, S, _) -> bring_up(Transport, Socket, Info, end_dial(S));
 receive_message({failed, Code}, S, _) ->
@@ -113,9 +110,6 @@ over('StatusRefused', nok, S) -> await_other(S);
 over(Why, _, S) when Why =:= 'Crossed'; Why =:= 'Replaced'; Why =:= 'GaveUp' -> want(S);
 over(Why, _, S) -> failed(S, Why).
 
-start_dialler(#setup{dialler = none, transport = Transport, driver = Driver, name = Name, host = Host, wait = Wait} = S) ->
-    S#setup{dialler = spawn_opt(?MODULE, dial, [self(), {Transport, Driver, Name, Host, Wait}], distnode_carrier:setup_options())}.
-
 %% A dial that another end has overtaken, or that the node has closed.
 end_dial(#setup{dialler = none, socket = none} = S) -> S#setup{end_of = none};
 end_dial(#setup{dialler = none, socket = Socket, transport = Transport} = S) ->
@@ -134,19 +128,12 @@ end_dial(#setup{dialler = Dialler} = S) ->
     after 0 -> end_dial(S#setup{dialler = none})
     end.
 
-%% A setup that is killed where it ends its dialler has let its link go (end_dial/1).
-dial(Setup, {Transport, Driver, Name, Host, Wait}) ->
-    Ref = monitor(process, Setup),
-    Found = distnode_address:find(Driver, Name, Host),
-    receive
-        {Setup, {dial, End}} ->
-            case connect(Found, {Transport, Driver, Host, Wait}) of
-                {ok, Socket} ->
-                    ok = distnode_recording:connection(Transport, Socket),
-                    say_name(Setup, Transport, Socket, End);
-                {error, Why} -> Setup ! {self(), {failed, Why}}
-            end;
-        {'DOWN', Ref, process, Setup, _} -> ok
+dial(Setup, End, {Transport, Driver, Name, Host, Wait}) ->
+    case connect(distnode_address:find(Driver, Name, Host), {Transport, Driver, Host, Wait}) of
+        {ok, Socket} ->
+            ok = distnode_recording:connection(Transport, Socket),
+            say_name(Setup, Transport, Socket, End);
+        {error, Why} -> Setup ! {self(), {failed, Why}}
     end.
 
 connect({ok, Ip, Port}, {Transport, Driver, Host, Wait}) -> Transport:connect(Driver, Ip, Port, Host, Wait);

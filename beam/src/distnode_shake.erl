@@ -25,7 +25,7 @@
 -spec accepted(module(), {Socket :: term(), Begun :: non_neg_integer()}, [term()], timeout()) -> outcome().
 accepted(Transport, {Socket, Begun}, Allowed, Wait) ->
     S = #shake{transport = Transport, socket = Socket, wait = Wait, begun = Begun},
-    case next([binary, {packet, Transport:packet()}, distnode_address:nodelay(), {nopush, true}], S) of
+    case await(activate([binary, {packet, Transport:packet()}, distnode_address:nodelay(), {nopush, true}], S), S) of
         {frame, <<$N, Flags:64, _:32, Size:16, Host:Size/binary, _/binary>> = Body} when Flags band ?DFLAG_NAME_ME =/= 0 ->
             case Allowed =:= [] orelse is_certified(Host, S) of
                 true -> {nameless, Body};
@@ -35,34 +35,36 @@ accepted(Transport, {Socket, Begun}, Allowed, Wait) ->
         Closed -> Closed
     end.
 
-named(Body, none, _, #shake{begun = Begun} = S) -> arrived(distnode_core:arrived(Body, none, Begun), S);
+named(Body, none, _, #shake{begun = Begun} = S) -> arrived(distnode_core:arrived(Body, none, Begun), none, S);
 named(Body, Peer, Allowed, #shake{begun = Begun} = S) ->
-    Access = case distnode_access:of_peer(Peer, Allowed) of
-                 #{allowed := true} = Listed -> Listed#{allowed := is_certified(Peer, S)};
-                 Other -> Other
-             end,
-    arrived(distnode_core:arrived(Body, Access, Begun), S#shake{peer = Peer}).
+    #{cookie := Cookie} =
+        Access = case distnode_access:of_peer(Peer, Allowed) of
+                     #{allowed := true} = Listed -> Listed#{allowed := is_certified(Peer, S)};
+                     Other -> Other
+                 end,
+    arrived(distnode_core:arrived(Body, Access, Begun), Cookie, S#shake{peer = Peer}).
 
 %% Where there is an allow list: has the peer shown a certificate of the host in its name, if any?
 is_certified(Name, #shake{transport = Transport, socket = Socket}) ->
     Transport:is_certified(Socket, binary_to_list(lists:last(binary:split(Name, <<"@">>)))).
 
-arrived({ok, End, Answer}, S) -> taken(Answer, S#shake{own_end = End});
-arrived({error, Code}, S) -> taken({error, Code}, S).
+arrived({ok, End, Answer}, Cookie, S) -> taken(Answer, S#shake{own_end = End#{cookie => Cookie}});
+arrived({error, Code}, _, S) -> taken({error, Code}, S).
 
-go_on(#shake{own_end = End} = S) ->
-    case next([{nopush, false}], S) of
+%% The timer is started, or has its whole time again, while the peer has the challenge.
+go_on(S0) ->
+    Activated = activate([{nopush, false}], S0),
+    #shake{own_end = End} = S = with_timer(S0),
+    case await(Activated, S) of
         {frame, Body} -> taken(distnode_core:early(Body, End), S);
         Closed -> Closed
     end.
 
-next(Options, #shake{transport = Transport, socket = Socket} = S) ->
-    case Transport:setopts(Socket, Options ++ [{active, once}]) of
-        ok -> await(Transport:messages(), S);
-        {error, _} -> given_up(ended, S)
-    end.
+activate(Options, #shake{transport = Transport, socket = Socket}) -> Transport:setopts(Socket, Options ++ [{active, once}]).
 
-await({Data, Closed, Error}, #shake{socket = Socket, own_end = End, wait = Wait} = S) ->
+await({error, _}, S) -> given_up(ended, S);
+await(ok, #shake{transport = Transport, socket = Socket, own_end = End, wait = Wait} = S) ->
+    {Data, Closed, Error} = Transport:messages(),
     Id = case End of #{id := Own} -> Own; none -> none end,
     receive
         {Data, Socket, Body} -> {frame, Body};
@@ -74,7 +76,7 @@ await({Data, Closed, Error}, #shake{socket = Socket, own_end = End, wait = Wait}
 
 taken({more, Bodies}, #shake{transport = Transport, socket = Socket} = S) ->
     case say(Transport, Socket, Bodies) of
-        ok -> go_on(with_timer(S));
+        ok -> go_on(S);
         _ -> given_up(write_failed, S)
     end;
 taken({closed, Bodies, Why, _}, #shake{transport = Transport, socket = Socket} = S) ->

@@ -37,12 +37,11 @@ is_certified(_Socket, _Host) -> true.
 %% The emulator's connection is there as long as this port or process is.
 controller(Socket) -> Socket.
 
-%% What dist_util does with a connection that comes up, where that differs.
+%% What dist_util does with a connection that comes up, where that differs. Its socket is passive, and has the option nodelay.
 hs_data(Socket) ->
     #hs_data{
-       f_setopts_pre_nodeup = fun(_) -> setopts(Socket, [{active, false}, {packet, 4}, distnode_address:nodelay()]) end,
-       f_setopts_post_nodeup =
-           fun(_) -> setopts(Socket, [{active, true}, {deliver, port}, {packet, 4}, binary, distnode_address:nodelay()]) end,
+       f_setopts_pre_nodeup = fun(_) -> setopts(Socket, [{packet, 4}]) end,
+       f_setopts_post_nodeup = fun(_) -> setopts(Socket, [{active, true}, {deliver, port}, binary]) end,
        mf_tick = fun(_) -> tick(Socket) end,
        f_handshake_complete = fun(_, _, _) -> ok end}.
 

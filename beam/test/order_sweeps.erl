@@ -95,8 +95,8 @@ replaced(Old, #nodes{swept = S, port = Port}) ->
     IsUp.
 
 %% A node that has given out most of its numbers, and has two peers up.
-nearly_spent(#nodes{swept = S, p = P, t = T, port = Port}) ->
-    true = begun_anew(spent(S), {T, S}, S, 2 * ?MOST),
+nearly_spent(#nodes{swept = S, p = P, t = T, port = Port} = Nodes) ->
+    true = begun_anew(spent(S), {T, S}, Nodes, 2 * ?MOST),
     true = cases:connect(P, S),
     Held = comes('peer@127.0.0.1', Port),
     use_up(T, S),
@@ -108,17 +108,25 @@ use_up(T, S) ->
     cases:apart(T, S),
     [use_up(T, S) || Id < ?MOST - 1].
 
-renewed(Held, Who, #nodes{swept = S}) ->
-    IsRenewed = begun_anew(spent(S), Who, S, 6),
+renewed(Held, Who, #nodes{swept = S} = Nodes) ->
+    IsRenewed = begun_anew(spent(S), Who, Nodes, 6),
     IsClosed = is_closed(Held),
     gen_tcp:close(Held),
     IsRenewed andalso IsClosed.
 
+%% A node that has begun anew doesn't take the connection that comes next.
 begun_anew(_, _, _, 0) -> false;
-begun_anew(Before, {X, Y}, S, Left) ->
+begun_anew(Before, {X, Y}, #nodes{swept = S, t = T} = Nodes, Left) ->
+    _ = attempted(X, Y),
+    case spent(S) > Before of
+        true -> attempted(T, S);
+        false -> begun_anew(Before, {X, Y}, Nodes, Left - 1)
+    end.
+
+attempted(X, Y) ->
     _ = cases:connect(X, Y),
     cases:apart(X, Y),
-    spent(S) > Before orelse begun_anew(Before, {X, Y}, S, Left - 1).
+    true.
 
 spent(S) -> maps:get(spent, test_nodes:call(S, distnode_core, counts, []), 0).
 

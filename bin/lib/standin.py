@@ -1,8 +1,9 @@
 """A node and its port mapper that keep every row of share/conformance, but for one fault that is planted. It shares no code with distcheck,
 nor with the other programs: it is written from the ERTS User's Guide, Distribution Protocol.
 
-usage: standin.py COOKIE [FAULT]     prints its node's port, its port mapper's, and one at which it dials whatever name comes in a line;
-                                     serves until its input ends
+usage: standin.py COOKIE [FAULT]          prints its node's port, its port mapper's, and one at which it dials whatever name comes in a
+                                          line; serves until its input ends
+       standin.py COOKIE FAULT PORT       the node alone: registers at the port mapper of this port, and serves as long as that
 
 The faults of the node: noextra (closes where bytes stand behind the name), prefix (compares 8 bytes of a digest), signed (digests a challenge
 as a number with a sign), longreply (takes a reply with bytes behind it), nomap (does not require MAP_TAG), announces (does not announce
@@ -10,7 +11,9 @@ NEW_FLOATS), onepiece (loses what stands behind a message in the same piece), tw
 tick ends the connection), samechallenge, creation0, saysno (not_allowed behind a wrong digest), forgets (no alive: a second name is answered by
 ok), takeover (a second name ends the first connection). Of its dials: noack (takes any acknowledgement), anyname (a challenge of any name),
 crossing (the lesser name wins), nodoom (what ok_simultaneous gave up comes up), tail (a byte behind its name), nocomplement (none behind an
-old name), oldname (one of version 6 and without HANDSHAKE_23), oldchallenge (takes one behind a name N). Of the port mapper: stale (keeps a
+old name), oldname (one of version 6 and without HANDSHAKE_23), oldchallenge (takes one behind a name N), redials (a name that is up). Where it
+registers: protocol1, fullname (the name with its host), hangsup (ends the connection once it is answered), owncreation (not the one that it was
+given), oneread (an answer comes in one piece, or is none), anyanswer (takes any answer). Of the port mapper: stale (keeps a
 name for 3 seconds), noextramap (forgets the extra), namesport (4369 in front of the names), cutreg (registers what was cut), serial (one
 client at a time), always6 (a creation of 32 bits to whoever knows version 5), staysopen (no end behind a lookup), onewrite (closes a request
 in pieces).
@@ -257,7 +260,7 @@ def dial(name):
     it = Connection(socket.socket())
     with LOCK:
         entry, peer = NAMES.get(name.partition(b"@")[0]), PEERS.setdefault(name, {})
-        if peer or not entry:
+        if not entry or peer and FAULT != "redials":
             return
         peer["dialled"] = it
     try:
@@ -289,6 +292,37 @@ def close(stream):
     except OSError:
         pass
     stream.close()
+
+
+def creation_of(it):
+    """The creation of the answer to a registration, or None where it is refused, or no answer."""
+    if FAULT == "oneread":
+        answer = it.recv(64)
+    else:
+        answer = it.recv(1)
+        answer += it.recv({b"v": 5, b"y": 3}.get(answer, 0), socket.MSG_WAITALL)
+    if FAULT == "anyanswer" or len(answer) == {b"v": 6, b"y": 4}.get(answer[:1]) and not answer[1]:
+        return int.from_bytes(answer[2:], "big")
+    return None
+
+
+def register_at(port):
+    """Registers at a port mapper, and serves with the creation that it gives, as long as it keeps the connection."""
+    global CREATION
+    listener, name = socket.create_server((HOST, 0), backlog=128), ME if FAULT == "fullname" else ME.partition(b"@")[0]
+    fields = struct.pack(">HBBHHH", listener.getsockname()[1], 77, FAULT == "protocol1", 6, 5, len(name))
+    with socket.create_connection((HOST, port)) as it:
+        Connection(it).say(b"x" + fields + name + b"\0\0")
+        creation = creation_of(it)
+        if creation is None:
+            return
+        CREATION = CREATION if FAULT == "owncreation" else creation
+        threading.Thread(target=serve, args=(listener, accept), daemon=True).start()
+        if FAULT != "hangsup":
+            while it.recv(64):
+                pass
+            return
+    time.sleep(SETUP)
 
 
 # --- the port mapper ---
@@ -399,6 +433,9 @@ def serve(listener, talk):
 
 
 def main():
+    if sys.argv[3:]:
+        register_at(int(sys.argv[3]))
+        return
     talks = (accept, serve_client, obey)
     listeners = [socket.create_server((HOST, 0), backlog=128) for _ in talks]
     for listener, talk in zip(listeners, talks):

@@ -6,6 +6,7 @@ complete -c distcheck -l epmd-port -x -d 'the port of the port mapper of the nod
 complete -c distcheck -l port -x -d 'the port of the node'
 complete -c distcheck -l mapper -x -d 'the port mapper to check'
 complete -c distcheck -l make-it-dial -x -d 'who makes the node dial'
+complete -c distcheck -l start -x -d 'who starts the node'
 complete -c distcheck -l quick -d 'leave out slow rows'
 complete -c distcheck -l harsh -d 'play rows too that can end a fragile node'
 complete -c distcheck -l strict -d 'every level counts'

@@ -1,11 +1,9 @@
 -- All nodes begin.
-use Rattle.dist_audit.proofs.Words.{◌≡◌, ℕ, suc, ◌+◌, ◌<◌, ◌≤◌, cond, ltb, is_none, ◌&&◌, List, [], ◌∷◌, ◌++◌, length, Option, Some, None, slice_get, refl, sym}
-use Rattle.dist_audit.proofs.Words.{ap, subst, ◌∙◌, arith, append_assoc, length-append, option_map, lt-ltb, Setup, Happening, first_where, World, Life, empty}
-use Rattle.dist_audit.proofs.Words.{runs, runs_for, running, begin, without_closing, applied_at, happens, ticked_on, there, one_where, begins, AllApply}
-use Rattle.dist_world_model.proofs.Conditions.{holds}
-use Rattle.dist_world_model.specs.Happenings.{new_life}
+use Rattle.dist_audit.proofs.Words.{◌≡◌, ℕ, suc, ◌+◌, ◌<◌, ◌≤◌, cond, ◌&&◌, ltb, List, [], ◌∷◌, ◌++◌, length, is_none, slice_get, Some, None, Option}
+use Rattle.dist_audit.proofs.Words.{option_map, sym, refl, ap, ◌∙◌, subst, append_assoc, arith, length-append, lt-ltb, ne_eqb, Setup, first_where, one_where}
+use Rattle.dist_audit.proofs.Words.{Life, World, empty, running, runs, runs_for, Happening, holds, there, AllApply, begins}
+use Rattle.dist_world_model.specs.Happenings.{applied_at, begin, happens, new_life, ticked_on, without_closing}
 use Rattle.dist_world_model.specs.declared.happening.Happening.TheVariants as happening
-use Rattle.dist_audit.proofs.Numbers.{eqb-not}
 
 -- these are incarnations of nodes below number i
 abbrev AreBelow : ℕ → List Life → Type 0
@@ -19,7 +17,7 @@ below-more i (x ∷ ls) l e h = (omega (arith, h.0), below-more i ls l e h.1)
 none-runs : (i : ℕ) (ls : List Life) → AreBelow i ls → first_where (runs_for i) ls ≡ None
 none-runs i [] h = refl
 none-runs i (l ∷ ls) h =
-    ap (λ b. cond (b && runs l) (Some 0) (option_map suc (first_where (runs_for i) ls))) (eqb-not l.who i (λ e. omega (arith, e, h.0)))
+    ap (λ b. cond (b && runs l) (Some 0) (option_map suc (first_where (runs_for i) ls))) (ne_eqb l.who i (λ e. omega (arith, e, h.0)))
     ∙ ap (λ o. option_map suc o) (none-runs i ls h.1)
 
 at-end : (pre ss : List Setup) (s : Setup) → slice_get (pre ++ s ∷ ss) (length pre) ≡ Some s

@@ -1,20 +1,19 @@
 -- A link comes to the node of its line: the connection of its number leads to the incarnation of that node.
-use Rattle.dist_audit.proofs.Words.{◌≡◌, ℕ, suc, ◌+◌, cond, ltb, is_none, ◌&&◌, List, [], ◌∷◌, ◌++◌, length, Option, Some, None, slice_get, refl, sym, ap}
-use Rattle.dist_audit.proofs.Words.{subst, ◌∙◌, arith, append_assoc, option_map, Setup, Happening, first_where, World, Life, empty, runs, runs_for, running}
-use Rattle.dist_audit.proofs.Words.{begin, without_closing, applied_at, happens, ticked_on, one_where, begins, AllApply, Bool, true, false, ◌||◌, list_any}
-use Rattle.dist_audit.proofs.Words.{Closed, setups_of, links_unpaired, zero, eqb, not, IfSome, option_to_list, w16, eqb-true, first_body, Side, Dialler}
-use Rattle.dist_audit.proofs.Words.{Acceptor, EndId, is_dialing, Creation, Event, step, at_place, EndRow, Conn, Text, row_at, end_at, says, conns_after_saying}
-use Rattle.dist_audit.proofs.Words.{spoken_on, text_to, change_to, after_delivery, body_taken, notify, notify_node, new_conn, notify_opened, accept}
-use Rattle.dist_audit.proofs.Words.{accepted_by, next_end, is_open_end, is_nonempty, world_after, if_there, if_ok, if_holds, run, AreFollowed, AreOfOneWorld}
-use Rattle.dist_audit.proofs.Words.{after, NodeLine, opens, opens_in, comes, comes_in, dialled_end, dialled_in, or_else, is_among, dialler_of, acceptor_of}
-use Rattle.dist_audit.proofs.Words.{target_of, conn_of, with_mentions, reach, reach_first, before, own, repeats, links_repeat, is_unopened, comes_unopened}
-use Rattle.dist_audit.specs.Audit.{ComeHome, ComesHere, EachLinkComesHome}
-use Rattle.dist_audit.specs.Links.{link_in, mention}
-use Rattle.dist_world_model.specs.Happenings.{deliver, life_after, reached_life, take_frame, reach as happening_reach, conn_of as wire_number}
-use Rattle.dist_audit.specs.Audit as audit
+use Rattle.dist_audit.proofs.Words.{◌≡◌, ℕ, zero, suc, ◌+◌, Bool, true, false, cond, not, ◌&&◌, ◌||◌, eqb, ltb, List, [], ◌∷◌, ◌++◌, length, is_none, IfSome}
+use Rattle.dist_audit.proofs.Words.{slice_get, Some, None, Option, option_map, option_to_list, sym, refl, ap, ◌∙◌, subst, append_assoc, arith, w16, eq-eqb}
+use Rattle.dist_audit.proofs.Words.{eqb-true, or_parts, list_any, Creation, first_body, Side, Acceptor, Dialler, EndId, is_dialing, Setup, step, Event}
+use Rattle.dist_audit.proofs.Words.{after_delivery, body_taken, change_to, conns_after_saying, says, spoken_on, text_to, at_place, first_where, one_where, run}
+use Rattle.dist_audit.proofs.Words.{Conn, Life, Text, World, empty, end_at, row_at, running, runs, runs_for, Happening, if_holds, if_ok, if_there, Closed}
+use Rattle.dist_audit.proofs.Words.{AllApply, AreFollowed, AreOfOneWorld, ComeHome, ComesHere, EachLinkComesHome, after, comes_unopened, is_unopened}
+use Rattle.dist_audit.proofs.Words.{links_repeat, links_unpaired, repeats, before, begins, own, reach, reach_first, setups_of, with_mentions, NodeLine}
+use Rattle.dist_audit.proofs.Words.{acceptor_of, comes, comes_in, conn_of, dialled_end, dialled_in, dialler_of, is_among, link_in, mention, opens, opens_in}
+use Rattle.dist_audit.proofs.Words.{or_else, target_of}
 use Rattle.dist_core.specs.declared.event.Event.TheVariants as event
+use Rattle.dist_world_model.specs.Happenings.{accept, begin, deliver, notify_opened, take_frame, reach as happening_reach}
 use Rattle.dist_world_model.specs.declared.happening.Happening.TheVariants as happening
-use Rattle.dist_audit.proofs.Numbers.{eqb-self}
+use Rattle.dist_world_model.proofs.Words.{accepted_by, applied_at, conn_of as wire_number, happens, is_nonempty, is_open_end, life_after, new_conn, next_end}
+use Rattle.dist_world_model.proofs.Words.{notify, notify_node, reached_life, ticked_on, without_closing, world_after, EndRow}
+use Rattle.dist_audit.specs.Audit as audit
 
 -- ---- the incarnations that connections lead to
 
@@ -208,7 +207,7 @@ matches-at r home k (j ∷ ks) (p ∷ ps) e m = elim (eqb j k) as (λ b. eqb j k
 ] refl e
 
 among-last : (k : ℕ) (ks : List ℕ) → is_among k (ks ++ k ∷ []) ≡ true
-among-last k [] = ap (λ b. b || false) (eqb-self k)
+among-last k [] = ap (λ b. b || false) (eq-eqb k k refl)
 among-last k (j ∷ ks) = elim (eqb j k) as (λ b. (b || is_among k (ks ++ k ∷ [])) ≡ true) [ true ↦ refl | false ↦ among-last k ks ]
 
 among-mention : (k : ℕ) (ks : List ℕ) → is_among k (mention ks (Some k)) ≡ true
@@ -258,14 +257,6 @@ has-dialler k (t ∷ ts) e = by (λ h. has-dialler k ts h) (dialled_in k t) refl
         ] refl e) in
         (rest.0, ap (λ o. or_else t.node o (dialler_of k ts)) d ∙ rest.1)
 
-or-left : (a b : Bool) → (a || b) ≡ false → a ≡ false
-or-left true b e = absurd cc
-or-left false b e = refl
-
-or-right : (a b : Bool) → (a || b) ≡ false → b ≡ false
-or-right true b e = absurd cc
-or-right false b e = e
-
 -- an event in which this link comes
 comes-incoming : (k : ℕ) (e : Event) → comes k e ≡ true → e ≡ event.Incoming k
 comes-incoming k (event.Incoming j) o = ap (λ n. event.Incoming n) (eqb-true j k o)
@@ -280,9 +271,9 @@ acceptor-mine k [] ts t once c = ap (λ b. cond b (Some t.node) (acceptor_of k t
 acceptor-mine k (x ∷ pre) ts t once c = elim (comes_in k x) as (λ b. comes_in k x ≡ b → cond b (Some x.node) (acceptor_of k (pre ++ t ∷ ts)) ≡ Some t.node) [
   | true ↦ λ h.
       let is : (let l = x.line in l.event) ≡ event.Incoming k = comes-incoming k (let l = x.line in l.event) h in
-      let first : repeats (event.Incoming k) (pre ++ t ∷ ts) ≡ false = ap (λ e. repeats e (pre ++ t ∷ ts)) (sym is) ∙ or-left (repeats (let l = x.line in l.event) (pre ++ t ∷ ts)) (links_repeat (pre ++ t ∷ ts)) once in
+      let first : repeats (event.Incoming k) (pre ++ t ∷ ts) ≡ false = ap (λ e. repeats e (pre ++ t ∷ ts)) (sym is) ∙ (or_parts (repeats (let l = x.line in l.event) (pre ++ t ∷ ts)) (links_repeat (pre ++ t ∷ ts)) once).0 in
       absurd (let f : true ≡ false = sym (any-at (comes_in k) pre ts t c) ∙ first in cc)
-  | false ↦ λ h. acceptor-mine k pre ts t (or-right (repeats (let l = x.line in l.event) (pre ++ t ∷ ts)) (links_repeat (pre ++ t ∷ ts)) once) c
+  | false ↦ λ h. acceptor-mine k pre ts t (or_parts (repeats (let l = x.line in l.event) (pre ++ t ∷ ts)) (links_repeat (pre ++ t ∷ ts)) once).1 c
 ] refl
 
 -- ---- a line
@@ -305,15 +296,15 @@ Fine all i _ = Unit {0}
 
 fine : (all pre ts : List NodeLine) (t : NodeLine) → all ≡ pre ++ t ∷ ts → links_unpaired all ≡ false → (e : Event) → (let l = t.line in l.event) ≡ e → Fine all t.node e
 fine all pre ts t is paired (event.Opened id k) e =
-    let mine : opens_in k t ≡ true = ap (opens k) e ∙ eqb-self k in
+    let mine : opens_in k t ≡ true = ap (opens k) e ∙ eq-eqb k k refl in
     has-dialler k all (ap (list_any (opens_in k)) is ∙ any-at (opens_in k) pre ts t mine)
 fine all pre ts t is paired (event.Incoming k) e =
-    let once : links_repeat (pre ++ t ∷ ts) ≡ false = ap links_repeat (sym is) ∙ or-left (links_repeat all) (comes_unopened all) paired in
-    let opened-all : comes_unopened all ≡ false = or-right (links_repeat all) (comes_unopened all) paired in
+    let once : links_repeat (pre ++ t ∷ ts) ≡ false = ap links_repeat (sym is) ∙ (or_parts (links_repeat all) (comes_unopened all) paired).0 in
+    let opened-all : comes_unopened all ≡ false = (or_parts (links_repeat all) (comes_unopened all) paired).1 in
     let test : NodeLine → Bool = λ x. is_unopened all (let l = x.line in l.event) in
     let mine : is_unopened all (event.Incoming k) ≡ false = ap (is_unopened all) (sym e) ∙ none-at test pre ts t (ap (list_any test) (sym is) ∙ opened-all) in
     let some : list_any (opens_in k) all ≡ true = elim (list_any (opens_in k) all) as (λ b. not b ≡ false → b ≡ true) [ true ↦ λ q. refl | false ↦ λ q. absurd cc ] mine in
-    let here : comes_in k t ≡ true = ap (comes k) e ∙ eqb-self k in
+    let here : comes_in k t ≡ true = ap (comes k) e ∙ eq-eqb k k refl in
     (has-dialler k all some, ap (acceptor_of k) is ∙ acceptor-mine k pre ts t once here)
 fine all pre ts t is paired (event.Dial p o) e = tt
 fine all pre ts t is paired (event.Frame id body) e = tt

@@ -1,5 +1,4 @@
 pub mod Words
-pub mod Numbers
 pub mod Either
 pub mod Sorting
 pub mod Pairs

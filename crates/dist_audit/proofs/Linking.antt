@@ -1,11 +1,10 @@
 -- What lines say of links.
-use Rattle.dist_audit.proofs.Words.{◌≡◌, ℕ, suc, ◌<◌, ◌≤◌, cond, List, [], ◌∷◌, length, Option, Some, None, refl, sym, ap, subst, ◌∙◌, arith, Bool, true, false}
-use Rattle.dist_audit.proofs.Words.{◌||◌, list_any, zero, eqb, not, EndId, Event, NodeLine, opens, opens_in, comes_in, dialled_end, dialled_in, or_else}
-use Rattle.dist_audit.proofs.Words.{dialler_of, acceptor_of, repeats, links_repeat, is_unopened, comes_unopened, ◌-◌, is_some, get_or, drop, drop-cons, nat_cmp}
-use Rattle.dist_audit.proofs.Words.{BTreeMap, get}
-use Rattle.dist_audit.specs.Kept.{Knows, is_again, is_unknown}
+use Rattle.dist_audit.proofs.Words.{or-false, or-true, ◌≡◌, ℕ, zero, suc, ◌-◌, ◌<◌, ◌≤◌, Bool, true, false, cond, not, ◌||◌, eqb, List, [], ◌∷◌, length, get_or}
+use Rattle.dist_audit.proofs.Words.{drop, is_some, Some, None, Option, nat_cmp, BTreeMap, sym, refl, ap, ◌∙◌, subst, arith, drop-cons, get, list_any, EndId}
+use Rattle.dist_audit.proofs.Words.{Event, comes_unopened, is_unopened, links_repeat, repeats, Knows, is_again, is_unknown, NodeLine, acceptor_of, comes_in}
+use Rattle.dist_audit.proofs.Words.{dialled_end, dialled_in, dialler_of, opens, opens_in, or_else}
 use Rattle.dist_core.specs.declared.event.Event.TheVariants as event
-use Rattle.dist_audit.proofs.Either.{any-same, or-false, or-true}
+use Rattle.dist_audit.proofs.Either.{any-same}
 
 -- a line that opens names a dialler
 opened-is : (k : ℕ) (e : Event) → is_some (dialled_end k e) ≡ opens k e

@@ -1,10 +1,8 @@
 -- The numbers of links.
-use Rattle.dist_audit.proofs.Words.{◌≡◌, ℕ, suc, cond, List, [], ◌∷◌, ◌++◌, length, Option, Some, None, refl, sym, ap, ◌∙◌, arith, option_map, Bool, true}
-use Rattle.dist_audit.proofs.Words.{false, ◌||◌, eqb, is_among, conn_of, is_some, nat_cmp, BTreeMap, get, nat_tests}
-use Rattle.dist_audit.specs.Kept.{AreNumbers, number_of}
-use Rattle.std.specs.BTreeMap.{is_at}
+use Rattle.dist_audit.proofs.Words.{◌≡◌, ℕ, suc, Bool, true, false, cond, ◌||◌, eqb, List, [], ◌∷◌, ◌++◌, length, is_some, Some, None, Option, option_map}
+use Rattle.dist_audit.proofs.Words.{nat_cmp, BTreeMap, unwrap_or, sym, refl, ap, ◌∙◌, arith, or_parts, nat_tests, get, is_at, AreNumbers, number_of, conn_of}
+use Rattle.dist_audit.proofs.Words.{is_among}
 use Rattle.std.specs.Cmp.{unsigned_tied}
-use Rattle.std.specs.Option.{unwrap_or}
 
 some-place : (b : Bool) (o : Option ℕ) → is_some (cond b (Some 0) (option_map suc o)) ≡ (b || is_some o)
 some-place true o = refl
@@ -34,19 +32,11 @@ behind false false n o h = refl
 apart : (j k q : ℕ) → eqb j k ≡ false → eqb j q ≡ true → eqb k q ≡ false
 apart j k q e f = grind (arith, nat_tests)
 
-or-first : (a b : Bool) → (a || b) ≡ false → a ≡ false
-or-first true b e = absurd cc
-or-first false b e = refl
-
-or-second : (a b : Bool) → (a || b) ≡ false → b ≡ false
-or-second true b e = absurd cc
-or-second false b e = e
-
 pub number_more : (q k : ℕ) (ks : List ℕ) → is_among k ks ≡ false → number_of q (ks ++ k ∷ []) ≡ cond (eqb k q) (Some (length ks)) (number_of q ks)
 number_more q k [] h = refl
 number_more q k (j ∷ js) h =
-    ap (λ (o : Option ℕ). cond (eqb j q) (Some 0) (option_map suc o)) (number_more q k js (or-second (eqb j k) (is_among k js) h))
-    ∙ behind (eqb j q) (eqb k q) (length js) (number_of q js) (apart j k q (or-first (eqb j k) (is_among k js) h))
+    ap (λ (o : Option ℕ). cond (eqb j q) (Some 0) (option_map suc o)) (number_more q k js (or_parts (eqb j k) (is_among k js) h).1)
+    ∙ behind (eqb j q) (eqb k q) (length js) (number_of q js) (apart j k q (or_parts (eqb j k) (is_among k js) h).0)
 
 -- ---- the map of the numbers
 

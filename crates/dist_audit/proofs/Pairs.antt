@@ -1,11 +1,10 @@
 -- Links that are in pairs, in whatever order the lines stand.
-use Rattle.dist_audit.proofs.Words.{◌≡◌, List, [], ◌∷◌, refl, sym, ap, ◌∙◌, Bool, true, false, ◌||◌, list_any, IsDistinct, links_unpaired, not, Event, NodeLine}
-use Rattle.dist_audit.proofs.Words.{opens, opens_in, comes, repeats, links_repeat, is_unopened, comes_unopened, AllByRecursion, IsPermutation}
-use Rattle.dist_audit.proofs.Words.{IsPermutation-sym, IsDistinct-head, IsDistinct-tail, IsDistinct-cons, IsDistinct-IsPermutation}
-use Rattle.std.proofs.lemmas.List.Sorted.{list_any-IsPermutation}
+use Rattle.dist_audit.proofs.Words.{◌≡◌, Bool, true, false, not, ◌||◌, List, [], ◌∷◌, IsPermutation, sym, refl, ap, ◌∙◌, or_parts, AllByRecursion, IsDistinct}
+use Rattle.dist_audit.proofs.Words.{list_any, Event, comes_unopened, is_unopened, links_repeat, links_unpaired, repeats, NodeLine, comes, opens, opens_in}
+use Rattle.std.proofs.lemmas.List.Sorted.{IsPermutation-sym, list_any-IsPermutation}
+use Rattle.std.proofs.lemmas.Map.Keys.{IsDistinct-head, IsDistinct-tail, IsDistinct-cons, IsDistinct-IsPermutation}
 use Rattle.dist_core.specs.declared.event.Event.TheVariants as event
-use Rattle.dist_audit.proofs.Either.{any-same, distinct-none, left-false, right-false}
-use Rattle.dist_audit.proofs.Sorting.{flips}
+use Rattle.dist_audit.proofs.{Either.any-same, Either.distinct-none, Sorting.flips}
 
 abbrev event_of : NodeLine → Event
 event_of t = let l = t.line in l.event
@@ -65,7 +64,7 @@ none-is p h (t ∷ ts) = (λ i. h t i || none-is p h ts i)
 
 all-false : (p : NodeLine → Bool) (ts : List NodeLine) → list_any p ts ≡ false → AllByRecursion (λ u. p u ≡ false) ts
 all-false p [] e = tt
-all-false p (t ∷ ts) e = (left-false (p t) (list_any p ts) e, all-false p ts (right-false (p t) (list_any p ts) e))
+all-false p (t ∷ ts) e = ((or_parts (p t) (list_any p ts) e).0, all-false p ts (or_parts (p t) (list_any p ts) e).1)
 
 any-false : (p : NodeLine → Bool) (ts : List NodeLine) → AllByRecursion (λ u. p u ≡ false) ts → list_any p ts ≡ false
 any-false p [] h = refl
@@ -85,8 +84,8 @@ links-differ : (ts : List NodeLine) → links_repeat ts ≡ false → IsDistinct
 links-differ [] e = distinct-none again
 links-differ (t ∷ ts) e =
     IsDistinct-cons again t ts
-    (all-false (again t) ts (sym (repeats-any (event_of t) ts) ∙ left-false (repeats (event_of t) ts) (links_repeat ts) e))
-    (links-differ ts (right-false (repeats (event_of t) ts) (links_repeat ts) e))
+    (all-false (again t) ts (sym (repeats-any (event_of t) ts) ∙ (or_parts (repeats (event_of t) ts) (links_repeat ts) e).0))
+    (links-differ ts (or_parts (repeats (event_of t) ts) (links_repeat ts) e).1)
 
 none-repeats : (ts : List NodeLine) → IsDistinct again ts → links_repeat ts ≡ false
 none-repeats [] d = refl

@@ -1,18 +1,10 @@
 -- A whole play.
-use Rattle.dist_audit.proofs.Words.{◌≡◌, List, [], length, None, sym, ap, subst, ◌∙◌, World, empty, begins, AllApply, false, inl, inr, Closed, AuditError}
-use Rattle.dist_audit.proofs.Words.{lines_by_node, setups_of, links_unpaired, fault_of, run, AreFollowed, AreOfOneWorld, NodeLine, AreLinesOf, of_lines}
-use Rattle.dist_audit.proofs.Words.{Refutes, StopsAt, UnlessShort, world_before_lines, world_of}
-use Rattle.dist_audit.specs.Audit.{AreRefused, HasTables, IsWorldOf, Reports, ReportsFirst}
-use Rattle.dist_audit.specs.Faults.{IsFault}
-use Rattle.std.proofs.Common.{IsTrue}
+use Rattle.dist_audit.proofs.Words.{◌≡◌, false, List, [], length, IsTrue, None, sym, ap, ◌∙◌, subst, inr, run, World, empty, run-append, Closed, AllApply}
+use Rattle.dist_audit.proofs.Words.{AreFollowed, AreOfOneWorld, AreRefused, HasTables, IsWorldOf, world_before_lines, world_of, fault_of, links_unpaired}
+use Rattle.dist_audit.proofs.Words.{begins, of_lines, setups_of, AreLinesOf, NodeLine, lines_by_node}
 use Rattle.dist_audit.specs.declared.audit_error.AuditError.TheVariants as error
-use Rattle.dist_audit.proofs.Beginning.{all-begin}
-use Rattle.dist_audit.proofs.Faultless.{few-nodes, links-paired}
-use Rattle.dist_audit.proofs.Homing.{all-come-home}
-use Rattle.dist_audit.proofs.Pairs.{unpaired-alike}
-use Rattle.dist_audit.proofs.Quiet.{FramesAlone, all-take-theirs}
-use Rattle.dist_audit.proofs.Unchanged.{KeepsSetups, own-digests, own-setups}
-use Rattle.dist_audit.proofs.Walking.{all-apply, run-append, unless-more}
+use Rattle.dist_audit.proofs.{Beginning.all-begin, Faultless.few-nodes, Faultless.links-paired, Homing.all-come-home, Pairs.unpaired-alike, Walking.all-apply}
+use Rattle.dist_audit.proofs.{Quiet.FramesAlone, Quiet.all-take-theirs, Unchanged.KeepsSetups, Unchanged.own-digests, Unchanged.own-setups}
 
 -- all nodes begin in the opening world
 pub has-begun : (cs : List Closed) (first : World) → first ≡ empty (setups_of cs) → fault_of cs ≡ None → AllApply (begins 0 first.setups) first
@@ -25,12 +17,6 @@ module _ (cs : List Closed) (first second last : World) (lines : List NodeLine) 
 
   pub followed-all : AreFollowed lines (length cs) [] second lines → AreFollowed lines (length cs) [] (world_before_lines cs) lines
   followed-all f = subst (λ (w : World). AreFollowed lines (length cs) [] w lines) has_begun f
-
-  pub followed-none : AreFollowed lines (length cs) [] (world_before_lines cs) lines → AreFollowed lines (length cs) [] second lines
-  followed-none f = subst (λ (w : World). AreFollowed lines (length cs) [] w lines) (sym has_begun) f
-
-  pub stops-all : (e : AuditError) → UnlessShort e (StopsAt e lines (length cs) [] second lines) → UnlessShort e (AreRefused e cs lines)
-  stops-all e r = unless-more e _ (AreRefused e cs lines) (λ f. inl (subst (λ (w : World). StopsAt e lines (length cs) [] w lines) has_begun f)) r
 
   pub is_played : last ≡ run (of_lines lines (length cs) [] lines) second → last ≡ world_of cs lines
   is_played played =
@@ -49,32 +35,6 @@ module _ (cs : List Closed) (first second last : World) (lines : List NodeLine) 
   -- all lines are followed, and the tables differ
   pub other-tables : last ≡ run (of_lines lines (length cs) [] lines) second → AreFollowed lines (length cs) [] second lines → (HasTables last cs → IsTrue false) → AreRefused error.OtherReply cs lines
   other-tables played f unlike = inr (followed-all f, λ tables. let e : IsTrue false = unlike (subst (λ (w : World). HasTables w cs) (sym (is_played played)) tables) in cc)
-
--- the first fault of the histories by themselves
-pub fault-first : (e : AuditError) (cs : List Closed) → IsFault e cs → ReportsFirst e cs
-fault-first error.NoMemory cs h = tt
-fault-first error.NotSent cs h = absurd h
-fault-first error.OtherReply cs h = absurd h
-fault-first error.TicketFalls cs h = tt
-fault-first error.TicketTwice cs h = tt
-fault-first error.Unpaired cs h = tt
-
--- what was refused of the lines in the order of their tickets
-pub play-first : (e : AuditError) (cs : List Closed) (ts : List NodeLine) → AreLinesOf cs ts → UnlessShort e (AreRefused e cs ts) → ReportsFirst e cs
-play-first error.NoMemory cs ts all h = tt
-play-first error.NotSent cs ts all h = (ts, all, h)
-play-first error.OtherReply cs ts all h = (ts, all, h)
-play-first error.TicketFalls cs ts all h = tt
-play-first error.TicketTwice cs ts all h = tt
-play-first error.Unpaired cs ts all h = tt
-
-pub play-reports : (e : AuditError) (cs : List Closed) (ts : List NodeLine) → AreLinesOf cs ts → fault_of cs ≡ None → Refutes e (AreOfOneWorld cs ts) → Reports e cs
-play-reports error.NoMemory cs ts all none h = tt
-play-reports error.NotSent cs ts all none h = (none, (ts, all, h))
-play-reports error.OtherReply cs ts all none h = (none, (ts, all, h))
-play-reports error.TicketFalls cs ts all none h = absurd h
-play-reports error.TicketTwice cs ts all none h = absurd h
-play-reports error.Unpaired cs ts all none h = absurd h
 
 -- the lines were played in the order of their tickets, and the histories have no fault
 pub plays-up : FramesAlone → KeepsSetups → (cs : List Closed) (w : World) → fault_of cs ≡ None → (ts : List NodeLine) × AreLinesOf cs ts × (w ≡ world_of cs ts) × AreOfOneWorld cs ts → IsWorldOf cs w

@@ -1,28 +1,20 @@
 -- Of what came to an end nothing is left once a line has happened, so that each line takes its very body.
-use Rattle.dist_audit.proofs.Words.{◌≡◌, ℕ, suc, ◌+◌, ◌<◌, cond, ltb, is_none, ◌&&◌, List, [], ◌∷◌, ◌++◌, length, Option, Some, None, slice_get, refl, sym, ap}
-use Rattle.dist_audit.proofs.Words.{subst, ◌∙◌, arith, length-append, option_map, Setup, Happening, World, empty, runs, running, begin, without_closing}
-use Rattle.dist_audit.proofs.Words.{applied_at, happens, ticked_on, there, one_where, begins, AllApply, Bool, true, false, Closed, setups_of, IfSome}
-use Rattle.dist_audit.proofs.Words.{option_to_list, w16, first_body, Side, Dialler, Acceptor, EndId, is_dialing, Creation, Event, step, at_place, EndRow, Conn}
-use Rattle.dist_audit.proofs.Words.{Text, row_at, end_at, says, conns_after_saying, spoken_on, text_to, change_to, after_delivery, body_taken, notify}
-use Rattle.dist_audit.proofs.Words.{notify_node, new_conn, notify_opened, accept, accepted_by, next_end, is_open_end, is_nonempty, world_after, if_there, if_ok}
-use Rattle.dist_audit.proofs.Words.{if_holds, run, AreFollowed, AreOfOneWorld, after, NodeLine, is_among, dialler_of, acceptor_of, target_of, with_mentions}
-use Rattle.dist_audit.proofs.Words.{reach, reach_first, before, own}
-use Rattle.dist_audit.specs.Audit.{BeginsWith, IsFront, IsNext, TakeTheirs, come_of}
-use Rattle.dist_frames.specs.Stream.{after_first, body_frame}
-use Rattle.dist_world.specs.Asking.{said_to, undelivered_text}
-use Rattle.dist_world_lives.specs.Stepping.{wire_of}
-use Rattle.dist_world_model.specs.Happenings.{conn_of, ◌>>◌, reach as happening_reach}
-use Rattle.dist_audit.specs.Links.{conn_of as number_of}
-use Rattle.std.proofs.Common.{take, ◌^◌}
-use Rattle.std.proofs.lemmas.List.{take_at}
-use Rattle.std.specs.Int.{to_be_bytes}
-use Rattle.std.specs.Option.{option_and_then}
-use Rattle.dist_audit.specs.Audit as audit
+use Rattle.dist_audit.proofs.Words.{◌≡◌, ℕ, suc, ◌+◌, ◌^◌, ◌<◌, Bool, true, false, cond, ◌&&◌, ltb, List, [], ◌∷◌, ◌++◌, length, take, is_none, IfSome}
+use Rattle.dist_audit.proofs.Words.{slice_get, Some, None, Option, option_map, option_to_list, option_and_then, sym, refl, ap, ◌∙◌, subst, arith, length-append}
+use Rattle.dist_audit.proofs.Words.{take_at, w16, same_Some, to_be_bytes, Creation, after_first, body_frame, first_body, Side, Acceptor, Dialler, EndId}
+use Rattle.dist_audit.proofs.Words.{is_dialing, Setup, step, Event, after_delivery, body_taken, change_to, conns_after_saying, says, spoken_on, text_to}
+use Rattle.dist_audit.proofs.Words.{at_place, one_where, run, Conn, Text, World, empty, end_at, row_at, running, runs, Happening, if_holds, if_ok, if_there}
+use Rattle.dist_audit.proofs.Words.{there, place-twice, placed, at-more, at-one, said_to, undelivered_text, Closed, AllApply, AreFollowed, AreOfOneWorld}
+use Rattle.dist_audit.proofs.Words.{BeginsWith, IsFront, IsNext, TakeTheirs, after, come_of, before, begins, own, reach, reach_first, setups_of, with_mentions}
+use Rattle.dist_audit.proofs.Words.{NodeLine, acceptor_of, dialler_of, is_among, target_of}
 use Rattle.dist_core.specs.declared.event.Event.TheVariants as event
+use Rattle.dist_world_model.specs.Happenings.{accept, accepted_by, applied_at, begin, happens, is_nonempty, is_open_end, new_conn, next_end, notify}
+use Rattle.dist_world_model.specs.Happenings.{notify_node, notify_opened, ticked_on, without_closing, world_after, ◌>>◌, conn_of, reach as happening_reach}
+use Rattle.dist_world_model.specs.Rows.{EndRow}
 use Rattle.dist_world_model.specs.declared.happening.Happening.TheVariants as happening
-use Rattle.dist_world_model.proofs.Lookups.{place-twice, placed}
-use Rattle.dist_world_model.proofs.Places.{at-more, at-one}
-use Rattle.std.proofs.lemmas.Option.{same_Some}
+use Rattle.dist_world_lives.specs.Stepping.{wire_of}
+use Rattle.dist_audit.specs.Links.{conn_of as number_of}
+use Rattle.dist_audit.specs.Audit as audit
 
 -- nothing that came is left, on either side
 abbrev pub IsQuiet : Conn → Type 0
@@ -163,9 +155,6 @@ one-left o y true false c e n = absurd (let m : one_where o + 0 ≡ 0 = ap (λ (
 one-left o y false b c e n = absurd (let m : one_where o + 0 ≡ 0 = ap (λ (x : Option World). one_where x + 0) e in omega (arith, m, n))
 
 module _ (alone : FramesAlone) (w : World) (i : ℕ) (id : EndId) (body : List ℕ) (few : length body < 2 ^ 16) (s : Stands w i id body) (h : QuietIn w) where
-  size : ℕ
-  size = 2 + length body
-
   -- the world once the frame came
   abbrev y : World
   y = record (without_closing w) { conns = at_place s.conn (change_to (let r = s.row in r.side) (after_delivery (2 + length body))) w.conns }

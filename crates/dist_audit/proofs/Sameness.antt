@@ -1,10 +1,5 @@
 -- Tables that are the same as far as they go.
-use Rattle.dist_audit.proofs.Words.{◌≡◌, ℕ, ◌<◌, ◌≤◌, None, sym, ◌∙◌, arith, inl, inr, cases_lt}
-use Rattle.dist_audit.specs.Audit.{entry_at}
-use Rattle.dist_core.specs.Node.{NodeState}
-use Rattle.dist_core_ends.specs.Ends.{table_of}
-use Rattle.std.proofs.lemmas.Option.{slice_get_past}
-use Rattle.std.specs.FinMap.{len-entries}
+use Rattle.dist_audit.proofs.Words.{◌≡◌, ℕ, ◌<◌, ◌≤◌, None, sym, ◌∙◌, inl, inr, arith, cases_lt, slice_get_past, len-entries, table_of, NodeState, entry_at}
 use Rattle.std.specs.FinMap as map
 
 past : (n : NodeState) (k i : ℕ) → map.len (table_of n.ends) ≤ i → i ≤ k → entry_at n k ≡ None

@@ -1,16 +1,11 @@
 -- Lines in the order of their tickets: there is one list of them where tickets rise and none stands twice.
-use Rattle.dist_audit.proofs.Words.{◌≡◌, ℕ, suc, ◌<◌, ◌≤◌, ltb, ◌&&◌, List, [], ◌∷◌, ◌++◌, refl, sym, ap, subst, ◌∙◌, arith, Bool, true, false, list_any}
-use Rattle.dist_audit.proofs.Words.{IsDistinct, inl, inr, Closed, lines_by_node, falls, twice, eqb, not, NodeLine, nat_tests, AllByRecursion, IsPermutation}
-use Rattle.dist_audit.proofs.Words.{IsPermutation-sym, IsDistinct-head, IsDistinct-tail, IsDistinct-cons, IsDistinct-IsPermutation, AreLinesOf, Line}
-use Rattle.dist_audit.proofs.Words.{has_ticket, has_ticket_in}
-use Rattle.dist_audit.specs.Faults.{rises, rises_in, starts_above}
-use Rattle.dist_audit.specs.Lines.{lines_at, lines_from, ticket_of}
-use Rattle.std.proofs.Common.{map, ◌⊎◌, ◌==◌}
-use Rattle.std.proofs.lemmas.List.Elements.{All-from_recursion, recursion_from_All}
-use Rattle.std.proofs.lemmas.List.Sorted.{All-permutation, IsPermutation-map, IsPermutation-trans}
-use Rattle.std.specs.List.{All}
-use Rattle.std.specs.List.Sorted.{IsNonDecreasingBy}
-use Rattle.dist_audit.proofs.Either.{distinct-none, left-false, right-false}
+use Rattle.dist_audit.proofs.Words.{◌≡◌, ℕ, suc, ◌<◌, ◌≤◌, true, false, not, eqb, ◌⊎◌, List, [], ◌∷◌, ◌++◌, map, ◌==◌, All, IsPermutation, sym, refl, ap, ◌∙◌}
+use Rattle.dist_audit.proofs.Words.{subst, inl, inr, arith, ltb-true, and_parts, not-false, or_parts, nat_tests, All-from_recursion, recursion_from_All}
+use Rattle.dist_audit.proofs.Words.{AllByRecursion, IsDistinct, list_any, IsNonDecreasingBy, Closed, Line, falls, has_ticket, has_ticket_in, rises, rises_in}
+use Rattle.dist_audit.proofs.Words.{starts_above, twice, AreLinesOf, NodeLine, lines_at, lines_by_node, lines_from, ticket_of}
+use Rattle.std.proofs.lemmas.List.Sorted.{IsPermutation-sym, All-permutation, IsPermutation-map, IsPermutation-trans}
+use Rattle.std.proofs.lemmas.Map.Keys.{IsDistinct-head, IsDistinct-tail, IsDistinct-cons, IsDistinct-IsPermutation}
+use Rattle.dist_audit.proofs.Either.{distinct-none}
 
 -- x is one of these
 abbrev Has : {X : Type 0} → X → List X → Type 0
@@ -92,21 +87,6 @@ module _ {X : Type 0} (n : X → ℕ) where
 abbrev lines_in : Closed → List Line
 lines_in c = let h = c.history in h.items
 
-both-left : (a b : Bool) → (a && b) ≡ true → a ≡ true
-both-left true b e = refl
-both-left false b e = absurd cc
-
-both-right : (a b : Bool) → (a && b) ≡ true → b ≡ true
-both-right true b e = e
-both-right false b e = absurd cc
-
-not-false : (b : Bool) → not b ≡ false → b ≡ true
-not-false true e = refl
-not-false false e = absurd cc
-
-is-less : (a b : ℕ) → ltb a b ≡ true → a < b
-is-less a b e = grind (arith, nat_tests)
-
 less-differs : (a b : ℕ) → a < b → eqb a b ≡ false
 less-differs a b h = grind (arith, nat_tests)
 
@@ -118,8 +98,8 @@ above-more m k (l ∷ ls) lt h = (omega (arith, lt, h.0), above-more m k ls lt h
 above-first : (m : ℕ) (ls : List Line) → starts_above m ls ≡ true → rises ls ≡ true → AllByRecursion (λ (l : Line). m < l.ticket) ls
 above-first m [] s r = tt
 above-first m (l ∷ ls) s r =
-    let lt : m < l.ticket = is-less m l.ticket s in
-    (lt, above-more m l.ticket ls lt (above-first l.ticket ls (both-left (starts_above l.ticket ls) (rises ls) r) (both-right (starts_above l.ticket ls) (rises ls) r)))
+    let lt : m < l.ticket = ltb-true m l.ticket s in
+    (lt, above-more m l.ticket ls lt (above-first l.ticket ls (and_parts (starts_above l.ticket ls) (rises ls) r).0 (and_parts (starts_above l.ticket ls) (rises ls) r).1))
 
 -- a ticket below those of a node and of the others differs from them all
 apart : (i m : ℕ) (ls : List Line) (ts : List NodeLine) → AllByRecursion (λ (l : Line). m < l.ticket) ls → AllByRecursion (λ k. eqb m k ≡ false) (map ticket_of ts) → AllByRecursion (λ k. eqb m k ≡ false) (map ticket_of (lines_at i ls ++ ts))
@@ -128,29 +108,29 @@ apart i m (l ∷ ls) ts a h = (less-differs m l.ticket a.0, apart i m ls ts a.1 
 
 none-here : (i m : ℕ) (ls : List Line) (ts : List NodeLine) → has_ticket m ls ≡ false → AllByRecursion (λ k. eqb m k ≡ false) (map ticket_of ts) → AllByRecursion (λ k. eqb m k ≡ false) (map ticket_of (lines_at i ls ++ ts))
 none-here i m [] ts e h = h
-none-here i m (l ∷ ls) ts e h = (flips m l.ticket ∙ left-false (l.ticket == m) (has_ticket m ls) e, none-here i m ls ts (right-false (l.ticket == m) (has_ticket m ls) e) h)
+none-here i m (l ∷ ls) ts e h = (flips m l.ticket ∙ (or_parts (l.ticket == m) (has_ticket m ls) e).0, none-here i m ls ts (or_parts (l.ticket == m) (has_ticket m ls) e).1 h)
 
 none-there : (i m : ℕ) (cs : List Closed) → has_ticket_in m cs ≡ false → AllByRecursion (λ k. eqb m k ≡ false) (map ticket_of (lines_from i cs))
 none-there i m [] e = tt
-none-there i m (c ∷ cs) e = none-here i m (lines_in c) (lines_from (suc i) cs) (left-false (has_ticket m (lines_in c)) (has_ticket_in m cs) e) (none-there (suc i) m cs (right-false (has_ticket m (lines_in c)) (has_ticket_in m cs) e))
+none-there i m (c ∷ cs) e = none-here i m (lines_in c) (lines_from (suc i) cs) (or_parts (has_ticket m (lines_in c)) (has_ticket_in m cs) e).0 (none-there (suc i) m cs (or_parts (has_ticket m (lines_in c)) (has_ticket_in m cs) e).1)
 
 differ-with : (i : ℕ) (ls : List Line) (cs : List Closed) → rises ls ≡ true → list_any (λ (l : Line). has_ticket_in l.ticket cs) ls ≡ false → IsDistinct eqb (map ticket_of (lines_from (suc i) cs)) → IsDistinct eqb (map ticket_of (lines_at i ls ++ lines_from (suc i) cs))
 differ-with i [] cs r t d = d
 differ-with i (l ∷ ls) cs r t d =
-    let here = left-false (has_ticket_in l.ticket cs) (list_any (λ (l : Line). has_ticket_in l.ticket cs) ls) t in
-    let later = right-false (has_ticket_in l.ticket cs) (list_any (λ (l : Line). has_ticket_in l.ticket cs) ls) t in
-    let up = above-first l.ticket ls (both-left (starts_above l.ticket ls) (rises ls) r) (both-right (starts_above l.ticket ls) (rises ls) r) in
+    let here = (or_parts (has_ticket_in l.ticket cs) (list_any (λ (l : Line). has_ticket_in l.ticket cs) ls) t).0 in
+    let later = (or_parts (has_ticket_in l.ticket cs) (list_any (λ (l : Line). has_ticket_in l.ticket cs) ls) t).1 in
+    let up = above-first l.ticket ls (and_parts (starts_above l.ticket ls) (rises ls) r).0 (and_parts (starts_above l.ticket ls) (rises ls) r).1 in
     IsDistinct-cons eqb l.ticket (map ticket_of (lines_at i ls ++ lines_from (suc i) cs))
     (apart i l.ticket ls (lines_from (suc i) cs) up (none-there (suc i) l.ticket cs here))
-    (differ-with i ls cs (both-right (starts_above l.ticket ls) (rises ls) r) later d)
+    (differ-with i ls cs (and_parts (starts_above l.ticket ls) (rises ls) r).1 later d)
 
 tickets-differ : (i : ℕ) (cs : List Closed) → falls cs ≡ false → twice cs ≡ false → IsDistinct eqb (map ticket_of (lines_from i cs))
 tickets-differ i [] f t = distinct-none eqb
 tickets-differ i (c ∷ cs) f t =
     differ-with i (lines_in c) cs
-    (not-false (rises_in c) (left-false (not (rises_in c)) (falls cs) f))
-    (left-false (list_any (λ (l : Line). has_ticket_in l.ticket cs) (lines_in c)) (twice cs) t)
-    (tickets-differ (suc i) cs (right-false (not (rises_in c)) (falls cs) f) (right-false (list_any (λ (l : Line). has_ticket_in l.ticket cs) (lines_in c)) (twice cs) t))
+    (not-false (rises_in c) (or_parts (not (rises_in c)) (falls cs) f).0)
+    (or_parts (list_any (λ (l : Line). has_ticket_in l.ticket cs) (lines_in c)) (twice cs) t).0
+    (tickets-differ (suc i) cs (or_parts (not (rises_in c)) (falls cs) f).1 (or_parts (list_any (λ (l : Line). has_ticket_in l.ticket cs) (lines_in c)) (twice cs) t).1)
 
 -- two lists of all lines in the order of their tickets are one
 pub one-order-of-lines : (cs : List Closed) (ts us : List NodeLine) → falls cs ≡ false → twice cs ≡ false → AreLinesOf cs ts → AreLinesOf cs us → ts ≡ us

@@ -1,8 +1,7 @@
 -- Tickets that stand twice.
-use Rattle.dist_audit.proofs.Words.{◌≡◌, ℕ, suc, ◌<◌, ◌≤◌, List, [], ◌∷◌, length, sym, ap, ◌∙◌, arith, Bool, true, false, ◌||◌, list_any, Closed, twice, zero}
-use Rattle.dist_audit.proofs.Words.{◌-◌, get_or, drop, drop-cons, nat_cmp, Line, has_ticket, has_ticket_in}
-use Rattle.std.specs.BTreeSet.{BTreeSet, contains}
-use Rattle.dist_audit.proofs.Either.{any-same, or-false, or-true}
+use Rattle.dist_audit.proofs.Words.{or-false, or-true, ◌≡◌, ℕ, zero, suc, ◌-◌, ◌<◌, ◌≤◌, Bool, true, false, ◌||◌, List, [], ◌∷◌, length, get_or, drop, nat_cmp}
+use Rattle.dist_audit.proofs.Words.{BTreeSet, sym, ap, ◌∙◌, arith, drop-cons, contains, list_any, Closed, Line, has_ticket, has_ticket_in, twice}
+use Rattle.dist_audit.proofs.Either.{any-same}
 
 -- what is true of a part of the nodes is true of all
 twice-drop : (i : ℕ) (cs : List Closed) → twice (drop i cs) ≡ true → twice cs ≡ true

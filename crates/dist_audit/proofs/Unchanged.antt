@@ -1,10 +1,9 @@
 -- No history changes a setup.
-use Rattle.dist_audit.proofs.Words.{◌≡◌, ℕ, suc, cond, List, [], ◌∷◌, ◌++◌, length, Option, Some, None, sym, subst, Setup, Happening, World, empty, begins}
-use Rattle.dist_audit.proofs.Words.{Bool, true, false, Closed, setups_of, option_to_list, EndId, Event, run, NodeLine, is_among, dialler_of, with_mentions}
-use Rattle.dist_audit.proofs.Words.{reach, reach_first, before, own, AllByRecursion, of_lines, world_of, ahead, happenings, itself}
-use Rattle.dist_world_model.specs.Laws.{AllLives}
-use Rattle.dist_world_model.specs.OwnSetups.{AreNoResets, HasSetDigests, IsNoReset, IsSetUp}
+use Rattle.dist_audit.proofs.Words.{◌≡◌, ℕ, suc, Bool, true, false, cond, List, [], ◌∷◌, ◌++◌, length, Some, None, Option, option_to_list, sym, subst}
+use Rattle.dist_audit.proofs.Words.{AllByRecursion, EndId, Setup, Event, AllLives, run, World, empty, Happening, Closed, world_of, ahead, before, begins}
+use Rattle.dist_audit.proofs.Words.{happenings, itself, of_lines, own, reach, reach_first, setups_of, with_mentions, NodeLine, dialler_of, is_among}
 use Rattle.dist_core.specs.declared.event.Event.TheVariants as event
+use Rattle.dist_world_model.specs.OwnSetups.{AreNoResets, HasSetDigests, IsNoReset, IsSetUp}
 
 -- what is known of runs in which no setup is changed
 pub record KeepsSetups : Type 0 where

@@ -1,26 +1,13 @@
 -- A history of calls of all kinds on a guest is a run of its node.
-use Rattle.std.proofs.Common.{◌≡◌, ◌==◌, ℕ, Bool, true, false, map, List, [], ◌∷◌, ◌++◌, Option, Result, Ok, Err, refl, sym, ap, subst, ◌∙◌, if◌then◌else◌}
-use Rattle.dist_core.specs.declared.changing.ChangeError.{ChangeError}
-use Rattle.dist_core.specs.declared.changing.ChangeError.TheVariants as change_error
-use Rattle.dist_core.specs.declared.event.Event.{Event}
-use Rattle.dist_core.specs.declared.step_error.StepError.{StepError}
-use Rattle.dist_core.specs.declared.step_error.StepError.TheVariants as error
-use Rattle.dist_core.specs.Acts.{Act, act, changed_or, run_acts}
+use Rattle.dist_c_guest.proofs.Common.{◌≡◌, ℕ, Bool, true, false, List, [], ◌∷◌, ◌++◌, map, if◌then◌else◌, ◌==◌, Ok, Err, count_by, Option, Result, sym, refl}
+use Rattle.dist_c_guest.proofs.Common.{ap, ◌∙◌, subst, ne_eqb, Name, is_open, Act, act, changed_or, run_acts, NodeState, node_after, opening, step, Allow}
+use Rattle.dist_c_guest.proofs.Common.{Event, Reply, StepError, IsCall, answer_after, node_letting, Guest}
+use Rattle.dist_core.specs.{Changing.IsChange, Changing.change, Runs.run, declared.changing.Change.Change, declared.changing.ChangeError.ChangeError}
 use Rattle.dist_core.specs.Acts as acts
-use Rattle.dist_core.specs.declared.changing.Change.{Change}
-use Rattle.dist_core.specs.declared.changing.Change.TheVariants.{Allow}
-use Rattle.dist_core.specs.declared.reply.Reply.{Reply}
-use Rattle.dist_names.specs.Order.{Name}
-use Rattle.dist_core.specs.Changing.{change, IsChange}
-use Rattle.dist_core.specs.Node.{NodeState}
-use Rattle.std.specs.List.{count_by}
-use Rattle.dist_core_ends.specs.Ends.{is_open}
-use Rattle.dist_core.specs.Runs.{node_after, opening, run}
-use Rattle.dist_world_model.proofs.Lookups.{eqb-not}
-use Rattle.dist_core.specs.Step.{step}
-use Rattle.dist_c_guest.specs.declared.guest.Guest.{Guest}
-use Rattle.dist_c_guest.specs.Calls.{IsCall, node_letting, answer_after}
-use Rattle.dist_c_guest.specs.Histories.{AnyCall, Call, Step_call, Change_call, Widened_call, Form_call, Forget_call, Renew_call, IsAnyHistory, IsHistory, IsMade, act_of, acts_of, events_of, change_lacked, guest_after, has_lacked, is_short_of_memory}
+use Rattle.dist_core.specs.declared.changing.ChangeError.TheVariants as change_error
+use Rattle.dist_core.specs.declared.step_error.StepError.TheVariants as error
+use Rattle.dist_c_guest.specs.Histories.{AnyCall, Call, Step_call, Change_call, Widened_call, Form_call, Forget_call, Renew_call, IsAnyHistory, IsHistory}
+use Rattle.dist_c_guest.specs.Histories.{IsMade, act_of, acts_of, events_of, change_lacked, guest_after, has_lacked, is_short_of_memory}
 
 abbrev node_of : Guest → NodeState
 node_of g = g.node
@@ -94,7 +81,7 @@ made (Forget_call below after) xs first last h ih = goes xs first after last ih 
 made (Renew_call true after) xs first last h ih =
     goes xs first after last ih acts.Renews (ap (λ k. if k == 0 then opening first.node.setup else first.node) h.0 ∙ ap node_of (sym h.1))
 made (Renew_call false after) xs first last h ih =
-    goes xs first after last ih acts.Renews (ap (λ b. if b then opening first.node.setup else first.node) (eqb-not (count_by is_open first.node.ends) 0 h.0) ∙ ap node_of (sym h.1))
+    goes xs first after last ih acts.Renews (ap (λ b. if b then opening first.node.setup else first.node) (ne_eqb (count_by is_open first.node.ends) 0 h.0) ∙ ap node_of (sym h.1))
 
 pub a-run-of-acts : (calls : List AnyCall) (first last : Guest) → IsAnyHistory calls first last → last.node ≡ run_acts (acts_of calls) first.node
 a-run-of-acts [] first last h = ap node_of h

@@ -1,24 +1,14 @@
 -- In every cluster the shown ends are up, and nodes that show each other agree.
-use Rattle.std.proofs.Common.{◌≡◌, ◌≢◌, ℕ, zero, suc, Bool, true, cond, List, [], ◌∷◌, ◌++◌, Some, refl, sym, ap, ◌∙◌, subst, slice_get}
-use Rattle.std.proofs.lemmas.Bool.{and_from, and_parts, cond-true, cond_both}
+use Rattle.dist_c_guest.proofs.Common.{◌≡◌, ℕ, zero, suc, Bool, true, ◌≢◌, List, [], ◌∷◌, ◌++◌, slice_get, Some, remove, sym, refl, ap, ◌∙◌, subst, and_from}
+use Rattle.dist_c_guest.proofs.Common.{and_parts, cond-true, cond_both, list_all, AreLegal, UpRecord, Setup, Act, run_acts, NodeState, opening, Agreement}
+use Rattle.dist_c_guest.proofs.Common.{AllFit, AreSetups, Counts, IsReached, IsUp, run, Life, World, empty, end_at, end_of_life, Happening, fit-append}
+use Rattle.dist_c_guest.proofs.Common.{is-running}
 use Rattle.std.proofs.lemmas.List.Sums.{AllPass-from_list_all}
-use Rattle.std.specs.List.{list_all, remove}
-use Rattle.dist_core_setup.specs.declared.setup.Setup.{Setup}
-use Rattle.dist_core_ends.specs.declared.known.UpRecord.{UpRecord}
 use Rattle.dist_core_ends.specs.declared.known.End.TheVariants as ends
-use Rattle.dist_core_ends.specs.Ends.{AreLegal}
-use Rattle.dist_core.specs.Acts.{Act, run_acts}
-use Rattle.dist_core.specs.Node.{NodeState}
-use Rattle.dist_core.specs.Runs.{opening}
-use Rattle.dist_world_model.specs.declared.happening.Happening.{Happening}
-use Rattle.dist_world_model.specs.World.{World, Life, end_at, end_of_life, empty}
-use Rattle.dist_world_model.specs.Run.{run}
-use Rattle.dist_world_model.specs.Agreement.{Agreement, AreSetups, AllFit, Counts, IsReached, IsUp}
-use Rattle.dist_world_model.proofs.HappeningEffects.{is-running}
-use Rattle.dist_c_guest.specs.Worlds.{AreWhole, Guests, guests_happen, run_guests, run_guests_from, setups_in}
-use Rattle.dist_c_guest.proofs.GuestWorlds.{fit-append}
+use Rattle.dist_c_guest.specs.Cluster.{Agree, AgreeBy, Cluster, Doing, Does, Shows_end, Hides_end, FitDoing, GuardShows, LeadsTo, ShowsNode, AllFitDoings}
+use Rattle.dist_c_guest.specs.Cluster.{doing, done, done_by, no_cluster, run_cluster, runs_life, stands}
 use Rattle.dist_c_guest.specs.Guard.{AreUp, Told, acts_run, first_guard, is_up_end, run_guard}
-use Rattle.dist_c_guest.specs.Cluster.{Agree, AgreeBy, Cluster, Doing, Does, Shows_end, Hides_end, FitDoing, GuardShows, LeadsTo, ShowsNode, AllFitDoings, doing, done, done_by, no_cluster, run_cluster, runs_life, stands}
+use Rattle.dist_c_guest.specs.Worlds.{AreWhole, Guests, guests_happen, run_guests, run_guests_from, setups_in}
 use Rattle.dist_c_guest.proofs.Shown.{one-of-a-peer, run-is-run, up-record}
 
 fewer-all : {A : Type 0} (test : A → Bool) (xs : List A) (k : ℕ) → list_all test xs ≡ true → list_all test (remove xs k) ≡ true

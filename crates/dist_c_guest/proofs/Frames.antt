@@ -1,25 +1,11 @@
 -- Whether a frame is refused, and why, does not depend on its bytes.
-use Rattle.std.proofs.Common.{◌≡◌, ℕ, Bool, true, false, List, Option, Some, None, Result, Ok, Err, refl, ap, subst, slice_get, cond}
-use Rattle.std.proofs.lemmas.Bool.{false≢true}
-use Rattle.std.specs.Prelude.{IsOk}
-use Rattle.dist_messages.specs.declared.message.Side.{Side}
-use Rattle.dist_peers.specs.declared.entry.EndId.{EndId}
-use Rattle.dist_core_ends.specs.declared.known.End.{End}
+use Rattle.dist_c_guest.proofs.Common.{◌≡◌, ℕ, Bool, true, false, cond, List, IsOk, slice_get, Some, None, Ok, Err, Option, Result, refl, ap, subst, false≢true}
+use Rattle.dist_c_guest.proofs.Common.{Name, Side, EndId, End, Refuses, NodeState, is_spent, at_end, framed_from, sender_to, step, step_result, Effect, Event}
+use Rattle.dist_c_guest.proofs.Common.{Reply, StepError, answer_after, answer_to, node_letting, allowed_names, expansion, Guest}
 use Rattle.dist_core_ends.specs.declared.known.End.TheVariants as ends
-use Rattle.dist_core.specs.declared.effect.Effect.{Effect}
-use Rattle.dist_core.specs.declared.event.Event.{Event}
+use Rattle.dist_core.specs.Step.{effect_of}
 use Rattle.dist_core.specs.declared.event.Event.TheVariants as event
-use Rattle.dist_core.specs.declared.reply.Reply.{Reply}
-use Rattle.dist_core.specs.declared.step_error.StepError.{StepError}
 use Rattle.dist_core.specs.declared.step_error.StepError.TheVariants as error
-use Rattle.dist_core.specs.Node.{NodeState, is_spent}
-use Rattle.dist_core.specs.Answers.{Refuses}
-use Rattle.dist_names.specs.Order.{Name}
-use Rattle.dist_c_guest.specs.Calls.{answer_to, node_letting, answer_after}
-use Rattle.dist_c_guest.specs.Forms.{allowed_names}
-use Rattle.dist_c_guest.specs.Reading.{expansion}
-use Rattle.dist_c_guest.specs.declared.guest.Guest.{Guest}
-use Rattle.dist_core.specs.Step.{step, step_result, effect_of, at_end, framed_from, sender_to}
 
 abbrev Answer : Type 0
 Answer = Result (Reply × NodeState) StepError

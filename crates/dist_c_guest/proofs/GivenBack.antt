@@ -1,21 +1,8 @@
 -- The names that might connect are given back after a step.
-use Rattle.std.proofs.Common.{◌≡◌, ℕ, List, Option, None, Result, Ok, Err, refl, sym, ap, ◌∙◌, subst}
-use Rattle.std.specs.Option.{option_or}
-use Rattle.dist_names.specs.Order.{Name}
-use Rattle.dist_peers.specs.declared.entry.EndId.{EndId}
-use Rattle.dist_core.specs.declared.effect.Effect.{Effect}
-use Rattle.dist_core.specs.declared.event.Event.{Event}
+use Rattle.dist_c_guest.proofs.Common.{◌≡◌, ℕ, List, None, Ok, Err, Option, Result, sym, refl, ap, ◌∙◌, subst, option_or, Name, EndId, GivesReply, NodeState}
+use Rattle.dist_c_guest.proofs.Common.{effect_of, step, step_result, Effect, Event, Reply, StepError, IsCall, answer_after, answer_to, frame_to, node_letting}
+use Rattle.dist_c_guest.proofs.Common.{allowed_names, expansion, plain, Guest, Reading}
 use Rattle.dist_core.specs.declared.event.Event.TheVariants as event
-use Rattle.dist_core.specs.declared.reply.Reply.{Reply}
-use Rattle.dist_core.specs.declared.step_error.StepError.{StepError}
-use Rattle.dist_core.specs.Node.{NodeState}
-use Rattle.dist_core.specs.Answers.{GivesReply}
-use Rattle.dist_core.specs.Step.{effect_of, step, step_result}
-use Rattle.dist_c_guest.specs.declared.guest.Guest.{Guest}
-use Rattle.dist_c_guest.specs.Calls.{IsCall, answer_to, node_letting, frame_to, answer_after}
-use Rattle.dist_c_guest.specs.Forms.{allowed_names}
-use Rattle.dist_c_guest.specs.Reading.{expansion, plain}
-use Rattle.dist_c_guest.specs.declared.reading.Reading.{Reading}
 
 abbrev Answer : Type 0
 Answer = Result (Reply × NodeState) StepError

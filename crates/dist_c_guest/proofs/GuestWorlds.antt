@@ -1,24 +1,10 @@
 -- A world of whole guests is a world of nodes.
-use Rattle.std.proofs.Common.{◌≡◌, ℕ, zero, suc, true, cond, ltb, List, [], ◌∷◌, ◌++◌, Option, Some, None, refl, sym, ap, ◌∙◌, subst, slice_get}
-use Rattle.std.specs.List.{AllByRecursion}
-use Rattle.std.specs.Int.{w16}
-use Rattle.dist_messages.specs.declared.message.Side.{Side}
-use Rattle.dist_frames.specs.Stream.{first_body}
-use Rattle.dist_peers.specs.declared.entry.EndId.{EndId}
-use Rattle.dist_core_setup.specs.declared.setup.Setup.{Setup}
-use Rattle.dist_core_setup.specs.Rules.{announced_by}
+use Rattle.dist_c_guest.proofs.Common.{◌≡◌, ℕ, zero, suc, true, cond, ltb, List, [], ◌∷◌, ◌++◌, slice_get, Some, None, Option, sym, refl, ap, ◌∙◌, subst, w16}
+use Rattle.dist_c_guest.proofs.Common.{first_body, Side, EndId, announced_by, Setup, Agreement, AllFit, AreSetups, body_taken, change_to, text_to, AreCanonical}
+use Rattle.dist_c_guest.proofs.Common.{at_place, run, Conn, World, empty, row_at, running, Happening, fit-append, run-append, expansion, Hold, is_whole}
 use Rattle.dist_core.specs.declared.event.Event.TheVariants as event
-use Rattle.dist_world_model.specs.declared.happening.Happening.{Happening}
+use Rattle.dist_world_model.specs.Happenings.{take_frame, take_read, happens, most_applied, notify, ticked_on, without_closing, world_after, ◌>>=◌}
 use Rattle.dist_world_model.specs.declared.happening.Happening.TheVariants as happening
-use Rattle.dist_world_model.specs.Lists.{at_place}
-use Rattle.dist_world_model.specs.World.{World, Conn, empty, row_at, running}
-use Rattle.dist_world_model.specs.Delivery.{body_taken, change_to, text_to}
-use Rattle.dist_world_model.specs.Happenings.{◌>>=◌, happens, most_applied, take_frame, take_read, notify, ticked_on, without_closing, world_after}
-use Rattle.dist_world_model.specs.Run.{run}
-use Rattle.dist_world_model.specs.Agreement.{Agreement, AllFit, AreSetups, Fits}
-use Rattle.dist_world_model.specs.Frames.{AreCanonical}
-use Rattle.dist_c_guest.specs.Reading.{expansion}
-use Rattle.dist_c_guest.specs.Whole.{Hold, is_whole}
 use Rattle.dist_c_guest.specs.Worlds.{AreWhole, Guests, guests_happen, mandatory_of, run_guests, run_guests_from, setups_in, world_after_guests}
 use Rattle.dist_c_guest.proofs.WholeBodies.{holds-nothing, read-as-it-came, whole-pair}
 
@@ -29,14 +15,6 @@ guest-of : (guests : Guests) (b : ℕ) (s : Setup) → slice_get (setups_in gues
 guest-of [] b s at = absurd cc
 guest-of (g ∷ gs) zero s at = let same : g.0 ≡ s = cc in (g.1, ap (λ t. Some (t, g.1)) same)
 guest-of (g ∷ gs) (suc b) s at = guest-of gs b s at
-
-run-append : (hs gs : List Happening) (w : World) → run (hs ++ gs) w ≡ run gs (run hs w)
-run-append [] gs w = refl
-run-append (h ∷ hs) gs w = run-append hs gs (happens w h)
-
-pub fit-append : (hs gs : List Happening) → AllByRecursion Fits hs → AllByRecursion Fits gs → AllByRecursion Fits (hs ++ gs)
-fit-append [] gs a b = b
-fit-append (h ∷ hs) gs a b = (a.0, fit-append hs gs a.1 b)
 
 -- what follows a thing that is there is the same, where it is the same of that thing
 same-bind : {A B : Type 0} (o : Option A) (f g : A → Option B) → ((x : A) → o ≡ Some x → f x ≡ g x) → (o >>= f) ≡ (o >>= g)

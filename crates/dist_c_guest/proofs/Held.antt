@@ -1,22 +1,9 @@
 -- A frame is held just where the reply that was foreseen closes an end that is up, and a guarded call is what a guard is told.
-use Rattle.std.proofs.Common.{◌≡◌, ◌≢◌, ℕ, Bool, true, false, List, [], ◌∷◌, Option, Some, None, is_some, Result, Ok, Err, refl, sym, ap, subst, ◌∙◌, if◌then◌else◌}
-use Rattle.std.specs.Result.{IsErrAnd}
-use Rattle.dist_names.specs.Order.{Name}
-use Rattle.dist_peers.specs.declared.entry.EndId.{EndId}
-use Rattle.dist_core.specs.declared.event.Event.{Event}
+use Rattle.dist_c_guest.proofs.Common.{◌≡◌, ℕ, Bool, true, false, ◌≢◌, List, [], ◌∷◌, is_some, IsErrAnd, if◌then◌else◌, Some, None, Ok, Err, Option, Result}
+use Rattle.dist_c_guest.proofs.Common.{sym, refl, ap, ◌∙◌, subst, Name, EndId, Steps, run_acts, reply_of, NodeState, node_after, step, Event, Reply, StepError}
+use Rattle.dist_c_guest.proofs.Common.{IsCall, answer_after, answer_to, frame_to, node_letting, allowed_names, expansion, Guest}
 use Rattle.dist_core.specs.declared.event.Event.TheVariants as event
 use Rattle.dist_core.specs.declared.step_error.StepError.TheVariants as error
-use Rattle.dist_core.specs.Acts.{Steps, run_acts}
-use Rattle.dist_core.specs.Runs.{node_after}
-use Rattle.dist_core.specs.Step.{step}
-use Rattle.dist_c_guest.specs.Calls.{IsCall, answer_after, answer_to, frame_to, node_letting}
-use Rattle.dist_c_guest.specs.Forms.{allowed_names}
-use Rattle.dist_c_guest.specs.Reading.{expansion}
-use Rattle.dist_c_guest.specs.declared.guest.Guest.{Guest}
-use Rattle.dist_core.specs.declared.reply.Reply.{Reply}
-use Rattle.dist_core.specs.declared.step_error.StepError.{StepError}
-use Rattle.dist_core.specs.Answers.{reply_of}
-use Rattle.dist_core.specs.Node.{NodeState}
 use Rattle.dist_c_guest.specs.Guard.{IsGuarded, acts_asked, closes_up_end, held_reply, run_guard, told_of_frame}
 
 abbrev held_if : NodeState → Reply → Option Reply

@@ -1,3 +1,5 @@
+pub mod Common
+pub mod Walks
 pub mod Acts
 pub mod Frames
 pub mod GivenBack

@@ -1,24 +1,13 @@
 -- The end that is given up first is open, so that it can always be lost.
-use Rattle.std.proofs.Common.{◌≡◌, ◌≢◌, ℕ, suc, Bool, true, false, cond, List, [], ◌∷◌, Option, Some, None, option_map, slice_get, Result, Ok, Err, IsOk, refl, sym, ap, subst, ◌∙◌}
-use Rattle.std.specs.Option.{option_or}
-use Rattle.dist_peers.specs.declared.entry.EndId.{EndId}
-use Rattle.dist_core_ends.specs.declared.known.End.{End}
+use Rattle.dist_c_guest.proofs.Common.{◌≡◌, ℕ, suc, Bool, true, false, cond, ◌≢◌, List, [], ◌∷◌, IsOk, slice_get, Some, None, Ok, Err, Option, Result}
+use Rattle.dist_c_guest.proofs.Common.{option_map, sym, refl, ap, ◌∙◌, subst, option_or, EndId, end_id, first_of, is_open, is_pending, is_unnamed}
+use Rattle.dist_c_guest.proofs.Common.{oldest_pending, oldest_unnamed, End, Why, Refuses, NodeState, at_end, step, step_result, Event, Reply, StepError, IsCall}
+use Rattle.dist_c_guest.proofs.Common.{MakesRoom, first_to_go, gives_way, room_for, Guest}
 use Rattle.dist_core_ends.specs.declared.known.End.TheVariants as ends
-use Rattle.dist_core_ends.specs.declared.why.Why.{Why}
 use Rattle.dist_core_ends.specs.declared.why.Why.TheVariants as why
-use Rattle.dist_core_ends.specs.Ends.{end_id, first_of, is_open, is_pending, is_unnamed, oldest_pending, oldest_unnamed}
-use Rattle.dist_core.specs.declared.event.Event.{Event}
+use Rattle.dist_core.specs.{Effects.closes, Step.effect_of}
 use Rattle.dist_core.specs.declared.event.Event.TheVariants as event
-use Rattle.dist_core.specs.declared.reply.Reply.{Reply}
-use Rattle.dist_core.specs.declared.step_error.StepError.{StepError}
 use Rattle.dist_core.specs.declared.step_error.StepError.TheVariants as error
-use Rattle.dist_core.specs.Node.{NodeState}
-use Rattle.dist_core.specs.Answers.{Refuses}
-use Rattle.dist_core.specs.Effects.{closes}
-use Rattle.dist_core.specs.Step.{step, step_result, at_end, effect_of}
-use Rattle.dist_c_guest.specs.declared.guest.Guest.{Guest}
-use Rattle.dist_c_guest.specs.Calls.{IsCall}
-use Rattle.dist_c_guest.specs.Room.{MakesRoom, first_to_go, gives_way, room_for}
 
 abbrev Answer : Type 0
 Answer = Result (Reply × NodeState) StepError

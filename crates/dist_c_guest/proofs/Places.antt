@@ -1,8 +1,7 @@
 -- The body at a place, by the first body and those behind it.
-use Rattle.std.proofs.Common.{◌≡◌, ℕ, zero, suc, ◌+◌, ◌-◌, ◌<◌, ◌≤◌, Bool, true, false, cond, List, [], ◌∷◌, length, drop, Option, Some, None, refl, sym, ap, ◌∙◌, arith, lit<, length-take, length-drop, slice_get}
-use Rattle.std.specs.Int.{w16, byte_len}
-use Rattle.std.proofs.lemmas.List.{drop-drop}
-use Rattle.dist_frames.specs.Stream.{head, has_first, front, behind, first_body, bodies}
+use Rattle.dist_c_guest.proofs.Common.{◌≡◌, ℕ, zero, suc, ◌+◌, ◌-◌, ◌<◌, ◌≤◌, Bool, true, false, cond, List, [], ◌∷◌, length, drop, slice_get, Some, None}
+use Rattle.dist_c_guest.proofs.Common.{Option, sym, refl, ap, ◌∙◌, arith, lit<, length-drop, length-take, drop-drop, w16, byte_len, behind, bodies, first_body}
+use Rattle.dist_c_guest.proofs.Common.{front, has_first, head}
 use Rattle.dist_frames.proofs.Streams.{starts, bodies_one, bodies_none}
 
 wide : 0 < byte_len w16

@@ -1,36 +1,18 @@
 -- Every shown end is up, and a guard's node is a run.
-use Rattle.std.proofs.Common.{◌≡◌, ℕ, zero, suc, Bool, true, false, not, ◌&&◌, eqb, inl, inr, List, [], ◌∷◌, ◌++◌, Option, Some, None, is_some, Result, Ok, Err, refl, sym, ap, ◌∙◌, subst, slice_get, if◌then◌else◌, ◌==◌, ◌<◌, arith}
-use Rattle.std.proofs.lemmas.Bool.{and_parts, eqb-true, false≢true, not-true, or_cases}
-use Rattle.std.proofs.lemmas.Option.{some_pair_parts}
-use Rattle.std.specs.List.{count_by}
-use Rattle.dist_names.specs.Order.{Name}
-use Rattle.dist_peers.specs.declared.entry.EndId.{EndId}
-use Rattle.dist_peers.specs.declared.entry.Entry.{Entry}
+use Rattle.dist_c_guest.proofs.Common.{◌≡◌, ℕ, zero, suc, ◌<◌, Bool, true, false, not, ◌&&◌, eqb, List, [], ◌∷◌, ◌++◌, is_some, if◌then◌else◌, ◌==◌, slice_get}
+use Rattle.dist_c_guest.proofs.Common.{Some, None, Ok, Err, count_by, Option, Result, sym, refl, ap, ◌∙◌, subst, inl, inr, arith, eq-eqb, eqb-true, and_parts}
+use Rattle.dist_c_guest.proofs.Common.{false≢true, not-true, or_cases, Name, itself_lem, EndId, AreLegal, end_id, entry_in, is_held, is_open, names, End}
+use Rattle.dist_c_guest.proofs.Common.{UpRecord, Why, Setup, Act, Changes, Forgets, Renews, Steps, act, changed_or, run_acts, NodeState, node_after, opening}
+use Rattle.dist_c_guest.proofs.Common.{after, at_end, step, step_result, Effect, Event, Reply, StepError}
 use Rattle.dist_peers.specs.declared.entry.Entry.TheVariants as entry
-use Rattle.dist_core_setup.specs.declared.setup.Setup.{Setup}
-use Rattle.dist_core_ends.specs.declared.phase.Kind.TheVariants.{Up}
-use Rattle.dist_core_ends.specs.declared.why.Why.{Why}
-use Rattle.dist_core_ends.specs.declared.known.UpRecord.{UpRecord}
-use Rattle.dist_core_ends.specs.declared.known.End.{End}
 use Rattle.dist_core_ends.specs.declared.known.End.TheVariants as ends
-use Rattle.dist_core_ends.specs.Ends.{AreLegal, end_id, entry_in, is_held, is_open, names}
-use Rattle.dist_core_ends.specs.Forgetting.{without_cause, without_causes_below}
-use Rattle.dist_core_ends.proofs.Fitting.{same, self-same}
 use Rattle.dist_core_ends.proofs.Opens.{count-some}
-use Rattle.dist_core.specs.declared.changing.Change.{Change}
-use Rattle.dist_core.specs.declared.event.Event.{Event}
+use Rattle.dist_core.specs.{Step.effect_of, declared.changing.Change.Change}
 use Rattle.dist_core.specs.declared.event.Event.TheVariants as event
-use Rattle.dist_core.specs.declared.effect.Effect.{Effect}
-use Rattle.dist_core.specs.declared.reply.Reply.{Reply}
-use Rattle.dist_core.specs.declared.step_error.StepError.{StepError}
-use Rattle.dist_core.specs.Acts.{Act, act, changed_or, run_acts, Steps, Changes, Forgets, Renews}
-use Rattle.dist_core.specs.Changing.{change}
-use Rattle.dist_core.specs.Effects.{closes}
-use Rattle.dist_core.specs.Node.{NodeState}
-use Rattle.dist_core.specs.Runs.{node_after, opening}
-use Rattle.dist_core.specs.Step.{after, at_end, effect_of, step, step_result}
+use Rattle.dist_core.proofs.Words.{some_pair_parts, Up, Entry, without_cause, without_causes_below, change, closes}
 use Rattle.dist_core_laws.proofs.Succeeding.{has-effect, lost-closed}
-use Rattle.dist_c_guest.specs.Guard.{Guard, Told, Asks, Shows, Gone, AreUp, acts_asked, acts_guarded, acts_run, closes_up_end, first_guard, guarded, held_reply, is_up_end, run_guard}
+use Rattle.dist_c_guest.specs.Guard.{Guard, Told, Asks, Shows, Gone, AreUp, acts_asked, acts_guarded, acts_run, closes_up_end, first_guard, guarded, held_reply}
+use Rattle.dist_c_guest.specs.Guard.{is_up_end, run_guard}
 use Rattle.dist_c_guest.proofs.UpStays.{Shuts, up-stays}
 
 pub up-record : (o : Option End) → is_up_end o ≡ true → (r : UpRecord) × (o ≡ Some (ends.Up r))
@@ -83,7 +65,7 @@ module _ (n : NodeState) (legal : AreLegal n.ends) (i : ℕ) (k : UpRecord) (up 
       other : (r : Reply) (m : NodeState) → step n (event.Lost x w) 0 ≡ Ok (r, m) → Shuts r.closed (end_id i) → ⊥
       other r m is shut =
           let one : x ≡ end_id i = (some_pair_parts x (end_id i) w shut.0 (loss-reports n x w r m is ∙ shut.1)).0 in
-          false≢true (sym apart ∙ ap (λ (y : EndId). eqb y.0 i) one ∙ same i)
+          false≢true (sym apart ∙ ap (λ (y : EndId). eqb y.0 i) one ∙ eq-eqb i i refl)
 
       by : (s : Result (Reply × NodeState) StepError) → step n (event.Lost x w) 0 ≡ s → slice_get (let m = node_after n s in m.ends) i ≡ Some (ends.Up k)
       by (Err e) is = up
@@ -159,7 +141,7 @@ one-up (Some (entry.Challenged x y)) i j h k = sym (eqb-true x.0 i h) ∙ eqb-tr
 one-up o i j h k = absurd (false≢true h)
 
 named-up : (n : NodeState) → AreLegal n.ends → (i : ℕ) (r : UpRecord) → slice_get n.ends i ≡ Some (ends.Up r) → names Up i (entry_in n.ends r.peer) ≡ true
-named-up n legal i r up = sym (legal r.peer Up i) ∙ ap (is_held r.peer Up) up ∙ self-same r.peer
+named-up n legal i r up = sym (legal r.peer Up i) ∙ ap (is_held r.peer Up) up ∙ itself_lem r.peer
 
 pub one-of-a-peer : (n : NodeState) → AreLegal n.ends → (i j : ℕ) (r s : UpRecord) → slice_get n.ends i ≡ Some (ends.Up r) → slice_get n.ends j ≡ Some (ends.Up s) → r.peer ≡ s.peer → i ≡ j
 one-of-a-peer n legal i j r s u v e = one-up (entry_in n.ends r.peer) i j (named-up n legal i r u) (ap (λ (p : Name). names Up j (entry_in n.ends p)) e ∙ named-up n legal j s v)
@@ -177,4 +159,4 @@ gone-closed g x w r up =
     ∙ lost-closed g.node x w 0 (let f = closes x w in f.reply) (after g.node (event.Lost x w) (closes x w)) made
 
 pub gone-hidden : (g : Guard) (x : EndId) (w : Why) → (let k = guarded g (Gone x w) in k.shown x.0) ≡ false
-gone-hidden g x w = ap (λ (b : Bool). not b && g.shown x.0) (same x.0)
+gone-hidden g x w = ap (λ (b : Bool). not b && g.shown x.0) (eq-eqb x.0 x.0 refl)

@@ -1,17 +1,9 @@
 -- A body whose first byte is not that of a status spells none, and one whose first byte is that takes no memory.
-use Rattle.std.proofs.Common.{◌≡◌, ◌≢◌, ℕ, Bool, true, false, cond, eqb, List, [], ◌∷◌, length, get_or, ◌<◌, ◌≤◌, arith, Option, Some, None, Result, Ok, Err, refl}
-use Rattle.std.specs.Prelude.{IsTrue}
-use Rattle.std.proofs.lemmas.Bool.{eqb-true}
-use Rattle.std.specs.Int.{w16, w32, w64}
-use Rattle.dist_messages.specs.declared.message.Side.TheVariants.{Dialler, Acceptor}
-use Rattle.dist_messages.specs.declared.message.Status.{Status}
-use Rattle.dist_messages.specs.declared.message.Message.{Message}
+use Rattle.dist_c_guest.proofs.Common.{◌≡◌, ℕ, ◌<◌, ◌≤◌, Bool, true, false, cond, eqb, ◌≢◌, List, [], ◌∷◌, length, get_or, IsTrue, Some, None, Ok, Err, Option}
+use Rattle.dist_c_guest.proofs.Common.{Result, refl, arith, w16, w32, w64, eqb-true, bytes_at, number_at, Message, Status, MessageError, status_in, status_of}
+use Rattle.dist_messages.specs.Reading.{◌>>=◌, has_name_tag, old_name, new_name, old_challenge, new_challenge, complement, reply, ack, read}
+use Rattle.dist_messages.specs.declared.{message.Side.TheVariants.Acceptor, message.Side.TheVariants.Dialler, message_error.MessageError.TheVariants.Long}
 use Rattle.dist_messages.specs.declared.message.Message.TheVariants as message
-use Rattle.dist_messages.specs.declared.message_error.MessageError.{MessageError}
-use Rattle.dist_messages.specs.declared.message_error.MessageError.TheVariants.{Long}
-use Rattle.dist_names.specs.Fields.{number_at, bytes_at}
-use Rattle.dist_messages.specs.Reading.{◌>>=◌, old_name, new_name, old_challenge, new_challenge, complement, reply, ack, read, has_name_tag}
-use Rattle.dist_c_guest.specs.Statuses.{status_in, status_of}
 
 abbrev none : Option Status
 none = None

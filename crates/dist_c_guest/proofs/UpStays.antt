@@ -1,35 +1,12 @@
 -- An end that is up stays as it is, unless the step's reply reports it as closed.
-use Rattle.std.proofs.Common.{◌≡◌, ℕ, Bool, true, false, eqb, length, Option, Some, None, Ok, refl, sym, ap, ◌∙◌, slice_get, if◌then◌else◌, ◌==◌, arith}
-use Rattle.std.proofs.lemmas.Bool.{false≢true, eqb-true}
-use Rattle.std.proofs.lemmas.Option.{slice_get_past, some_pair_parts}
-use Rattle.std.specs.Option.{option_map}
-use Rattle.dist_names.specs.Order.{Name}
-use Rattle.dist_messages.specs.declared.message.Message.{Message}
-use Rattle.dist_peers.specs.Table.{replaced_by}
-use Rattle.dist_peers.specs.declared.entry.EndId.{EndId}
-use Rattle.dist_peers.specs.declared.entry.Entry.{Entry}
-use Rattle.dist_core_ends.specs.declared.phase.Kind.{Kind}
-use Rattle.dist_core_ends.specs.declared.phase.Kind.TheVariants.{Out, In}
-use Rattle.dist_core_ends.specs.declared.why.Why.{Why}
-use Rattle.dist_core_ends.specs.declared.why.Why.TheVariants as why
-use Rattle.dist_core_ends.specs.declared.known.Attempt.{Attempt}
-use Rattle.dist_core_ends.specs.declared.known.UpRecord.{UpRecord}
-use Rattle.dist_core_ends.specs.declared.known.End.{End}
+use Rattle.dist_c_guest.proofs.Common.{◌≡◌, ℕ, Bool, true, false, eqb, length, if◌then◌else◌, ◌==◌, slice_get, Some, None, Ok, Option, option_map, sym, refl}
+use Rattle.dist_c_guest.proofs.Common.{ap, ◌∙◌, arith, eq-eqb, eqb-true, false≢true, Name, Message, EndId, AreLegal, end_id, entry_in, is_held, names, End}
+use Rattle.dist_c_guest.proofs.Common.{UpRecord, Why, NodeState, ends_after, effect_of, sender_to, Effect, Event, heard-end, of_ok, other-of, row_of}
 use Rattle.dist_core_ends.specs.declared.known.End.TheVariants as ends
-use Rattle.dist_core_ends.specs.Change.{other_view}
-use Rattle.dist_core_ends.specs.Ends.{AreLegal, end_id, is_held, names, entry_in}
-use Rattle.dist_core.specs.declared.event.Event.{Event}
-use Rattle.dist_core.specs.declared.effect.Effect.{Effect}
-use Rattle.dist_core.specs.Node.{NodeState, ends_after}
-use Rattle.dist_core.specs.Accepted.{named_attempt}
-use Rattle.dist_core.specs.Effects.{superseded_end}
-use Rattle.dist_core.specs.Rows.{StepRow, Heard, Taken, Dials, Comes_in, Begins, Ceases, Loses, Ticks, Fails, Hears, Closes, Names, Goes_on, Insists, Replies, Challenges, Complements, Acknowledged, Replied, Accepts, Crosses, Declines, Comes_again, Asks_alive, Asks_again}
-use Rattle.dist_core.specs.Step.{effect_of, sender_to}
-use Rattle.dist_core.proofs.Counts.{of_ok}
-use Rattle.dist_core.proofs.Closings.{heard-end}
-use Rattle.dist_core.proofs.Replies.{other-of}
-use Rattle.dist_core.proofs.Rows.{row_of}
-use Rattle.dist_core_ends.proofs.Fitting.{same}
+use Rattle.dist_core_ends.specs.declared.why.Why.TheVariants as why
+use Rattle.dist_core.proofs.Words.{some_pair_parts, Attempt, Kind, In, Out, slice_get_past, replaced_by, Entry, other_view, named_attempt, superseded_end}
+use Rattle.dist_core.proofs.Words.{Accepts, Acknowledged, Asks_again, Asks_alive, Begins, Ceases, Challenges, Closes, Comes_again, Comes_in, Complements}
+use Rattle.dist_core.proofs.Words.{Crosses, Declines, Dials, Fails, Goes_on, Heard, Hears, Insists, Loses, Names, Replied, Replies, StepRow, Taken, Ticks}
 use Rattle.dist_core_laws.proofs.Succeeding.{stands-after}
 
 -- the reply reports end x as closed
@@ -65,7 +42,7 @@ module _ (n : NodeState) (legal : AreLegal n.ends) (x : EndId) (kept : UpRecord)
   held-so p k o e h = sym (ap (is_held p k) up) ∙ legal p k x.0 ∙ ap (names k x.0) e ∙ h
 
   names-it : (y : EndId) → y ≡ x → eqb y.0 x.0 ≡ true
-  names-it y at = ap (λ (z : EndId). eqb y.0 z.0) (sym at) ∙ same y.0
+  names-it y at = ap (λ (z : EndId). eqb y.0 z.0) (sym at) ∙ eq-eqb y.0 y.0 refl
 
   -- ---- the other end
 

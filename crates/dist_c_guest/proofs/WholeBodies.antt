@@ -1,22 +1,10 @@
 -- Bodies with whole flags are read as they came.
-use Rattle.std.proofs.Common.{◌≡◌, ℕ, ◌+◌, ◌<◌, ◌^◌, Bool, true, false, ◌||◌, not, eqb, List, ◌∷◌, [], ◌++◌, inl, inr, refl, sym, ap, ◌∙◌, subst, arith, if◌then◌else◌, ◌==◌}
-use Rattle.std.specs.Int.Bits.{and_zero_r, bit_and, bit_or, or_add_and}
-use Rattle.std.proofs.lemmas.Bool.{and_parts, eqb-true, or_cases}
-use Rattle.std.proofs.lemmas.Nat.{and_assoc, and_mask, and_mod}
-use Rattle.std.specs.Int.{Width, w16, w32, w64, to_be_bytes}
-use Rattle.dist_names.specs.Flags.{has_all, low_half}
-use Rattle.dist_names.specs.Fields.{number_at}
-use Rattle.dist_names.proofs.Fields.{IsWide, number_again, wide32, wide64}
-use Rattle.dist_messages.specs.declared.message.Message.{Message}
+use Rattle.dist_c_guest.proofs.Common.{◌≡◌, ℕ, ◌+◌, ◌^◌, ◌<◌, Bool, true, false, not, ◌||◌, eqb, List, [], ◌∷◌, ◌++◌, if◌then◌else◌, ◌==◌, bit_and, bit_or, sym}
+use Rattle.dist_c_guest.proofs.Common.{refl, ap, ◌∙◌, subst, inl, inr, arith, w16, w32, w64, eqb-true, and_parts, or_cases, and_assoc, and_mask, and_mod, Width}
+use Rattle.dist_c_guest.proofs.Common.{to_be_bytes, and_zero_r, or_add_and, number_at, has_all, low_half, IsWide, number_again, wide32, wide64, canonical}
+use Rattle.dist_c_guest.proofs.Common.{written_version, Fits, Message, announced_by, Setup, Announces, IsCanonical, eqb-self, digest_25, expansion, with_field}
+use Rattle.dist_c_guest.proofs.Common.{HasWhole, Hold, are_whole, is_whole, mandatory_25}
 use Rattle.dist_messages.specs.declared.message.Message.TheVariants as message
-use Rattle.dist_messages.specs.Canonical.{canonical, written_version}
-use Rattle.dist_messages.specs.Spelling.{Fits}
-use Rattle.dist_core_setup.specs.declared.setup.Setup.{Setup}
-use Rattle.dist_core_setup.specs.Rules.{announced_by}
-use Rattle.dist_world_model.specs.Frames.{Announces, IsCanonical}
-use Rattle.dist_world_model.proofs.Places.{eqb-self}
-use Rattle.dist_c_guest.specs.Reading.{digest_25, expansion, with_field}
-use Rattle.dist_c_guest.specs.Whole.{HasWhole, Hold, are_whole, is_whole, mandatory_25}
 
 -- flags that have all of a mask are the same with it
 or-has : (flags mask : ℕ) → has_all flags mask ≡ true → bit_or flags mask ≡ flags

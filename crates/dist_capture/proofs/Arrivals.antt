@@ -1,12 +1,13 @@
 -- Any order and repetition of the segments of one text gives that text up to its first gap.
-use Rattle.std.proofs.Common.{◌≡◌, ℕ, ◌+◌, ◌-◌, ◌%◌, ◌^◌, ◌<◌, ◌≤◌, Bool, true, false, cond, ltb, leb, List, [], ◌∷◌, ◌++◌, length, take, drop, Option, Some, None, refl, sym, ap, ◌∙◌, append_assoc, arith, inl, inr, length-append}
-use Rattle.std.specs.Prelude.{slice_get, ◌||◌, ◌&&◌, ◌==◌}
-use Rattle.std.proofs.lemmas.Bool.{cases_lt, le-ltb, lt-ltb, eqb-true, ltb-true, or_cases}
-use Rattle.std.proofs.lemmas.List.{take-append-drop, map-append, nil_from_length}
+use Rattle.std.proofs.Common.{◌≡◌, ℕ, ◌+◌, ◌-◌, ◌%◌, ◌^◌, ◌<◌, ◌≤◌, Bool, true, false, cond, ltb, leb, List, [], ◌∷◌, ◌++◌, length, take, drop, Option, Some}
+use Rattle.std.proofs.Common.{None, refl, sym, ap, ◌∙◌, append_assoc, arith, inl, inr, length-append, slice_get, ◌||◌, ◌&&◌, ◌==◌, le-ltb, lt-ltb, eqb-true}
+use Rattle.std.proofs.Common.{ltb-true, take-append-drop}
+use Rattle.std.proofs.lemmas.{Bool.cases_lt, Bool.or_cases, List.map-append, List.nil_from_length}
+use Rattle.dist_capture.specs.Arrivals.{Event, Arrives, Consumes, Seen, opening, delivered, after, after_all, IsPiece, ArePieces, covers, has_come, IsFirstGap}
 use Rattle.dist_capture.specs.Parts.{part}
 use Rattle.dist_capture.specs.Streams.{known_at, byte_at, first_of, laid, leading, new_part, is_near, settled}
-use Rattle.dist_capture.specs.Arrivals.{Event, Arrives, Consumes, Seen, opening, delivered, after, after_all, IsPiece, ArePieces, covers, has_come, IsFirstGap}
-use Rattle.dist_capture.proofs.Known.{known_laid, first_by, all_known, leading_splits, leading_stops, leading_behind, leading_is, known_front, known_back, some_front}
+use Rattle.dist_capture.proofs.Known.{known_laid, first_by, all_known, leading_splits, leading_stops, leading_behind, leading_is, known_front, known_back}
+use Rattle.dist_capture.proofs.Known.{some_front}
 use Rattle.dist_capture.proofs.Sequences.{shown, IsNew, new_is}
 
 -- all that is known of the text

@@ -1,18 +1,14 @@
 -- A unit that is whole stays what it is when more bytes come.
-use Rattle.std.proofs.Common.{◌≡◌, ◌==◌, ℕ, ◌+◌, ◌≤◌, Bool, true, false, cond, ltb, List, ◌++◌, length, take, drop, Option, Some, None, Result, Ok, Err, refl, sym, ap, subst, ◌∙◌, arith, inl, inr, length-append, length-drop}
-use Rattle.std.proofs.lemmas.Bool.{cases_lt, lt-ltb, le-ltb, ltb-false}
-use Rattle.std.proofs.lemmas.List.{take-append-le, drop-append-le}
-use Rattle.std.specs.Int.{w32, from_be_bytes, from_le_bytes}
-use Rattle.dist_capture.specs.declared.fault.CaptureFault.{CaptureFault}
-use Rattle.dist_capture.specs.declared.format.ByteOrder.{ByteOrder}
-use Rattle.dist_capture.specs.declared.format.ByteOrder.TheVariants.{Big, Little}
-use Rattle.dist_capture.specs.declared.format.Format.{Format}
+use Rattle.std.proofs.Common.{◌≡◌, ◌==◌, ℕ, ◌+◌, ◌≤◌, Bool, true, false, cond, ltb, List, ◌++◌, length, take, drop, Option, Some, None, Result, Ok, Err, refl}
+use Rattle.std.proofs.Common.{sym, ap, subst, ◌∙◌, arith, inl, inr, length-append, length-drop, lt-ltb, le-ltb, ltb-false, w32}
+use Rattle.std.proofs.lemmas.{Bool.cases_lt, List.take-append-le, List.drop-append-le}
+use Rattle.std.specs.Int.{from_be_bytes, from_le_bytes}
+use Rattle.dist_capture.specs.Formats.{◌>>=◌, number, is_section, section_order, block_order, within, whole_words, awaited_block, awaited_packet, awaited_first}
+use Rattle.dist_capture.specs.Formats.{awaited_length, magic}
+use Rattle.dist_capture.specs.{Parts.part, Parts.four, Reading.Reading, Reading.whole, Reading.with_bytes, Reading.Gives, Tcp.Said}
+use Rattle.dist_capture.specs.declared.fault.{CaptureFault.CaptureFault, CaptureFault.TheVariants.NotACapture, CaptureFault.TheVariants.Malformed}
+use Rattle.dist_capture.specs.declared.format.{ByteOrder.ByteOrder, ByteOrder.TheVariants.Big, ByteOrder.TheVariants.Little, Format.Format}
 use Rattle.dist_capture.specs.declared.format.Format.TheVariants.{Unknown, Pcap, Pcapng}
-use Rattle.dist_capture.specs.declared.fault.CaptureFault.TheVariants.{NotACapture, Malformed}
-use Rattle.dist_capture.specs.Parts.{part, four}
-use Rattle.dist_capture.specs.Formats.{◌>>=◌, number, is_section, section_order, block_order, within, whole_words, awaited_block, awaited_packet, awaited_first, awaited_length, magic}
-use Rattle.dist_capture.specs.Tcp.{Said}
-use Rattle.dist_capture.specs.Reading.{Reading, whole, with_bytes, Gives}
 
 part_more : (at count : ℕ) (bytes more : List ℕ) → at + count ≤ length bytes → part at count (bytes ++ more) ≡ part at count bytes
 part_more at count bytes more le =

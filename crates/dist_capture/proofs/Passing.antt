@@ -1,11 +1,8 @@
 -- The units of a capture, one after another.
-use Rattle.std.proofs.Common.{◌≡◌, ℕ, false, List, [], ◌++◌, take, Option, Some, None, Result, Ok, refl, sym, ap, subst, ◌∙◌, is_some, append_assoc}
-use Rattle.std.specs.Prelude.{option_map, option_to_list}
-use Rattle.dist_capture.specs.declared.fault.CaptureFault.{CaptureFault}
-use Rattle.dist_capture.specs.declared.segment.Segment.{Segment}
-use Rattle.dist_capture.specs.declared.unit.Unit.{Unit}
-use Rattle.dist_capture.specs.Tcp.{Said}
-use Rattle.dist_capture.specs.Formats.{unit_of}
+use Rattle.std.proofs.Common.{◌≡◌, ℕ, false, List, [], ◌++◌, take, Option, Some, None, Result, Ok, refl, sym, ap, subst, ◌∙◌, is_some, append_assoc, option_map}
+use Rattle.std.proofs.Common.{option_to_list}
+use Rattle.std.proofs.lemmas.Option.{same_Some}
+use Rattle.dist_capture.specs.{Formats.unit_of, Tcp.Said, declared.fault.CaptureFault.CaptureFault, declared.segment.Segment.Segment, declared.unit.Unit.Unit}
 use Rattle.dist_capture.specs.Reading.{Reading, whole, heard, after, Gives, Reads, Done, Next, IsRead, Was, Opened, Fed, Asked, unread, with_bytes, view_of}
 use Rattle.dist_capture.proofs.Growing.{good, gives_more}
 
@@ -38,16 +35,13 @@ whole_lem r stream segments (Asked s later came found others p q) = reads_on (wi
 ok_same : {A : Type 0} (x y : A) (r : Result A CaptureFault) → r ≡ Ok x → r ≡ Ok y → x ≡ y
 ok_same x y r p q = let e : good x ≡ good y = sym p ∙ q in cc
 
-some_same : (x y : ℕ) → Some x ≡ Some y → x ≡ y
-some_same x y e = cc
-
 pub record Same (a b : Option (ℕ × Said)) (s t : Reading) : Type 0 where
   pub segment : a ≡ b
   pub later : s ≡ t
 
 gives_same : (r s t : Reading) (a b : Option (ℕ × Said)) → Gives r a s → Gives r b t → Same a b s t
 gives_same r s t a b g h =
-    let len : g.len ≡ h.len = some_same g.len h.len (ok_same (Some g.len) (Some h.len) (whole r) g.is_next.is_whole h.is_next.is_whole) in
+    let len : g.len ≡ h.len = same_Some g.len h.len (ok_same (Some g.len) (Some h.len) (whole r) g.is_next.is_whole h.is_next.is_whole) in
     let bytes : take g.len r.pending ≡ take h.len r.pending = ap (λ (n : ℕ). take n r.pending) len in
     let says : g.says ≡ h.says = ok_same g.says h.says (unit_of r.format r.interfaces (take g.len r.pending)) g.is_next.is_said (ap (unit_of r.format r.interfaces) bytes ∙ h.is_next.is_said) in
     record {

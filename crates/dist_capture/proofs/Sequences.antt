@@ -1,11 +1,8 @@
 -- The new part of a segment, by where its bytes are in the text.
-use Rattle.std.proofs.Common.{◌≡◌, ℕ, ◌+◌, ◌-◌, ◌%◌, ◌^◌, ◌<◌, ◌≤◌, Bool, true, false, cond, ltb, leb, List, length, drop, Option, None, refl, ◌∙◌, arith, inl, inr, length-take, length-drop}
-use Rattle.std.specs.Prelude.{slice_get}
-use Rattle.std.proofs.lemmas.Bool.{cases_lt, lt-ltb, le-leb, le-ltb, lt-leb}
-use Rattle.std.proofs.lemmas.Option.{slice_get_past}
-use Rattle.dist_capture.specs.Parts.{part}
-use Rattle.dist_capture.specs.Streams.{byte_at, past, new_part}
-use Rattle.dist_capture.specs.Arrivals.{covers}
+use Rattle.std.proofs.Common.{◌≡◌, ℕ, ◌+◌, ◌-◌, ◌%◌, ◌^◌, ◌<◌, ◌≤◌, Bool, true, false, cond, ltb, leb, List, length, drop, Option, None, refl, ◌∙◌, arith, inl}
+use Rattle.std.proofs.Common.{inr, length-take, length-drop, slice_get, lt-ltb, le-leb, le-ltb}
+use Rattle.std.proofs.lemmas.{Bool.cases_lt, Bool.lt-leb, Option.slice_get_past}
+use Rattle.dist_capture.specs.{Arrivals.covers, Parts.part, Streams.byte_at, Streams.past, Streams.new_part}
 use Rattle.dist_capture.proofs.Known.{slice_get-drop, slice_get-take}
 
 -- how far one sequence number is past another

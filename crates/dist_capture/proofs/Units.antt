@@ -1,14 +1,11 @@
 -- The bytes of a packet are in its unit.
-use Rattle.std.proofs.Common.{◌≡◌, ℕ, ◌+◌, ◌-◌, ◌≤◌, Bool, true, false, cond, List, length, take, drop, Option, Some, None, Result, Ok, Err, refl, arith}
-use Rattle.std.specs.Prelude.{IfOk, slice_get, nat_lt, ◌==◌}
-use Rattle.std.proofs.lemmas.Bool.{ltb-false}
-use Rattle.dist_capture.specs.declared.fault.CaptureFault.{CaptureFault}
-use Rattle.dist_capture.specs.declared.fault.CaptureFault.TheVariants.{Malformed}
-use Rattle.dist_capture.specs.declared.unit.Unit.TheVariants as unit
-use Rattle.dist_capture.specs.declared.format.ByteOrder.{ByteOrder}
+use Rattle.std.proofs.Common.{◌≡◌, ℕ, ◌+◌, ◌-◌, ◌≤◌, Bool, true, false, cond, List, length, take, drop, Option, Some, None, Result, Ok, Err, refl, arith, IfOk}
+use Rattle.std.proofs.Common.{slice_get, nat_lt, ◌==◌, ltb-false}
+use Rattle.dist_capture.specs.Formats.{◌>>=◌, number, is_section, section_order, packet, tick_of, clock_of, interface_unit, captured_length, enhanced_by}
+use Rattle.dist_capture.specs.Formats.{enhanced_unit, simple_by, simple, block, IsWithin}
+use Rattle.dist_capture.specs.declared.{fault.CaptureFault.CaptureFault, fault.CaptureFault.TheVariants.Malformed, format.ByteOrder.ByteOrder, unit.Unit.Unit}
 use Rattle.dist_capture.specs.declared.format.Interface.{Interface}
-use Rattle.dist_capture.specs.declared.unit.Unit.{Unit}
-use Rattle.dist_capture.specs.Formats.{◌>>=◌, number, is_section, section_order, packet, tick_of, clock_of, interface_unit, captured_length, enhanced_by, enhanced_unit, simple_by, simple, block, IsWithin}
+use Rattle.dist_capture.specs.declared.unit.Unit.TheVariants as unit
 
 -- a packet that is within so many bytes
 abbrev pub Within : ℕ → Result Unit CaptureFault → Type 0

@@ -1,12 +1,8 @@
 -- The steps of a walk over headers, and over options.
-use Rattle.std.proofs.Common.{◌≡◌, ℕ, zero, suc, ◌+◌, ◌*◌, ◌/◌, ◌<◌, ◌≤◌, true, false, List, length, drop, Ok, Err, refl, arith}
-use Rattle.std.specs.Prelude.{slice_index, ◌==◌}
-use Rattle.std.proofs.lemmas.Bool.{lt-ltb, le-ltb}
-use Rattle.dist_capture.specs.declared.format.ByteOrder.{ByteOrder}
-use Rattle.dist_capture.specs.declared.fault.CaptureFault.TheVariants.{Malformed}
-use Rattle.dist_capture.specs.declared.skipped.Skipped.TheVariants.{CutShort}
-use Rattle.dist_capture.specs.Network.{is_extension, upper}
-use Rattle.dist_capture.specs.Formats.{half, clock_of}
+use Rattle.std.proofs.Common.{◌≡◌, ℕ, zero, suc, ◌+◌, ◌*◌, ◌/◌, ◌<◌, ◌≤◌, true, false, List, length, drop, Ok, Err, refl, arith, slice_index, ◌==◌, lt-ltb}
+use Rattle.std.proofs.Common.{le-ltb}
+use Rattle.dist_capture.specs.{Formats.half, Formats.clock_of, Network.is_extension, Network.upper}
+use Rattle.dist_capture.specs.declared.{fault.CaptureFault.TheVariants.Malformed, format.ByteOrder.ByteOrder, skipped.Skipped.TheVariants.CutShort}
 
 pub upper_stays : (most : ℕ) (bytes : List ℕ) (type at : ℕ) → is_extension type ≡ false → upper most bytes type at ≡ Ok (type, at)
 unfolding upper

@@ -3,7 +3,7 @@ use Rattle.std.proofs.Common.{◌≡◌, ℕ, suc, ◌+◌, ◌≤◌, Bool, tru
 use Rattle.std.specs.Prelude.{◌==◌, ◌||◌, ◌&&◌, not, nat_lt, if◌then◌else◌, Contains}
 use Rattle.std.specs.Int.{w16, w32}
 use Rattle.std.specs.List.{list_any}
-use Rattle.dist_names.specs.Fields.{number_at}
+use Rattle.dist_names.specs.Fields.{Taken, number_at}
 use Rattle.dist_names.specs.Order.{same_name}
 use Rattle.dist_frames.specs.Stream.{first_body}
 use Rattle.dist_messages.specs.declared.message.Side.TheVariants.{Dialler}
@@ -13,6 +13,8 @@ use Rattle.dist_messages.specs.Canonical.{canonical}
 use Rattle.dist_secret.specs.Digest.{digest_of}
 use Rattle.dist_conformance.specs.declared.patterns.FieldCheck.{FieldCheck}
 use Rattle.dist_conformance.specs.declared.patterns.Announcement.{Announcement}
+use Rattle.dist_epmd.specs.declared.message.NodeInfo.{NodeInfo}
+use Rattle.dist_conformance.specs.declared.patterns.RegistrationCheck.{RegistrationCheck}
 use Rattle.dist_conformance.specs.declared.patterns.NamesCheck.{NamesCheck}
 use Rattle.dist_conformance.specs.declared.patterns.Pattern.{Pattern}
 use Rattle.dist_conformance.specs.declared.patterns.Pattern.TheVariants as pattern
@@ -26,7 +28,7 @@ use Rattle.dist_conformance.specs.declared.outcomes.PatternOutcome.TheVariants a
 use Rattle.dist_conformance.specs.declared.judging.Judgement.TheVariants as judgement
 use Rattle.dist_conformance.specs.Kinds.{side_of}
 use Rattle.dist_conformance.specs.Words.{begins_with}
-use Rattle.dist_conformance.specs.Judging.{Observation, AnnouncementSaid, passes, passes_if, part_outcome, open_for, by_body, place_of, by_announcement, check_passes, said_in, reply_in, by_reply, by_result, by_answer, are_lines, names_pass, by_names, body_outcome, outcome_of, joined, behind_match, sequence_of, no_passage, outcomes_of, first_passage, is_open, first_failure, may_match, by_loose, by_wanted, judgement_of}
+use Rattle.dist_conformance.specs.Judging.{Observation, AnnouncementSaid, passes, passes_if, part_outcome, open_for, by_body, place_of, by_announcement, check_passes, said_in, reply_in, by_reply, registration_in, registration_passes, by_registration, by_result, by_answer, are_lines, names_pass, by_names, body_outcome, outcome_of, joined, behind_match, sequence_of, no_passage, outcomes_of, first_passage, is_open, first_failure, may_match, by_loose, by_wanted, judgement_of}
 
 -- ---- a pattern is decided once the connection has ended
 
@@ -62,6 +64,10 @@ of_announcement k which len learned (Some i) =
 of_reply : (wanted : List ℕ) (len : ℕ) (r : Option (ℕ × List ℕ)) → Decided (by_reply wanted len r)
 of_reply wanted len None = refl
 of_reply wanted len (Some r) = either (same_name r.1 wanted) (outcome.Matches (record { count = 2 + len; challenge = Some r.0 })) (outcome.Fails deviation.Field) refl refl
+
+of_registration : (which : RegistrationCheck) (len : ℕ) (r : Taken NodeInfo) → Decided (by_registration which len r)
+of_registration which len None = refl
+of_registration which len (Some r) = either (registration_passes which r.0 r.1) (passes (2 + len)) (outcome.Fails deviation.Field) refl refl
 
 of_body : (says : List ℕ → PatternOutcome) (b : Option (List ℕ)) (e : Bool) → e ≡ true → ((body : List ℕ) → Decided (says body)) → Decided (by_body says b e)
 of_body says None e h k = ended_part e h
@@ -101,6 +107,8 @@ decided (pattern.Reply n) o came h =
     of_body (body_outcome (pattern.Reply n) o) (first_body w16 came) o.ended h (λ body. of_reply (digest_of o.cookie n) (length body) (reply_in (read Dialler body)))
 decided (pattern.Ack n) o came h = of_body (body_outcome (pattern.Ack n) o) (first_body w16 came) o.ended h
     (λ body. of_if (same_name body (canonical (message.Ack (digest_of o.cookie n)))) (2 + length body))
+decided (pattern.Registration which) o came h =
+    of_body (body_outcome (pattern.Registration which) o) (first_body w16 came) o.ended h (λ body. of_registration which (length body) (registration_in body))
 decided (pattern.Answer tag good more) o came h = of_answer tag good more o.ended came h
 decided (pattern.Names which) o came h = at_end o.ended (by_names which (length came) (number_at w32 came)) h (of_names which (length came) (number_at w32 came))
 

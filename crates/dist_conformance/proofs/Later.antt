@@ -74,6 +74,7 @@ module _ (o later : Observation) (l : IsLater o later) where
       framed (pattern.Announcement k which) came more (λ x. ap (λ learned. by_announcement k which (length x) learned (said_in (read (side_of k) x))) l.learned)
   settled (pattern.Reply n) came more b = framed (pattern.Reply n) came more (λ x. rw l.cookie refl)
   settled (pattern.Ack n) came more b = framed (pattern.Ack n) came more (λ x. rw l.cookie refl)
+  settled (pattern.Registration which) came more b = framed (pattern.Registration which) came more (λ x. refl)
   settled (pattern.Answer tag good n) came more b =
       subst (λ v. Stays (by_answer tag good n v came) (by_answer tag good n later.ended (came ++ more))) (sym l.was_open) (of_answer tag good n later.ended came more)
 

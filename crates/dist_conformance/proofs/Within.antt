@@ -3,7 +3,7 @@ use Rattle.std.proofs.Common.{◌≡◌, ℕ, ◌+◌, ◌≤◌, Bool, true, fa
 use Rattle.std.specs.Prelude.{◌==◌, ◌&&◌, not, nat_lt, nat_le, if◌then◌else◌}
 use Rattle.std.specs.Int.{w16, w32}
 use Rattle.std.specs.List.{list_any}
-use Rattle.dist_names.specs.Fields.{number_at}
+use Rattle.dist_names.specs.Fields.{Taken, number_at}
 use Rattle.dist_names.specs.Order.{same_name}
 use Rattle.dist_frames.specs.Stream.{first_body}
 use Rattle.dist_messages.specs.declared.message.Side.TheVariants.{Dialler}
@@ -11,6 +11,8 @@ use Rattle.dist_messages.specs.Reading.{read}
 use Rattle.dist_secret.specs.Digest.{digest_of}
 use Rattle.dist_conformance.specs.declared.patterns.FieldCheck.{FieldCheck}
 use Rattle.dist_conformance.specs.declared.patterns.Announcement.{Announcement}
+use Rattle.dist_epmd.specs.declared.message.NodeInfo.{NodeInfo}
+use Rattle.dist_conformance.specs.declared.patterns.RegistrationCheck.{RegistrationCheck}
 use Rattle.dist_conformance.specs.declared.patterns.NamesCheck.{NamesCheck}
 use Rattle.dist_conformance.specs.declared.patterns.Pattern.{Pattern}
 use Rattle.dist_conformance.specs.declared.patterns.Pattern.TheVariants as pattern
@@ -21,7 +23,7 @@ use Rattle.dist_conformance.specs.declared.outcomes.PatternOutcome.TheVariants a
 use Rattle.dist_conformance.specs.Kinds.{side_of}
 use Rattle.dist_conformance.specs.Words.{begins_with}
 use Rattle.dist_conformance.specs.Outcomes.{IsWithin}
-use Rattle.dist_conformance.specs.Judging.{Observation, AnnouncementSaid, passes, passes_if, part_outcome, open_for, by_body, place_of, by_announcement, check_passes, said_in, reply_in, by_reply, by_result, by_answer, are_lines, names_pass, by_names, body_outcome, outcome_of}
+use Rattle.dist_conformance.specs.Judging.{Observation, AnnouncementSaid, passes, passes_if, part_outcome, open_for, by_body, place_of, by_announcement, check_passes, said_in, reply_in, by_reply, registration_in, registration_passes, by_registration, by_result, by_answer, are_lines, names_pass, by_names, body_outcome, outcome_of}
 use Rattle.dist_conformance.proofs.Fronts.{begins_within, first_within}
 
 either : (b : Bool) (n : ℕ) (x y : PatternOutcome) → (b ≡ true → IsWithin n x) → IsWithin n y → IsWithin n (if b then x else y)
@@ -46,6 +48,10 @@ of_announcement k which len learned (Some i) n h = either (place_of i.form == pl
 of_reply : (wanted : List ℕ) (len : ℕ) (r : Option (ℕ × List ℕ)) (n : ℕ) → 2 + len ≤ n → IsWithin n (by_reply wanted len r)
 of_reply wanted len None n h = tt
 of_reply wanted len (Some r) n h = either (same_name r.1 wanted) n _ _ (λ _. h) tt
+
+of_registration : (which : RegistrationCheck) (len : ℕ) (r : Taken NodeInfo) (n : ℕ) → 2 + len ≤ n → IsWithin n (by_registration which len r)
+of_registration which len None n h = tt
+of_registration which len (Some r) n h = either (registration_passes which r.0 r.1) n _ _ (λ _. h) tt
 
 of_body : (says : List ℕ → PatternOutcome) (came : List ℕ) (b : Option (List ℕ)) (e : Bool) → first_body w16 came ≡ b
     → ((body : List ℕ) → 2 + length body ≤ length came → IsWithin (length came) (says body)) → IsWithin (length came) (by_body says b e)
@@ -87,5 +93,7 @@ within (pattern.Announcement k which) o came =
 within (pattern.Reply n) o came =
     of_body (body_outcome (pattern.Reply n) o) came (first_body w16 came) o.ended refl (λ body h. of_reply (digest_of o.cookie n) (length body) (reply_in (read Dialler body)) (length came) h)
 within (pattern.Ack n) o came = of_body (body_outcome (pattern.Ack n) o) came (first_body w16 came) o.ended refl (λ body h. of_if _ (2 + length body) (length came) h)
+within (pattern.Registration which) o came =
+    of_body (body_outcome (pattern.Registration which) o) came (first_body w16 came) o.ended refl (λ body h. of_registration which (length body) (registration_in body) (length came) h)
 within (pattern.Answer tag good more) o came = of_answer tag good more o.ended came
 within (pattern.Names which) o came = either o.ended (length came) _ _ (λ _. of_names which (length came) (number_at w32 came)) tt

@@ -1,9 +1,9 @@
 -- THE JUDGEMENT: what it means that this came.
 use Rattle.std.specs.Prelude.{ℕ, ◌+◌, ◌==◌, Bool, true, false, not, ◌&&◌, ◌||◌, nat_le, nat_lt, if◌then◌else◌}
-use Rattle.std.specs.Prelude.{List, [], ◌∷◌, length, take, drop, map, Option, Some, None, Result, Ok, Err}
+use Rattle.std.specs.Prelude.{List, [], ◌∷◌, length, take, drop, map, Option, Some, None, option_map, Result, Ok, Err}
 use Rattle.std.specs.List.{list_any, list_all, ends_with}
 use Rattle.std.specs.Int.{w16, w32}
-use Rattle.dist_names.specs.Fields.{number_at}
+use Rattle.dist_names.specs.Fields.{Taken, number_at}
 use Rattle.dist_names.specs.Flags.{of_halves, has_all}
 use Rattle.dist_names.specs.Order.{same_name}
 use Rattle.dist_frames.specs.Stream.{first_body}
@@ -14,13 +14,16 @@ use Rattle.dist_messages.specs.declared.message.Side.TheVariants.{Dialler}
 use Rattle.dist_messages.specs.declared.message_error.MessageError.{MessageError}
 use Rattle.dist_messages.specs.Canonical.{canonical}
 use Rattle.dist_messages.specs.Reading.{read}
+use Rattle.dist_epmd.specs.declared.message.NodeInfo.{NodeInfo}
+use Rattle.dist_epmd.specs.Reading.{info_at}
 use Rattle.dist_conformance.specs.Kinds.{side_of}
 use Rattle.dist_conformance.specs.Texts.{lines_of}
-use Rattle.dist_conformance.specs.Words.{begins_with}
+use Rattle.dist_conformance.specs.Words.{◌>>=◌, begins_with}
 use Rattle.dist_conformance.specs.declared.patterns.Announcement.{Announcement}
 use Rattle.dist_conformance.specs.declared.patterns.Announcement.TheVariants as kind
 use Rattle.dist_conformance.specs.declared.patterns.FieldCheck.{FieldCheck}
 use Rattle.dist_conformance.specs.declared.patterns.FieldCheck.TheVariants as check
+use Rattle.dist_conformance.specs.declared.patterns.RegistrationCheck.{RegistrationCheck}
 use Rattle.dist_conformance.specs.declared.patterns.NamesCheck.{NamesCheck}
 use Rattle.dist_conformance.specs.declared.patterns.NamesCheck.TheVariants as names
 use Rattle.dist_conformance.specs.declared.patterns.Pattern.{Pattern}
@@ -127,7 +130,7 @@ is_fresh (Some n) learned = is_new n learned
 abbrev pub check_passes : FieldCheck → ℕ → List Learned → AnnouncementSaid → Bool
 check_passes check.Any len learned i = true
 check_passes (check.Name name) len learned i = same_name i.name name
-check_passes (check.Creation least) len learned i = nat_le least i.creation
+check_passes (check.Creation least most) len learned i = nat_le least i.creation && nat_le i.creation most
 check_passes (check.Has flags) len learned i = has_all i.flags flags.0
 check_passes check.Fresh len learned i = is_fresh i.challenge learned
 check_passes check.Bare len learned i = len == i.size
@@ -157,6 +160,37 @@ abbrev pub by_reply : List ℕ → ℕ → Option (ℕ × List ℕ) → PatternO
 by_reply wanted len None = outcome.Fails deviation.Other
 by_reply wanted len (Some reply) =
     if same_name reply.1 wanted then outcome.Matches (record { count = 2 + len; challenge = Some reply.0 }) else outcome.Fails deviation.Field
+
+-- ---- registrations
+
+-- what a body registers, and what stands behind its fields
+abbrev pub registration_in : List ℕ → Taken NodeInfo
+registration_in [] = None
+registration_in (tag ∷ rest) = if tag == 0x78 then info_at rest else None
+
+-- THE PORT THAT IS REGISTERED in what came, if that begins with a registration
+abbrev pub registered_port : List ℕ → Option ℕ
+registered_port came = option_map (λ (r : NodeInfo × List ℕ). r.0.port) (first_body w16 came >>= registration_in)
+
+-- a number is this one, where one is named
+abbrev pub is_named : Option ℕ → ℕ → Bool
+is_named None n = true
+is_named (Some wanted) n = wanted == n
+
+-- the name has no `@`, and no bytes stand behind the fields
+abbrev pub is_bare : List ℕ → List ℕ → Bool
+is_bare name behind = list_all (λ byte. not (byte == 64)) name && length behind == 0
+
+-- the check of a registration with these bytes behind its fields
+abbrev pub registration_passes : RegistrationCheck → NodeInfo → List ℕ → Bool
+registration_passes which i behind =
+    is_named which.node_type i.node_type && is_named which.protocol i.protocol && is_named which.highest i.highest
+    && is_named which.lowest i.lowest && (not which.bare || is_bare i.name behind)
+
+-- a registration that passes, where the body of so many bytes is one
+abbrev pub by_registration : RegistrationCheck → ℕ → Taken NodeInfo → PatternOutcome
+by_registration which len None = outcome.Fails deviation.Other
+by_registration which len (Some r) = if registration_passes which r.0 r.1 then passes (2 + len) else outcome.Fails deviation.Field
 
 -- ---- answers of a port mapper
 
@@ -205,6 +239,7 @@ abbrev pub body_outcome : Pattern → Observation → List ℕ → PatternOutcom
 body_outcome (pattern.Frame front) o body = passes_if (begins_with front body) (2 + length body)
 body_outcome (pattern.Announcement k which) o body = by_announcement k which (length body) o.learned (said_in (read (side_of k) body))
 body_outcome (pattern.Reply challenge) o body = by_reply (digest_of o.cookie challenge) (length body) (reply_in (read Dialler body))
+body_outcome (pattern.Registration which) o body = by_registration which (length body) (registration_in body)
 body_outcome (pattern.Ack challenge) o body = passes_if (same_name body (canonical (message.Ack (digest_of o.cookie challenge)))) (2 + length body)
 body_outcome other o body = outcome.Open
 

@@ -1,5 +1,5 @@
 -- The messages of a step `say`, as a row writes them.
-use Rattle.std.specs.Prelude.{ℕ, ◌||◌, if◌then◌else◌, List, [], ◌∷◌, codes, is_ok, Option, Some, None, option_map}
+use Rattle.std.specs.Prelude.{ℕ, Bool, true, false, ◌||◌, if◌then◌else◌, List, [], ◌∷◌, codes, is_ok, Option, Some, None, option_map}
 use Rattle.std.specs.Result.{result_ok}
 use Rattle.dist_names.specs.Flags.{low_half, high_half}
 use Rattle.dist_messages.specs.declared.message.Message.{Message}
@@ -10,7 +10,9 @@ use Rattle.dist_messages.specs.Reading.{read}
 use Rattle.dist_epmd.specs.declared.message.NodeInfo.{NodeInfo}
 use Rattle.dist_epmd.specs.declared.message.Request.{Request}
 use Rattle.dist_epmd.specs.declared.message.Request.TheVariants as request
-use Rattle.dist_epmd.specs.Layout.{written_request}
+use Rattle.dist_epmd.specs.declared.message.Answer.{Answer}
+use Rattle.dist_epmd.specs.declared.message.Answer.TheVariants as answer
+use Rattle.dist_epmd.specs.Layout.{written_request, written_answer}
 use Rattle.dist_conformance.specs.declared.digests.ReplyDigest.{ReplyDigest}
 use Rattle.dist_conformance.specs.declared.digests.ReplyDigest.TheVariants as digest
 use Rattle.dist_conformance.specs.declared.patterns.Announcement.{Announcement}
@@ -102,6 +104,22 @@ info t words =
 unfoldable pub request_part : Request → Option SaidPart
 request_part r = option_map (λ body. part.Bytes (frame_said (edited body 0 []))) (result_ok (written_request r))
 
+-- the bytes of an answer
+unfoldable pub answer_said : Answer → Option (List ℕ)
+answer_said a = result_ok (written_answer a)
+
+-- an answer to a registration, whose creation has 4 bytes or 2
+abbrev pub behind_result : Bool → ℕ → List (List ℕ) → Read Answer
+behind_result true code words = field (codes "creation=") (number_in 4294967295) 77 words >>= (λ creation. give (answer.AliveX code creation.0) creation.1)
+behind_result false code words = field (codes "creation=") (number_in 65535) 77 words >>= (λ creation. give (answer.Alive code creation.0) creation.1)
+
+unfoldable pub alive_answer : Bool → List (List ℕ) → Read Answer
+alive_answer has_four words = field (codes "result=") (number_in 255) 0 words >>= (λ code. behind_result has_four code.0 code.1)
+
+-- its bytes
+unfoldable pub answer_part : Bool → List (List ℕ) → Read SaidPart
+answer_part has_four words = alive_answer has_four words >>= (λ a. answer_said a.0 >>= (λ bytes. give (part.Bytes bytes) a.1))
+
 -- ---- all messages
 
 abbrev pub message_words : List (List ℕ × MessageWord)
@@ -110,7 +128,8 @@ message_words =
     ∷ (codes "challenge", word.Announcement kind.Challenge) ∷ (codes "oldchallenge", word.Announcement kind.OldChallenge)
     ∷ (codes "complement", word.Announcement kind.Complement) ∷ (codes "status", word.Status)
     ∷ (codes "reply", word.Reply) ∷ (codes "ack", word.Ack) ∷ (codes "tick", word.Tick)
-    ∷ (codes "alive2", word.Alive2) ∷ (codes "lookup", word.Lookup) ∷ (codes "names", word.Names)
+    ∷ (codes "alive2", word.Alive2) ∷ (codes "alive2x", word.Alive2Answer true) ∷ (codes "alive2y", word.Alive2Answer false)
+    ∷ (codes "lookup", word.Lookup) ∷ (codes "names", word.Names)
     ∷ (codes "frame", word.Frame) ∷ (codes "raw", word.Raw) ∷ []
 
 -- a message of this word
@@ -121,6 +140,7 @@ behind_word t word.Reply words = digest_terms words >>= (λ d. give (part.Reply 
 behind_word t word.Ack words = digest_terms words >>= (λ d. give (part.Ack d.0) d.1)
 behind_word t word.Tick words = give (part.Bytes (0 ∷ 0 ∷ 0 ∷ 0 ∷ [])) words
 behind_word t word.Alive2 words = info t words >>= (λ i. request_part (request.Alive i.0) >>= (λ p. give p i.1))
+behind_word t (word.Alive2Answer has_four) words = answer_part has_four words
 behind_word t word.Lookup words = name_in t.short words >>= (λ name. request_part (request.PortPlease name.0) >>= (λ p. give p name.1))
 behind_word t word.Names words = request_part request.Names >>= (λ p. give p words)
 behind_word t word.Frame words = field [] bytes_in [] words >>= (λ body. give (part.Bytes (frame_said (edited body.0 0 []))) body.1)

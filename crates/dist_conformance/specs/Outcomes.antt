@@ -5,6 +5,8 @@ use Rattle.dist_conformance.specs.declared.outcomes.Deviation.TheVariants as dev
 use Rattle.dist_conformance.specs.declared.outcomes.PatternOutcome.{PatternOutcome}
 use Rattle.dist_conformance.specs.declared.outcomes.PatternOutcome.TheVariants as outcome
 use Rattle.dist_conformance.specs.declared.outcomes.AnnouncementFields.{AnnouncementFields}
+use Rattle.dist_epmd.specs.declared.message.NodeInfo.{NodeInfo}
+use Rattle.dist_epmd.specs.declared.fields.InfoView.{InfoView}
 use Rattle.dist_conformance.specs.Judging.{AnnouncementSaid}
 
 -- the word of a deviation in reports
@@ -22,3 +24,15 @@ IsWithin n other = Unit {0}
 -- what a name, a challenge or a complement says
 abbrev pub said_of : AnnouncementFields → AnnouncementSaid
 said_of i = record { form = i.form; flags = i.flags.0; challenge = i.challenge; creation = i.creation; name = i.name.now; size = i.size }
+
+-- what a registration says
+abbrev pub info_of : InfoView → NodeInfo
+info_of i = record {
+  port = i.port;
+  node_type = i.node_type;
+  protocol = i.protocol;
+  highest = i.highest;
+  lowest = i.lowest;
+  name = i.name.now;
+  extra = i.extra.now;
+}

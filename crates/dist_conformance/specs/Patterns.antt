@@ -1,11 +1,10 @@
 -- What a row demands, as it writes it.
 use Rattle.std.specs.Prelude.{ℕ, Bool, true, false, List, [], ◌∷◌, ◌++◌, drop, codes, map, Option, Some, None, option_map, Ok}
-use Rattle.std.specs.Result.{result_ok}
 use Rattle.dist_epmd.specs.declared.message.Answer.TheVariants as answer
-use Rattle.dist_epmd.specs.Layout.{written_answer}
 use Rattle.dist_conformance.specs.declared.patterns.FieldCheck.{FieldCheck}
 use Rattle.dist_conformance.specs.declared.patterns.FieldCheck.TheVariants as check
 use Rattle.dist_conformance.specs.declared.patterns.Announcement.TheVariants as kind
+use Rattle.dist_conformance.specs.declared.patterns.RegistrationCheck.{RegistrationCheck}
 use Rattle.dist_conformance.specs.declared.patterns.NamesCheck.{NamesCheck}
 use Rattle.dist_conformance.specs.declared.patterns.NamesCheck.TheVariants as names
 use Rattle.dist_conformance.specs.declared.patterns.Pattern.{Pattern}
@@ -17,8 +16,8 @@ use Rattle.dist_conformance.specs.Texts.{parts_of, words_of}
 use Rattle.dist_conformance.specs.Terms.{Terms}
 use Rattle.dist_conformance.specs.Lists.{all_in, good}
 use Rattle.dist_conformance.specs.Words.{◌>>=◌, Read, give, next_in, field, field_or, mark_in, value_in, whole, meaning_in}
-use Rattle.dist_conformance.specs.Fields.{number_in, bytes_in, flag_in}
-use Rattle.dist_conformance.specs.Messages.{info, status_said}
+use Rattle.dist_conformance.specs.Fields.{number_in, optional_number, bytes_in, flag_in}
+use Rattle.dist_conformance.specs.Messages.{info, answer_said, status_said}
 
 -- ---- names, challenges and complements
 
@@ -36,10 +35,21 @@ mark_check words = mark_in (codes "fresh") words >>= (λ fresh. mark_in (codes "
 unfoldable pub field_check : List (List ℕ) → Read FieldCheck
 field_check words =
     field_or (codes "name=") (λ value. Some (check.Name value))
-    (field_or (codes "creation>=") (λ value. option_map (λ n. check.Creation n) (number_in 4294967295 value))
-    (field_or (codes "has=") (λ value. option_map (λ f. check.Has f) (flag_in value)) (mark_check words) words) words) words
+    (field_or (codes "creation=") (λ value. option_map (λ n. check.Creation n n) (number_in 4294967295 value))
+    (field_or (codes "creation>=") (λ value. option_map (λ n. check.Creation n 4294967295) (number_in 4294967295 value))
+    (field_or (codes "has=") (λ value. option_map (λ f. check.Has f) (flag_in value)) (mark_check words) words) words) words) words
 
 -- ---- the port mapper
+
+-- what a registration has to be
+unfoldable pub registration_check : List (List ℕ) → Read RegistrationCheck
+registration_check words =
+    optional_number (codes "type=") words >>= (λ type.
+    optional_number (codes "protocol=") type.1 >>= (λ protocol.
+    optional_number (codes "high=") protocol.1 >>= (λ high.
+    optional_number (codes "low=") high.1 >>= (λ low.
+    mark_in (codes "bare") low.1 >>= (λ bare.
+    give (record { node_type = type.0; protocol = protocol.0; highest = high.0; lowest = low.0; bare = bare.0 }) bare.1)))))
 
 -- the line of a node at this port
 abbrev pub names_line : List ℕ → List ℕ → List ℕ
@@ -65,7 +75,7 @@ answer_words = (codes "ok", true) ∷ (codes "known", true) ∷ (codes "refused"
 
 -- the answer to a lookup: a node, or none
 abbrev pub looked_up : Terms → Bool → List (List ℕ) → Read Pattern
-looked_up t true words = info t words >>= (λ i. result_ok (written_answer (answer.Port (Ok i.0))) >>= (λ bytes. give (pattern.Bytes bytes) i.1))
+looked_up t true words = info t words >>= (λ i. answer_said (answer.Port (Ok i.0)) >>= (λ bytes. give (pattern.Bytes bytes) i.1))
 looked_up t false words = give (pattern.Answer 0x77 false 0) words
 
 -- ---- patterns
@@ -76,8 +86,8 @@ pattern_words =
     ∷ (codes "frame", word.Frame) ∷ (codes "status", word.Status)
     ∷ (codes "name", word.Announcement kind.Name) ∷ (codes "oldname", word.Announcement kind.OldName)
     ∷ (codes "challenge", word.Announcement kind.Challenge) ∷ (codes "complement", word.Announcement kind.Complement)
-    ∷ (codes "reply", word.Reply) ∷ (codes "ack", word.Ack) ∷ (codes "alive2x", word.Answer 0x76 4) ∷ (codes "alive2y", word.Answer 0x79 2)
-    ∷ (codes "port2", word.Port2) ∷ (codes "names", word.Names) ∷ []
+    ∷ (codes "reply", word.Reply) ∷ (codes "ack", word.Ack) ∷ (codes "alive2req", word.Registration)
+    ∷ (codes "alive2x", word.Answer 0x76 4) ∷ (codes "alive2y", word.Answer 0x79 2) ∷ (codes "port2", word.Port2) ∷ (codes "names", word.Names) ∷ []
 
 -- a pattern of this word
 abbrev pub behind_word : Terms → PatternWord → List (List ℕ) → Read Pattern
@@ -90,6 +100,7 @@ behind_word t word.Status words = next_in status_said words >>= (λ frame. give 
 behind_word t (word.Announcement k) words = field_check words >>= (λ c. give (pattern.Announcement k c.0) c.1)
 behind_word t word.Reply words = field (codes "challenge=") (number_in 4294967295) 123456789 words >>= (λ n. give (pattern.Reply n.0) n.1)
 behind_word t word.Ack words = field (codes "challenge=") (number_in 4294967295) 123456789 words >>= (λ n. give (pattern.Ack n.0) n.1)
+behind_word t word.Registration words = registration_check words >>= (λ c. give (pattern.Registration c.0) c.1)
 behind_word t (word.Answer tag count) words = next_in (meaning_in answer_words) words >>= (λ g. give (pattern.Answer tag g.0 count) g.1)
 behind_word t word.Port2 words = next_in (meaning_in answer_words) words >>= (λ g. looked_up t g.0 g.1)
 behind_word t word.Names words = names_check words >>= (λ c. give (pattern.Names c.0) c.1)

@@ -1,6 +1,5 @@
 -- The steps of a talk, as a row writes them.
 use Rattle.std.specs.Prelude.{ℕ, if◌then◌else◌, List, [], ◌∷◌, length, drop, codes, map, Option, Some, None, option_map, unwrap_or}
-use Rattle.dist_epmd.specs.declared.message.NodeInfo.{NodeInfo}
 use Rattle.dist_conformance.specs.declared.steps.Action.{Action}
 use Rattle.dist_conformance.specs.declared.steps.Action.TheVariants as action
 use Rattle.dist_conformance.specs.declared.steps.TalkStep.{TalkStep}
@@ -51,9 +50,9 @@ saying_in t text = saying_of_parts t (parts_of 44 text)
 
 abbrev pub action_words : List (List ℕ × ActionWord)
 action_words =
-    (codes "dial", word.Dial) ∷ (codes "ask", word.Ask) ∷ (codes "call", word.Call) ∷ (codes "half", word.Half) ∷ (codes "close", word.Close)
-    ∷ (codes "reset", word.Reset) ∷ (codes "wait ", word.Wait) ∷ (codes "say ", word.Say) ∷ (codes "hear ", word.Hear)
-    ∷ (codes "want ", word.Want) ∷ (codes "tell ", word.Tell) ∷ []
+    (codes "dial", word.Dial) ∷ (codes "ask", word.Ask) ∷ (codes "call", word.Call) ∷ (codes "start", word.Start) ∷ (codes "take", word.Take)
+    ∷ (codes "half", word.Half) ∷ (codes "close", word.Close) ∷ (codes "reset", word.Reset) ∷ (codes "wait ", word.Wait)
+    ∷ (codes "say ", word.Say) ∷ (codes "hear ", word.Hear) ∷ (codes "want ", word.Want) ∷ (codes "tell ", word.Tell) ∷ []
 
 -- the first row of a table with whose word a text begins, and what stands behind that
 unfoldable pub keyed_in : {K : Type 0} → List (List ℕ × K) → List ℕ → Option (K × List ℕ)
@@ -65,15 +64,17 @@ abbrev pub if_none : List ℕ → Action → Option Action
 if_none [] a = Some a
 if_none (c ∷ cs) a = None
 
--- what is registered for a call
-unfoldable pub call_in : Terms → List ℕ → Option NodeInfo
-call_in t text = whole (info t (words_of text))
+-- a call: whether none has to come within a time, and what is registered for it
+unfoldable pub call_in : Terms → List ℕ → Option Action
+call_in t text = whole (optional_number (codes "none=") (words_of text) >>= (λ none. info t none.1 >>= (λ i. give (action.Call none.0 i.0) i.1)))
 
 -- what stands behind the word of an action
 abbrev pub behind_word : Terms → ActionWord → List ℕ → Option Action
 behind_word t word.Dial text = if_none text action.Dial
 behind_word t word.Ask text = if_none text action.Ask
-behind_word t word.Call text = option_map (λ i. action.Call i) (call_in t text)
+behind_word t word.Call text = call_in t text
+behind_word t word.Start text = if_none text action.Start
+behind_word t word.Take text = if_none text action.Take
 behind_word t word.Half text = if_none text action.Half
 behind_word t word.Close text = if_none text action.Close
 behind_word t word.Reset text = if_none text action.Reset

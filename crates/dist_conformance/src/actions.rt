@@ -16,7 +16,6 @@ use crate::steps::{Action, SaidPart, Saying, TalkStep};
 use crate::terms::{TalkTerms, expand};
 use crate::texts::{split, words_of};
 use crate::words::LineWords;
-use dist_epmd::NodeInfo;
 use dist_names::ByteString;
 use std::alloc::Global;
 
@@ -94,6 +93,8 @@ enum ActionWord {
     Dial,
     Ask,
     Call,
+    Start,
+    Take,
     Half,
     Close,
     Reset,
@@ -105,10 +106,12 @@ enum ActionWord {
 }
 
 // A space stands behind the word where something has to follow.
-const ACTIONS: [(&str, ActionWord); 11] = [
+const ACTIONS: [(&str, ActionWord); 13] = [
     ("dial", ActionWord::Dial),
     ("ask", ActionWord::Ask),
     ("call", ActionWord::Call),
+    ("start", ActionWord::Start),
+    ("take", ActionWord::Take),
     ("half", ActionWord::Half),
     ("close", ActionWord::Close),
     ("reset", ActionWord::Reset),
@@ -153,15 +156,16 @@ fn if_none(text: &[u8], action: Action) -> Result<Action, ReadFault>
     }
 }
 
-// What is registered for a call.
+// A call, with what is registered for it.
 #[tactic(auto, unfolding(crate::specs::Steps::call_in))]
-fn call_in(alloc: Global, terms: &TalkTerms<'_>, text: &[u8]) -> Result<NodeInfo, ReadFault>
+fn call_in(alloc: Global, terms: &TalkTerms<'_>, text: &[u8]) -> Result<Action, ReadFault>
     ensures { Reads result (call_in (terms_of terms.now) text.now) }
 {
     let words = words_of(alloc, text)?;
     let mut words = LineWords::new(&words);
+    let none = optional_number(&mut words, b"none=")?;
     let info = info_of(alloc, terms, &mut words)?;
-    words.whole(info)
+    words.whole(Action::Call(none, info))
 }
 
 // What stands behind the word of an action.
@@ -176,7 +180,9 @@ fn action_behind(
     match word {
         ActionWord::Dial => if_none(text, Action::Dial),
         ActionWord::Ask => if_none(text, Action::Ask),
-        ActionWord::Call => Ok(Action::Call(call_in(alloc, terms, text)?)),
+        ActionWord::Call => call_in(alloc, terms, text),
+        ActionWord::Start => if_none(text, Action::Start),
+        ActionWord::Take => if_none(text, Action::Take),
         ActionWord::Half => if_none(text, Action::Half),
         ActionWord::Close => if_none(text, Action::Close),
         ActionWord::Reset => if_none(text, Action::Reset),

@@ -3,22 +3,23 @@
 ghost use Rattle.std.specs.Prelude.{◌≡◌, IfOk};
 ghost use Rattle.dist_conformance.specs.Terms.{terms_of};
 ghost use Rattle.dist_conformance.specs.Words.{Reads, ReadsUpTo};
-ghost use Rattle.dist_conformance.specs.Patterns.{mark_check, field_check, names_line, names_check, looked_up, behind_word};
+ghost use Rattle.dist_conformance.specs.Patterns.{mark_check, field_check, registration_check, names_line, names_check, looked_up, behind_word};
 ghost use Rattle.dist_conformance.specs.Patterns.{pattern_in, sequence_in, alternatives_in, demand_in};
 
 use crate::faults::ReadFault;
 use crate::fields::{
     bytes_field, challenge_field, flag_of, mark, meaning_word, number_field, number_of,
+    optional_number,
 };
 use crate::from_text::{FromText, all_of};
 use crate::lists::SuiteList;
-use crate::messages::{info_of, status_said};
-use crate::patterns::{Announcement, FieldCheck, NamesCheck, Pattern};
+use crate::messages::{answer_said, info_of, status_said};
+use crate::patterns::{Announcement, FieldCheck, NamesCheck, Pattern, RegistrationCheck};
 use crate::steps::Demand;
 use crate::terms::TalkTerms;
 use crate::texts::{split, words_of};
 use crate::words::LineWords;
-use dist_epmd::{Answer, EpmdError, encode_answer};
+use dist_epmd::Answer;
 use dist_names::ByteString;
 use std::alloc::{AllocError, Global};
 
@@ -34,13 +35,14 @@ enum PatternWord {
     Announcement(Announcement),
     Reply,
     Ack,
+    Registration,
     // An answer to a registration: its first byte, and the bytes of its creation.
     Answer(u8, usize),
     Port2,
     Names,
 }
 
-const PATTERNS: [(&str, PatternWord); 16] = [
+const PATTERNS: [(&str, PatternWord); 17] = [
     ("end", PatternWord::End),
     ("silence", PatternWord::Silence),
     ("open", PatternWord::Open),
@@ -59,6 +61,7 @@ const PATTERNS: [(&str, PatternWord); 16] = [
     ),
     ("reply", PatternWord::Reply),
     ("ack", PatternWord::Ack),
+    ("alive2req", PatternWord::Registration),
     ("alive2x", PatternWord::Answer(0x76, 4)),
     ("alive2y", PatternWord::Answer(0x79, 2)),
     ("port2", PatternWord::Port2),
@@ -95,13 +98,31 @@ fn field_check(alloc: Global, words: &mut LineWords<'_>) -> Result<FieldCheck, R
     if let Some(name) = words.value(b"name=") {
         return Ok(FieldCheck::Name(ByteString::from_slice(alloc, name)?));
     }
+    if let Some(creation) = words.value(b"creation=") {
+        let creation = number_of(creation, u32::MAX)?;
+        return Ok(FieldCheck::Creation(creation, creation));
+    }
     if let Some(least) = words.value(b"creation>=") {
-        return Ok(FieldCheck::Creation(number_of(least, u32::MAX)?));
+        return Ok(FieldCheck::Creation(number_of(least, u32::MAX)?, u32::MAX));
     }
     match words.value(b"has=") {
         Some(flag) => Ok(FieldCheck::Has(flag_of(flag)?)),
         None => mark_check(words),
     }
+}
+
+// What a registration has to be.
+#[tactic(auto, unfolding(crate::specs::Patterns::registration_check))]
+fn registration_check(words: &mut LineWords<'_>) -> Result<RegistrationCheck, ReadFault>
+    ensures { ReadsUpTo result words.new (registration_check words.old) }
+{
+    Ok(RegistrationCheck {
+        node_type: optional_number(words, b"type=")?,
+        protocol: optional_number(words, b"protocol=")?,
+        highest: optional_number(words, b"high=")?,
+        lowest: optional_number(words, b"low=")?,
+        bare: mark(words, b"bare")?,
+    })
 }
 
 // The line of a node, or its front where the port is left out.
@@ -146,11 +167,7 @@ fn lookup_answer(
         return Ok(Pattern::Answer(0x77, false, 0));
     }
     let info = info_of(alloc, terms, words)?;
-    match encode_answer(alloc, &Answer::Port(Ok(info))) {
-        Ok(bytes) => Ok(Pattern::Bytes(ByteString::from_vec(bytes))),
-        Err(EpmdError::NoMemory) => Err(ReadFault::NoMemory),
-        Err(_) => Err(ReadFault::Bad),
-    }
+    Ok(Pattern::Bytes(answer_said(alloc, &Answer::Port(Ok(info)))?))
 }
 
 // A pattern of this word.
@@ -174,6 +191,7 @@ fn pattern_of(
         }
         PatternWord::Reply => Ok(Pattern::Reply(challenge_field(words)?)),
         PatternWord::Ack => Ok(Pattern::Ack(challenge_field(words)?)),
+        PatternWord::Registration => Ok(Pattern::Registration(registration_check(words)?)),
         PatternWord::Answer(tag, count) => {
             Ok(Pattern::Answer(tag, meaning_word(&ANSWERS, words)?, count))
         }

@@ -21,6 +21,7 @@ mod messages;
 mod outcomes;
 mod patterns;
 mod reading;
+mod registrations;
 mod rows;
 mod say;
 mod steps;
@@ -39,8 +40,9 @@ pub use laws::{
 };
 pub use lists::SuiteList;
 pub use outcomes::{Deviation, Observed, Passage};
-pub use patterns::{Announcement, FieldCheck, NamesCheck, Pattern};
+pub use patterns::{Announcement, FieldCheck, NamesCheck, Pattern, RegistrationCheck};
 pub use reading::read_section;
+pub use registrations::registered_port;
 pub use rows::{Level, Marks, RowTalk, Section, SectionKind, SuiteRow};
 pub use say::{Learned, bytes_to_say};
 pub use steps::{Action, Demand, DigestTerms, SaidPart, Saying, TalkStep};

@@ -7,11 +7,12 @@ ghost use Rattle.dist_messages.specs.Reading.{read};
 ghost use Rattle.dist_conformance.specs.declared.faults.ReadFault.TheVariants.{Bad};
 ghost use Rattle.dist_conformance.specs.declared.steps.SaidPart.TheVariants as part;
 ghost use Rattle.dist_conformance.specs.declared.digests.ReplyDigest.TheVariants as digest;
+ghost use Rattle.dist_conformance.specs.declared.messages.MessageWord.TheVariants as word;
 ghost use Rattle.dist_conformance.specs.Saying.{edited, frame_said};
 ghost use Rattle.dist_conformance.specs.Terms.{terms_of};
 ghost use Rattle.dist_conformance.specs.Words.{Reads, ReadsUpTo, field, meaning_in};
 ghost use Rattle.dist_conformance.specs.Messages.{announcement_terms, message_of, announcement_part, status_said, digest_words, digest_terms};
-ghost use Rattle.dist_conformance.specs.Messages.{info_numbers, info, request_part, behind_word, part_in};
+ghost use Rattle.dist_conformance.specs.Messages.{info_numbers, info, request_part, answer_said, alive_answer, answer_part, behind_word, part_in};
 
 use crate::digests::ReplyDigest;
 use crate::faults::ReadFault;
@@ -26,7 +27,7 @@ use crate::steps::{DigestTerms, SaidPart};
 use crate::terms::TalkTerms;
 use crate::texts::words_of;
 use crate::words::LineWords;
-use dist_epmd::{EpmdError, NodeInfo, Request, encode_request};
+use dist_epmd::{Answer, EpmdError, NodeInfo, Request, encode_answer, encode_request};
 use dist_messages::{Message, MessageError, Side, encode, read_in_place};
 use dist_names::{ByteString, Creation, Flags};
 use std::alloc::{AllocError, Global};
@@ -40,13 +41,15 @@ enum MessageWord {
     Ack,
     Tick,
     Alive2,
+    // An answer to a registration: whether it has a creation of 4 bytes, or of 2.
+    Alive2Answer(bool),
     Lookup,
     Names,
     Frame,
     Raw,
 }
 
-const MESSAGES: [(&str, MessageWord); 14] = [
+const MESSAGES: [(&str, MessageWord); 16] = [
     ("name", MessageWord::Announcement(Announcement::Name)),
     ("oldname", MessageWord::Announcement(Announcement::OldName)),
     (
@@ -66,6 +69,8 @@ const MESSAGES: [(&str, MessageWord); 14] = [
     ("ack", MessageWord::Ack),
     ("tick", MessageWord::Tick),
     ("alive2", MessageWord::Alive2),
+    ("alive2x", MessageWord::Alive2Answer(true)),
+    ("alive2y", MessageWord::Alive2Answer(false)),
     ("lookup", MessageWord::Lookup),
     ("names", MessageWord::Names),
     ("frame", MessageWord::Frame),
@@ -292,6 +297,75 @@ fn request_part(alloc: Global, request: &Request) -> Result<SaidPart, ReadFault>
     }
 }
 
+/// The bytes of an answer.
+#[tactic(auto, unfolding(crate::specs::Messages::answer_said))]
+pub fn answer_said(alloc: Global, answer: &Answer) -> Result<ByteString, ReadFault>
+    ensures { Reads result (answer_said answer.now) }
+{
+    match encode_answer(alloc, answer) {
+        Ok(bytes) => Ok(ByteString::from_vec(bytes)),
+        Err(EpmdError::NoMemory) => Err(ReadFault::NoMemory),
+        Err(_) => Err(ReadFault::Bad),
+    }
+}
+
+// An answer to a registration, with a creation of 4 bytes or of 2.
+#[tactic(auto, unfolding(crate::specs::Messages::alive_answer))]
+fn alive_answer(has_four: bool, words: &mut LineWords<'_>) -> Result<Answer, ReadFault>
+    ensures { ReadsUpTo result words.new (alive_answer has_four words.old) }
+{
+    let result_code = number_field(words, b"result=", 0, 255)? as u8;
+    if has_four {
+        let creation = number_field(words, b"creation=", 77, u32::MAX)?;
+        return Ok(Answer::AliveX {
+            result_code,
+            creation,
+        });
+    }
+    let creation = number_field(words, b"creation=", 77, 65535)? as u16;
+    Ok(Answer::Alive {
+        result_code,
+        creation,
+    })
+}
+
+// Its bytes.
+#[tactic(auto, unfolding(crate::specs::Messages::answer_part))]
+fn answer_part(
+    alloc: Global,
+    has_four: bool,
+    words: &mut LineWords<'_>,
+) -> Result<SaidPart, ReadFault>
+    ensures { ReadsUpTo result words.new (answer_part has_four words.old) }
+{
+    let answer = alive_answer(has_four, words)?;
+    Ok(SaidPart::Bytes(answer_said(alloc, &answer)?))
+}
+
+// A registration.
+fn alive_part(
+    alloc: Global,
+    terms: &TalkTerms<'_>,
+    words: &mut LineWords<'_>,
+) -> Result<SaidPart, ReadFault>
+    ensures { ReadsUpTo result words.new (behind_word (terms_of terms.now) word.Alive2 words.old) }
+{
+    let info = info_of(alloc, terms, words)?;
+    request_part(alloc, &Request::Alive(info))
+}
+
+// A lookup.
+fn lookup_part(
+    alloc: Global,
+    terms: &TalkTerms<'_>,
+    words: &mut LineWords<'_>,
+) -> Result<SaidPart, ReadFault>
+    ensures { ReadsUpTo result words.new (behind_word (terms_of terms.now) word.Lookup words.old) }
+{
+    let name = name_field(alloc, words, terms.short)?;
+    request_part(alloc, &Request::PortPlease(name))
+}
+
 // A message of this word.
 fn part_of(
     alloc: Global,
@@ -307,14 +381,9 @@ fn part_of(
         MessageWord::Reply => Ok(SaidPart::Reply(digest_terms(alloc, words)?)),
         MessageWord::Ack => Ok(SaidPart::Ack(digest_terms(alloc, words)?)),
         MessageWord::Tick => Ok(SaidPart::Bytes(ByteString::from_slice(alloc, &[0; 4])?)),
-        MessageWord::Alive2 => {
-            let info = info_of(alloc, terms, words)?;
-            request_part(alloc, &Request::Alive(info))
-        }
-        MessageWord::Lookup => {
-            let name = name_field(alloc, words, terms.short)?;
-            request_part(alloc, &Request::PortPlease(name))
-        }
+        MessageWord::Alive2 => alive_part(alloc, terms, words),
+        MessageWord::Alive2Answer(has_four) => answer_part(alloc, has_four, words),
+        MessageWord::Lookup => lookup_part(alloc, terms, words),
         MessageWord::Names => request_part(alloc, &Request::Names),
         MessageWord::Frame => {
             let body = bytes_field(alloc, words, b"")?;

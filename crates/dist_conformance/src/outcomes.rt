@@ -19,6 +19,7 @@ ghost use Rattle.dist_conformance.specs.Judging.{by_result, by_answer, are_lines
 ghost use Rattle.dist_conformance.specs.Outcomes.{IsWithin, deviation_word, said_of};
 
 use crate::patterns::{Announcement, FieldCheck, NamesCheck, Pattern};
+use crate::registrations::registration_outcome;
 use crate::say::Learned;
 use crate::texts::first_part;
 use dist_frames::first_body;
@@ -90,8 +91,8 @@ pub enum PatternOutcome {
     Open,
 }
 
-// So many bytes match, and nothing is learned from them.
-fn passes(count: usize) -> PatternOutcome
+/// So many bytes match, and nothing is learned from them.
+pub fn passes(count: usize) -> PatternOutcome
     ensures { result ≡ passes count }
 {
     PatternOutcome::Matches(Passage {
@@ -276,7 +277,9 @@ fn check_passes(
     match check {
         FieldCheck::Any => true,
         FieldCheck::Name(name) => is_same_text(fields.name, name.as_slice()),
-        FieldCheck::Creation(least) => *least <= fields.creation,
+        FieldCheck::Creation(least, most) => {
+            *least <= fields.creation && fields.creation <= *most
+        }
         FieldCheck::Has(flags) => fields.flags.has(*flags),
         FieldCheck::Fresh => is_fresh(fields.challenge, learned),
         FieldCheck::Bare => len == fields.size,
@@ -352,6 +355,7 @@ fn body_outcome(pattern: &Pattern, observed: &Observed<'_>, body: &[u8]) -> Patt
             announcement_outcome(*kind, check, body, observed.learned)
         }
         Pattern::Reply(challenge) => reply_outcome(body, observed.cookie, *challenge),
+        Pattern::Registration(check) => registration_outcome(check, body),
         Pattern::Ack(challenge) => passes_if(is_ack(body, observed.cookie, *challenge), len),
         _ => PatternOutcome::Open,
     }
@@ -448,11 +452,8 @@ fn names_outcome(check: &NamesCheck, came: &[u8]) -> PatternOutcome
     }
 }
 
-/// What a pattern makes of what came, from here on.
-#[tactic(auto, using(crate::proofs::Within::within))]
-pub fn outcome_of(pattern: &Pattern, observed: &Observed<'_>, came: &[u8]) -> PatternOutcome
-    ensures same { result ≡ outcome_of pattern.now (observation_of observed.now) came.now }
-    ensures within { IsWithin (length came.now) result }
+fn outcome_from(pattern: &Pattern, observed: &Observed<'_>, came: &[u8]) -> PatternOutcome
+    ensures { result ≡ outcome_of pattern.now (observation_of observed.now) came.now }
 {
     let ended = observed.ended;
     match pattern {
@@ -468,4 +469,13 @@ pub fn outcome_of(pattern: &Pattern, observed: &Observed<'_>, came: &[u8]) -> Pa
             None => part_outcome(ended),
         },
     }
+}
+
+/// What a pattern makes of what came, from here on.
+#[tactic(auto, using(crate::proofs::Within::within))]
+pub fn outcome_of(pattern: &Pattern, observed: &Observed<'_>, came: &[u8]) -> PatternOutcome
+    ensures same { result ≡ outcome_of pattern.now (observation_of observed.now) came.now }
+    ensures within { IsWithin (length came.now) result }
+{
+    outcome_from(pattern, observed, came)
 }

@@ -40,8 +40,8 @@ pub enum FieldCheck {
     Any,
     /// It has this name.
     Name(ByteString),
-    /// Its creation is this one or a higher one.
-    Creation(u32),
+    /// Its creation is not below the first of these, nor above the second.
+    Creation(u32, u32),
     /// It announces these flags.
     Has(Flags),
     /// Its challenge is none of those that came before in this talk.
@@ -63,6 +63,21 @@ pub enum NamesCheck {
     Lacks(ByteString),
 }
 
+/// What a registration has to be, beside that it is one. A number that is none is not looked at.
+#[derive(Clone, Copy)]
+pub struct RegistrationCheck {
+    /// Its node type is this one.
+    pub node_type: Option<u32>,
+    /// Its protocol is this one.
+    pub protocol: Option<u32>,
+    /// Its highest version is this one.
+    pub highest: Option<u32>,
+    /// Its lowest version is this one.
+    pub lowest: Option<u32>,
+    /// Whether its name has no `@`, and no bytes stand behind its fields.
+    pub bare: bool,
+}
+
 /// One thing that is awaited on a connection. In rows a pattern is one of the words in the first column, and what stands behind it.
 ///
 /// | Words | Matches |
@@ -73,9 +88,10 @@ pub enum NamesCheck {
 /// | `bytes BYTES` | these bytes |
 /// | `frame BYTES` | a frame of the handshake whose body begins with these bytes |
 /// | `status WORD` | the frame of this status |
-/// | `name`, `oldname`, `challenge`, `complement` | the frame of this message: `name=NAME`, `creation>=N`, `has=FLAG`, `fresh` or `bare` |
+/// | `name`, `oldname`, `challenge`, `complement` | the frame of this message: `name=NAME`, `creation=N`, `creation>=N`, `has=FLAG`, `fresh` or `bare` |
 /// | `reply` | the frame of a reply to our challenge, 123456789 or `challenge=N`, by the cookie |
 /// | `ack` | the frame of the acknowledgement of our challenge, 123456789 or `challenge=N`, by the cookie |
+/// | `alive2req` | the frame of a registration, whatever stands behind its fields: `type=N` `protocol=N` `high=N` `low=N` `bare` |
 /// | `alive2x ok`, `alive2y ok` | an answer to a registration: result 0, and a creation of 4 or of 2 bytes that is not 0 |
 /// | `alive2x refused`, `alive2y refused` | the same with another result, and any creation |
 /// | `port2 known` | the answer to a lookup: a node with just these fields, which are those of `alive2` ([`SaidPart`](crate::SaidPart)) |
@@ -101,6 +117,8 @@ pub enum Pattern {
     Reply(u32),
     /// `ack`, with our challenge.
     Ack(u32),
+    /// `alive2req`.
+    Registration(RegistrationCheck),
     /// A first byte, a result and so many bytes: whether the result has to be 0 and the bytes a creation, or another one.
     Answer(u8, bool, usize),
     /// `names`.

@@ -31,13 +31,14 @@ pub struct DigestTerms {
 /// | `ack` | `challenge=` `digest=` `less=` `extra=` | an acknowledgement of the challenge that came last on the connection, or of this one |
 /// | `tick` | | a tick |
 /// | `alive2` | `port=` `type=` `protocol=` `high=` `low=` `name=` or `namehex=` `extra=` | a registration |
+/// | `alive2x`, `alive2y` | `result=` `creation=` | the answer to a registration, with a creation of 4 or of 2 bytes |
 /// | `lookup` | `name=` or `namehex=` | a lookup |
 /// | `names` | | a question for all names |
 /// | `frame` | BYTES | these bytes as the body of a frame |
 /// | `raw` | BYTES | these bytes |
 ///
 /// Usual are the talk's own name, the flags 403070f94 of releases from OTP 26 on, creation 77, challenge 123456789, the right digest,
-/// port 9009, type 77, protocol 0, versions 6 and 5. A message says those of its fields that it has. Flags are `0x` and digits, or `FLAG`
+/// port 9009, type 77, protocol 0, versions 6 and 5, result 0. A message says those of its fields that it has. Flags are `0x` and digits, or `FLAG`
 /// and `-FLAG`: the usual ones with or without this one. BYTES are hexadecimal digits; `HEX*N` has the last byte N times. `less=` leaves
 /// out the last bytes of a body, and `extra=` puts bytes behind it, so that a row can ask for a fault; the frame's length counts what is
 /// there.
@@ -81,8 +82,14 @@ pub enum Action {
     /// `ask`: a connection to the port mapper.
     Ask,
     /// `call`, and fields of `alive2`: this is registered at the node's port mapper, with a port of our own, the node is made to dial
-    /// it, and its connection is taken. A name that a talk has registered stays so for its other calls.
-    Call(NodeInfo),
+    /// it, and its connection is taken. A name that a talk has registered stays so for its other calls. `call none=MS`: the row demands
+    /// that no connection comes within so many milliseconds.
+    Call(Option<u32>, NodeInfo),
+    /// `start`: a node is started that has a port of our own for its port mapper's, and its connection is taken. It ends with the talk.
+    /// Where it has registered, each `dial` behind that goes to the port that it named.
+    Start,
+    /// `take`: another connection to our port is taken.
+    Take,
     /// `half`: our writing ends.
     Half,
     /// `close`: the connection is closed.

@@ -1,9 +1,6 @@
 -- What the definition gives can be done.
-use Rattle.std.proofs.Common.{◌≡◌, ℕ, ◌≤◌, length, Ok, arith}
-use Rattle.dist_core.proofs.Words.{table_of, table-legal, Effect, Event, NodeState, limits_of, effect_of, cost_of}
-use Rattle.dist_core.specs.Doing.{CanDo}
-use Rattle.dist_core.proofs.Numbers.{counted}
-use Rattle.dist_core.proofs.Steps.{fits}
+use Rattle.dist_core.proofs.Words.{◌≡◌, ℕ, ◌≤◌, length, Ok, arith, table_of, table-legal, CanDo, NodeState, limits_of, cost_of, effect_of, Effect, Event}
+use Rattle.dist_core.proofs.{Numbers.counted, Steps.fits}
 
 module _ (n : NodeState) (v : Event) (fresh : ℕ) (f : Effect) (is : effect_of n v fresh ≡ Ok f) (one : cost_of v ≡ 1) where
   pub can-do : length n.ends ≤ n.steps → n.steps ≤ (let l = limits_of n in l.steps) → length n.ends ≤ (let l = limits_of n in l.ends) → CanDo n f

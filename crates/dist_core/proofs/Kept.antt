@@ -1,8 +1,6 @@
 -- A step that is kept, or answered, by what its event does.
-use Rattle.std.specs.Prelude.{IsOk}
-use Rattle.std.proofs.Common.{◌≡◌, ℕ, ◌+◌, Result, Ok, Err, refl, sym, ap, ◌∙◌, subst}
-use Rattle.dist_core.proofs.Words.{EndId, Why, IsStep, Refuses, reply_of, loss_reply, KeepsDone, KeepsStep, NodeState, ends_after, Effect, Event, Reply}
-use Rattle.dist_core.proofs.Words.{StepError, cost_of, step_result}
+use Rattle.dist_core.proofs.Words.{◌≡◌, ℕ, ◌+◌, IsOk, Ok, Err, Result, sym, refl, ap, ◌∙◌, subst, EndId, Why, IsStep, Refuses, reply_of, loss_reply, KeepsDone}
+use Rattle.dist_core.proofs.Words.{KeepsStep, NodeState, ends_after, cost_of, step_result, Effect, Event, Reply, StepError}
 use Rattle.dist_core.specs.declared.event.Event.TheVariants as event
 
 -- where the reply is kept, it is returned

@@ -1,7 +1,6 @@
 -- What a call returns for a loss.
-use Rattle.std.proofs.Common.{◌≡◌, true, Option, Some, None, Result, Ok, Err, slice_get, List, refl, sym, ap, ◌∙◌, subst}
-use Rattle.std.specs.Prelude.{IsOk, IfOk, IfErr, IsTrue}
-use Rattle.dist_core.proofs.Words.{EndId, Why, End, Effect, Event, Reply, StepError, is_open, end_of, loss_reply, IsGone, IsSilent, is_loss, at_end}
+use Rattle.dist_core.proofs.Words.{◌≡◌, true, List, IfOk, IfErr, IsOk, IsTrue, slice_get, Some, None, Ok, Err, Option, Result, sym, refl, ap, ◌∙◌, subst, EndId}
+use Rattle.dist_core.proofs.Words.{is_open, End, Why, end_of, loss_reply, IsGone, IsSilent, is_loss, at_end, Effect, Event, Reply, StepError}
 use Rattle.dist_core_ends.specs.declared.known.End.TheVariants as ends
 use Rattle.dist_core.specs.declared.event.Event.TheVariants as event
 use Rattle.dist_core.specs.declared.step_error.StepError.TheVariants as error

@@ -1,10 +1,8 @@
 -- How many steps are counted, and how many ends there are: a step gives out no end above the limit.
-use Rattle.std.proofs.Common.{◌≡◌, Ok, List, ℕ, ◌+◌, ◌<◌, ◌≤◌, false, ◌||◌, length, Some, arith, ap, sym, subst, slice_get}
-use Rattle.dist_core.proofs.Words.{slice_get_within, nat_tests, EndId, End, Effect, Event, put_end, NodeState, limits_of, is_spent, is_given_out, ends_after}
-use Rattle.dist_core.proofs.Words.{StepRow, Dials, Comes_in, Begins, Ceases, Loses, Ticks, Fails, Hears, effect_of, cost_of, or_parts}
-use Rattle.dist_core.proofs.Counts.{length-other, length-within, length-after}
-use Rattle.dist_core.proofs.Rows.{row-in}
-use Rattle.dist_core.proofs.Closings.{heard-end}
+use Rattle.dist_core.proofs.Words.{◌≡◌, ℕ, ◌+◌, ◌<◌, ◌≤◌, false, ◌||◌, List, length, slice_get, Some, Ok, sym, ap, subst, arith, or_parts, nat_tests}
+use Rattle.dist_core.proofs.Words.{slice_get_within, EndId, put_end, End, NodeState, ends_after, is_given_out, is_spent, limits_of, Begins, Ceases, Comes_in}
+use Rattle.dist_core.proofs.Words.{Dials, Fails, Hears, Loses, StepRow, Ticks, cost_of, effect_of, Effect, Event}
+use Rattle.dist_core.proofs.{Closings.heard-end, Counts.length-other, Counts.length-within, Counts.length-after, Rows.row-in}
 
 module _ (n : NodeState) where
   abbrev Most : Type 0

@@ -1,7 +1,7 @@
 -- A tick leaves the ends as they are.
-use Rattle.std.proofs.Common.{◌≡◌, ℕ, ◌+◌, ◌<◌, ◌++◌, ◌∷◌, [], true, false, cond, nat_lt, length, List, Some, None, Ok, Err, sym, ap, ◌∙◌, arith, slice_get, set}
-use Rattle.dist_core.proofs.Words.{set-get_or, get_or_from_slice_get, slice_get_within, EndId, UpRecord, End, put_end, tick_text, NodeState, is_spent, goes_on}
-use Rattle.dist_core.proofs.Words.{at_end, tick_effect, step_result}
+use Rattle.dist_core.proofs.Words.{◌≡◌, ℕ, ◌+◌, ◌<◌, true, false, cond, List, [], ◌∷◌, ◌++◌, length, set, nat_lt, slice_get, Some, None, Ok, Err, sym, ap, ◌∙◌}
+use Rattle.dist_core.proofs.Words.{arith, set-get_or, get_or_from_slice_get, slice_get_within, EndId, put_end, End, UpRecord, tick_text, goes_on, NodeState}
+use Rattle.dist_core.proofs.Words.{is_spent, at_end, step_result, tick_effect}
 use Rattle.dist_core_ends.specs.declared.known.End.TheVariants as ends
 use Rattle.dist_core.specs.declared.event.Event.TheVariants as event
 use Rattle.dist_core.specs.declared.reply.Note.TheVariants as note

@@ -1,6 +1,6 @@
 -- Whether a peer among the entries from a place on has no cookie of its own.
-use Rattle.std.proofs.Common.{◌≡◌, ℕ, zero, suc, ◌+◌, true, false, ◌||◌, List, [], ◌∷◌, drop, refl, sym, ap, ◌∙◌, arith, slice_get}
-use Rattle.dist_core.proofs.Words.{list_any, Name, Entry, Setup, has_usual, is_usual_row}
+use Rattle.dist_core.proofs.Words.{◌≡◌, ℕ, zero, suc, ◌+◌, true, false, ◌||◌, List, [], ◌∷◌, drop, slice_get, sym, refl, ap, ◌∙◌, arith, list_any, Name, Entry}
+use Rattle.dist_core.proofs.Words.{Setup, has_usual, is_usual_row}
 
 abbrev Row : Type 0
 Row = Name × Entry

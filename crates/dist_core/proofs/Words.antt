@@ -1,75 +1,44 @@
 -- The words of the crates below and of the definitions here that most proofs cite, passed on from one place.
-pub use Rattle.std.proofs.lemmas.Bool.{false≢true, eqb-true, eq-eqb, cond_both, false_from_ne_true, ne_eqb, or_parts}
-pub use Rattle.std.proofs.lemmas.Bool.Decides.{nat_tests}
-pub use Rattle.std.proofs.lemmas.List.{length-map, take-append-drop, at_drop_all, length-append, map-append, map-set, set-get_or}
-pub use Rattle.std.proofs.lemmas.Option.{slice_get_within, some_pair_parts, slice_get_past, get_or_from_slice_get, slice_get-map}
-pub use Rattle.std.specs.FinMap.{get-entries, len-empty, len-entries, len-insert, len-remove}
-pub use Rattle.std.specs.List.{count_by, list_any, cons_option, filter_map}
-pub use Rattle.std.specs.Option.{option_map}
-pub use Rattle.dist_core.specs.Accepted.{named_attempt, name_taken, in_await_name, in_await_reply, name_came, verdict_in, complete_flags, in_await_complement}
-pub use Rattle.dist_core.specs.Accepted.{in_await_true}
-pub use Rattle.dist_core.specs.Acts.{Act, act, changed_or, run_acts, Changes, Forgets, Renews, Steps}
-pub use Rattle.dist_core.specs.Answers.{GivesReply, IsStep, Refuses, reply_of}
-pub use Rattle.dist_core.specs.Changing.{has_usual, after_change, change, finds_no_room, is_in_use, is_up, is_usual_row}
-pub use Rattle.dist_core.specs.Clauses.{loss_reply, IsRightReply, ClosesOnReply, end_of, IsFrame}
-pub use Rattle.dist_core.specs.Dialled.{in_await_ack, in_await_challenge, challenge_effect, in_await_status, in_doomed}
-pub use Rattle.dist_core.specs.Effects.{superseded_end, supersedes, closes, comes_up, goes_on, record_of, fresh_attempt, shuts, superseded_in, held_back, moves}
-pub use Rattle.dist_core.specs.Effects.{reply_phase, shuts_other}
-pub use Rattle.dist_core.specs.Fitting.{FitsNodeTable, table_after_effect}
-pub use Rattle.dist_core.specs.Keeping.{KeepsStep, KeepsDone}
-pub use Rattle.dist_core.specs.Losses.{is_loss, IsGone, IsSilent}
-pub use Rattle.dist_core.specs.Node.{NodeState, ends_after, limits_of, is_spent, is_given_out, new_id, is_crowded, is_full_for}
-pub use Rattle.dist_core.specs.Progress.{effect_by, CanProgress, HoldsOn}
-pub use Rattle.dist_core.specs.Rows.{StepRow, Begins, Ceases, Comes_in, Dials, Fails, Hears, Loses, Ticks, Acknowledged, Challenges, Closes, Complements}
-pub use Rattle.dist_core.specs.Rows.{Goes_on, Heard, Insists, Names, Replied, Replies, Accepts, Asks_again, Asks_alive, Comes_again, Crosses, Declines, Taken}
-pub use Rattle.dist_core.specs.Rows.{IsChallenge, Doomed_alive, Doomed_other, Given_up, IsName, Lacking_challenge, Lacking_complement, New_challenge, New_name}
-pub use Rattle.dist_core.specs.Rows.{Old_challenge, Old_name, Refuses_name, Turned_down, Unawaited, Wrong_ack, Wrong_name, Wrong_reply, awaits_in}
-pub use Rattle.dist_core.specs.Runs.{node_after, opening, run}
-pub use Rattle.dist_core.specs.Step.{effect_of, at_end, sender_to, step, framed_from, opening_effect, step_result, tick_effect, after, cost_of, message_effect}
-pub use Rattle.dist_core.specs.Step.{in_attempt, sender_in}
-pub use Rattle.dist_core.specs.declared.changing.Change.{Change}
-pub use Rattle.dist_core.specs.declared.changing.Change.TheVariants.{Allow, Cookie, UsualCookie}
-pub use Rattle.dist_core.specs.declared.effect.Effect.{Effect}
-pub use Rattle.dist_core.specs.declared.event.Event.{Event}
-pub use Rattle.dist_core.specs.declared.reply.Note.{Note}
-pub use Rattle.dist_core.specs.declared.reply.Reply.{Reply}
-pub use Rattle.dist_core.specs.declared.step_error.StepError.{StepError}
-pub use Rattle.dist_core_ends.proofs.Changes.{get-put, get-after}
-pub use Rattle.dist_core_ends.proofs.Fitting.{same, self-same, stays-closing, fit-closes, stays-open, claims, false2, fit-dial, fit-keeps, fit-name, fit-name2}
-pub use Rattle.dist_core_ends.proofs.Fitting.{fit-rises, fit-rises2, gone2, kept, kept2, named-at, new2, new3, no, off, off2, own-claim, plain, same_false}
-pub use Rattle.dist_core_ends.proofs.Fitting.{stays-past}
-pub use Rattle.dist_core_ends.proofs.Legal.{table-legal, legal, none-legal}
-pub use Rattle.dist_core_ends.proofs.Tables.{get-table, table-agreed, agree-empty, order, same-name}
-pub use Rattle.dist_core_ends.specs.Change.{put_end, claim_at, other_view, AsksRaise, AsksShift, IsThere, one_if, put_other, table_after_entry}
-pub use Rattle.dist_core_ends.specs.Change.{table_after_rise, table_after_shift, view_after, with_change}
-pub use Rattle.dist_core_ends.specs.Ends.{AreLegal, entry_in, is_open, table_of, kind_in, is_claim, claim_of, names, is_held, Claim, Agree, holds, is_unnamed}
-pub use Rattle.dist_core_ends.specs.Ends.{end_id, entry_from, first_of, row_in, same_kind}
-pub use Rattle.dist_core_ends.specs.Forgetting.{without_cause, without_causes_below}
-pub use Rattle.dist_core_ends.specs.declared.known.Attempt.{Attempt}
-pub use Rattle.dist_core_ends.specs.declared.known.End.{End}
-pub use Rattle.dist_core_ends.specs.declared.known.UpRecord.{UpRecord}
-pub use Rattle.dist_core_ends.specs.declared.phase.Kind.{Kind}
-pub use Rattle.dist_core_ends.specs.declared.phase.Kind.TheVariants.{Out, In, Up}
-pub use Rattle.dist_core_ends.specs.declared.phase.Phase.{Phase}
-pub use Rattle.dist_core_ends.specs.declared.why.Why.{Why}
-pub use Rattle.dist_core_setup.specs.Rules.{is_refused, knows_six, form_of_old, required_of, asks_name, is_allowed, is_good, opens_new, own_digest, same_bytes}
-pub use Rattle.dist_core_setup.specs.Saying.{ack_text, greeting_text, status_text, name_text, reply_text, tick_text}
-pub use Rattle.dist_core_setup.specs.declared.setup.Setup.{Setup}
-pub use Rattle.dist_messages.specs.Reading.{read}
-pub use Rattle.dist_messages.specs.Views.{message_of}
-pub use Rattle.dist_messages.specs.declared.form.Form.{Form}
-pub use Rattle.dist_messages.specs.declared.message.Message.{Message}
-pub use Rattle.dist_messages.specs.declared.message.Side.{Side}
-pub use Rattle.dist_messages.specs.declared.message.Side.TheVariants.{Dialler, Acceptor}
-pub use Rattle.dist_messages.specs.declared.message_error.MessageError.{MessageError}
-pub use Rattle.dist_messages.specs.declared.message_view.MessageView.{MessageView}
-pub use Rattle.dist_messages.specs.declared.opening.Opening.{Opening}
-pub use Rattle.dist_names.specs.Flags.{has_all, low_half, of_halves}
-pub use Rattle.dist_names.specs.Order.{Name, same_name, name_cmp}
-pub use Rattle.dist_names.specs.declared.creation.Creation.{Creation}
-pub use Rattle.dist_names.specs.declared.flags.Flags.{Flags}
-pub use Rattle.dist_peers.specs.Table.{replaced_by, Table, is_waiting, left_by, up_id, with_entry}
-pub use Rattle.dist_peers.specs.Verdicts.{ruling, is_greater, is_full}
-pub use Rattle.dist_peers.specs.declared.entry.EndId.{EndId}
-pub use Rattle.dist_peers.specs.declared.entry.Entry.{Entry}
+pub use Rattle.std.proofs.Common.{not, IfOk, IfErr, IsTrue, nat_lt, take-append-drop, ne_eqb}
+pub use Rattle.std.proofs.lemmas.{Bool.cond_both, Bool.false_from_ne_true, List.at_drop_all, List.length-map, List.map-append, List.map-set, List.set-get_or}
+pub use Rattle.std.proofs.lemmas.Option.{get_or_from_slice_get, slice_get-map, some_pair_parts}
+pub use Rattle.std.specs.{FinMap.get-entries, FinMap.len-empty, FinMap.len-entries, FinMap.len-insert, FinMap.len-remove, List.list_any}
+pub use Rattle.dist_names.specs.{Flags.has_all, Flags.low_half, Flags.of_halves, declared.creation.Creation.Creation, declared.flags.Flags.Flags}
+pub use Rattle.dist_messages.specs.{Reading.read, Views.message_of}
+pub use Rattle.dist_messages.specs.declared.{form.Form.Form, message.Message.Message, message.Side.Side, message_error.MessageError.MessageError}
+pub use Rattle.dist_messages.specs.declared.{message.Side.TheVariants.Acceptor, message.Side.TheVariants.Dialler, opening.Opening.Opening}
 pub use Rattle.dist_secret.specs.Cookies.{rekeys}
+pub use Rattle.dist_peers.specs.{Table.up_id, Table.with_entry, Verdicts.is_full, declared.entry.Verdict.Verdict}
+pub use Rattle.dist_core_ends.specs.Change.{table_after_entry}
+pub use Rattle.dist_core_ends.specs.declared.{known.Attempt.Attempt, known.End.End, known.UpRecord.UpRecord, phase.Kind.Kind, phase.Phase.Phase, why.Why.Why}
+pub use Rattle.dist_core_ends.specs.declared.phase.Kind.TheVariants.{In, Out, Up}
+pub use Rattle.dist_core_ends.proofs.{Agreement.entry-agreed, Changes.get-after, Changes.get-put, Legal.legal, Legal.none-legal, Legal.table-legal}
+pub use Rattle.dist_core_ends.proofs.Tables.{agree-empty, get-table, table-agreed}
+pub use Rattle.dist_core_ends.proofs.Words.{◌≡◌, ℕ, zero, suc, ◌+◌, ◌<◌, ◌≤◌, Bool, true, false, cond, ◌&&◌, ◌||◌, eqb, ltb, ◌≢◌, ◌⊎◌, List, [], ◌∷◌, ◌++◌}
+pub use Rattle.dist_core_ends.proofs.Words.{length, drop, set, IsOk, slice_get, Some, None, Ok, Err, count_by, Option, Result, option_map, filter_map, sym}
+pub use Rattle.dist_core_ends.proofs.Words.{refl, ap, ◌∙◌, subst, inl, inr, arith, length-append, length-set, rules, eq-eqb, eqb-true, nat_tests, false≢true}
+pub use Rattle.dist_core_ends.proofs.Words.{or_parts, slice_get_past, slice_get_within, cons_option, Name, name_cmp, same_name, Table, is_waiting, left_by}
+pub use Rattle.dist_core_ends.proofs.Words.{replaced_by, is_greater, ruling, EndId, Entry, AsksRaise, AsksShift, IsThere, claim_at, one_if, other_view, put_end}
+pub use Rattle.dist_core_ends.proofs.Words.{put_other, table_after_rise, table_after_shift, view_after, with_change, Agree, AreLegal, Claim, claim_of, end_id}
+pub use Rattle.dist_core_ends.proofs.Words.{entry_from, entry_in, first_of, holds, is_claim, is_held, is_open, is_unnamed, kind_in, names, row_in, same_kind}
+pub use Rattle.dist_core_ends.proofs.Words.{table_of, without_cause, without_causes_below}
+pub use Rattle.dist_core_setup.specs.Rules.{asks_name, form_of_old, is_allowed, is_good, is_refused, knows_six, opens_new, own_digest, required_of, same_bytes}
+pub use Rattle.dist_core_setup.specs.Saying.{ack_text, greeting_text, name_text, reply_text, status_text, tick_text}
+pub use Rattle.dist_core_setup.specs.declared.setup.Setup.{Setup}
+pub use Rattle.dist_core.specs.Accepted.{complete_flags, in_await_name, in_await_reply, name_came, name_taken, named_attempt, verdict_in}
+pub use Rattle.dist_core.specs.{Acts.Act, Acts.Changes, Acts.Forgets, Acts.Renews, Acts.Steps, Acts.act, Acts.changed_or, Acts.run_acts, Dialled.in_await_ack}
+pub use Rattle.dist_core.specs.{Answers.GivesReply, Answers.IsStep, Answers.Refuses, Answers.reply_of, Doing.CanDo, Keeping.KeepsDone, Keeping.KeepsStep}
+pub use Rattle.dist_core.specs.Changing.{after_change, change, finds_no_room, has_usual, is_in_use, is_up, is_usual_row}
+pub use Rattle.dist_core.specs.{Clauses.ClosesOnReply, Clauses.IsFrame, Clauses.IsRightReply, Clauses.end_of, Clauses.loss_reply, declared.effect.Effect.Effect}
+pub use Rattle.dist_core.specs.Effects.{closes, comes_up, fresh_attempt, goes_on, held_back, moves, record_of, reply_phase, shuts, shuts_other, superseded_end}
+pub use Rattle.dist_core.specs.Effects.{superseded_in, supersedes}
+pub use Rattle.dist_core.specs.{Fitting.FitsNodeTable, Fitting.table_after_effect, Losses.IsGone, Losses.IsSilent, Losses.is_loss, declared.event.Event.Event}
+pub use Rattle.dist_core.specs.Node.{NodeState, ends_after, is_crowded, is_full_for, is_given_out, is_spent, limits_of, new_id}
+pub use Rattle.dist_core.specs.{Progress.CanProgress, Progress.HoldsOn, Progress.effect_by, Runs.node_after, Runs.opening, Runs.run, declared.reply.Note.Note}
+pub use Rattle.dist_core.specs.Rows.{Accepts, Acknowledged, Asks_again, Asks_alive, Begins, Ceases, Challenges, Closes, Comes_again, Comes_in, Complements}
+pub use Rattle.dist_core.specs.Rows.{Crosses, Declines, Dials, Fails, Goes_on, Heard, Hears, Insists, IsChallenge, IsName, Loses, Names, Replied, Replies}
+pub use Rattle.dist_core.specs.Rows.{StepRow, Taken, Ticks}
+pub use Rattle.dist_core.specs.Step.{after, at_end, came_in, cost_of, dial_effect, effect_of, framed_from, in_attempt, in_end, message_effect, opened_in}
+pub use Rattle.dist_core.specs.Step.{opening_effect, sender_in, sender_to, step, step_result, tick_effect, unless_spent}
+pub use Rattle.dist_core.specs.declared.changing.{Change.Change, Change.TheVariants.Allow, Change.TheVariants.Cookie, Change.TheVariants.UsualCookie}
+pub use Rattle.dist_core.specs.declared.{progress.Progress.Progress, reply.Reply.Reply, step_error.StepError.StepError}

@@ -1,15 +1,8 @@
 -- Entries that agree with the ends are the entries that the ends make.
-use Rattle.std.proofs.Common.{◌≡◌, ℕ, zero, suc, Bool, false, cond, eqb, List, [], ◌∷◌, Option, Some, None, refl, ap, ◌∙◌, slice_get, eq-eqb}
-use Rattle.std.proofs.lemmas.Bool.{false≢true}
-use Rattle.std.proofs.Math.Dec.{eqb-suc-suc, eqb-suc-zero}
-use Rattle.std.specs.Option.{option_map}
-use Rattle.dist_names.specs.Order.{Name}
-use Rattle.dist_peers.specs.declared.entry.Entry.{Entry}
+use Rattle.dist_core_ends.proofs.Words.{◌≡◌, ℕ, zero, suc, Bool, false, cond, eqb, List, [], ◌∷◌, slice_get, Some, None, Option, option_map, refl, ap, ◌∙◌}
+use Rattle.dist_core_ends.proofs.Words.{eq-eqb, eqb-suc-suc, eqb-suc-zero, false≢true, Name, Entry, Agree, entry_from, entry_in, first_of, holds, holds_at}
+use Rattle.dist_core_ends.proofs.Words.{is_held, names, End, Kind, In, Out, Up}
 use Rattle.dist_peers.specs.declared.entry.Entry.TheVariants as entry
-use Rattle.dist_core_ends.specs.declared.known.End.{End}
-use Rattle.dist_core_ends.specs.declared.phase.Kind.{Kind}
-use Rattle.dist_core_ends.specs.declared.phase.Kind.TheVariants.{Out, In, Up}
-use Rattle.dist_core_ends.specs.Ends.{holds, holds_at, is_held, names, first_of, entry_in, entry_from, Agree}
 
 abbrev pub passes : (End → Bool) → Option End → Bool
 passes test None = false

@@ -1,16 +1,8 @@
 -- When ends change, the ends and the entries still agree.
-use Rattle.std.proofs.Common.{◌≡◌, ℕ, zero, suc, ◌+◌, ◌<◌, ◌≤◌, Bool, true, false, cond, eqb, ltb, ◌&&◌, List, [], ◌∷◌, ◌++◌, length, set, Option, Some, None, refl, sym, ap, ◌∙◌, subst, arith, slice_get}
-use Rattle.std.proofs.Math.Dec.{eqb-suc-suc, eqb-suc-zero, eqb-zero-suc}
-use Rattle.std.proofs.lemmas.Bool.{eqb-true}
-use Rattle.std.proofs.lemmas.Bool.Decides.{nat_tests}
-use Rattle.dist_names.specs.Order.{Name, same_name}
-use Rattle.dist_peers.specs.declared.entry.EndId.{EndId}
-use Rattle.dist_peers.specs.declared.entry.Entry.{Entry}
-use Rattle.dist_core_ends.specs.declared.known.End.{End}
-use Rattle.dist_core_ends.specs.declared.phase.Kind.{Kind}
-use Rattle.dist_core_ends.specs.Ends.{claim_of, is_claim, is_held, names}
-use Rattle.dist_core_ends.specs.Change.{put_end, put_other, with_change, other_view, view_after, IsThere}
-use Rattle.dist_core_ends.proofs.Tables.{same-name}
+use Rattle.dist_core_ends.proofs.Words.{◌≡◌, ℕ, zero, suc, ◌+◌, ◌<◌, ◌≤◌, Bool, true, false, cond, eqb, ltb, List, [], ◌∷◌, ◌++◌, length, set, slice_get, Some}
+use Rattle.dist_core_ends.proofs.Words.{None, Option, sym, refl, ap, ◌∙◌, subst, arith, eqb-true, eqb-suc-suc, eqb-suc-zero, eqb-zero-suc, nat_tests, Name}
+use Rattle.dist_core_ends.proofs.Words.{same_name, one_lem, EndId, Entry, IsThere, other_view, put_end, put_other, view_after, with_change, claim_of, is_claim}
+use Rattle.dist_core_ends.proofs.Words.{is_held, names, End, Kind}
 
 pub get-set : {A : Type 0} (es : List A) (x : ℕ) (e : A) (i : ℕ) → x < length es → slice_get (set es x e) i ≡ cond (eqb x i) (Some e) (slice_get es i)
 get-set [] x e i h = absurd (omega arith)
@@ -62,7 +54,7 @@ changes-one u g p x e o a new old here q k i =
     elim (same_name q p) as (λ s. same_name q p ≡ s → is_held q k (cond (eqb x i) (Some e) (g i)) ≡ names k i (cond s o (u q))) [
       | true ↦ λ s.
           let P : Name → Type 0 = λ r. is_held r k (cond (eqb x i) (Some e) (g i)) ≡ names k i o in
-          subst P (sym (same-name q p s)) (pushed p k (eqb x i) e (g i) ∙ ap (cond (eqb x i) (is_held p k (Some e))) (a p k i) ∙ here k i)
+          subst P (sym (one_lem q p s)) (pushed p k (eqb x i) e (g i) ∙ ap (cond (eqb x i) (is_held p k (Some e))) (a p k i) ∙ here k i)
       | false ↦ λ s.
           elim (eqb x i) as (λ b. eqb x i ≡ b → is_held q k (cond b (Some e) (g i)) ≡ names k i (u q)) [
             | true ↦ λ b. new q k s ∙ sym (old q k s) ∙ ap (λ n. is_held q k (g n)) (eqb-true x i b) ∙ a q k i
@@ -95,7 +87,7 @@ changes-two u g p x s id e o a gone new old_x old here q k i =
     elim (same_name q p) as (λ b. same_name q p ≡ b → is_held q k (cond (eqb x i) (Some s) (cond (eqb id i) (Some e) (g i))) ≡ names k i (cond b o (u q))) [
       | true ↦ λ b.
           let P : Name → Type 0 = λ r. is_held r k (cond (eqb x i) (Some s) (cond (eqb id i) (Some e) (g i))) ≡ names k i o in
-          subst P (sym (same-name q p b))
+          subst P (sym (one_lem q p b))
           (pushed p k (eqb x i) s _
           ∙ ap (λ v. cond (eqb x i) v (is_held p k (cond (eqb id i) (Some e) (g i)))) (gone p k)
           ∙ ap (cond (eqb x i) false) (pushed p k (eqb id i) e (g i) ∙ ap (cond (eqb id i) (is_held p k (Some e))) (a p k i))

@@ -1,28 +1,14 @@
 -- Each kind of change fits ends with which the table agrees.
-use Rattle.std.proofs.Common.{◌≡◌, ℕ, ◌<◌, ◌≤◌, Bool, true, false, cond, eqb, ◌&&◌, length, List, [], ◌∷◌, zero, suc, Option, Some, None, refl, sym, ap, ◌∙◌, subst, arith, slice_get, eq-eqb}
-use Rattle.std.proofs.lemmas.Bool.Decides.{nat_tests}
-use Rattle.std.specs.Ordering.{is_eq}
-use Rattle.std.specs.Option.{option_map}
-use Rattle.std.specs.Cmp.{tied_itself}
+use Rattle.dist_core_ends.proofs.Words.{and-false, and-true, ◌≡◌, ℕ, zero, suc, ◌<◌, ◌≤◌, Bool, true, false, cond, ◌&&◌, eqb, List, [], ◌∷◌, length, slice_get}
+use Rattle.dist_core_ends.proofs.Words.{Some, None, Option, option_map, sym, refl, ap, ◌∙◌, subst, arith, eq-eqb, and_parts, false≢true, nat_tests, get-insert}
+use Rattle.dist_core_ends.proofs.Words.{Name, same_name, itself_lem, one_lem, Table, left_by, is_greater, ruling, EndId, Entry, get-with, order, Fits}
+use Rattle.dist_core_ends.proofs.Words.{AsksRaise, AsksShift, IsThere, OtherStaysClosed, StaysClosed, claim_at, put_end, table_after_rise, table_after_shift}
+use Rattle.dist_core_ends.proofs.Words.{view_after, Agree, Claim, claim_of, holds_at, is_claim, is_held, is_open, is_pending, is_unnamed, kind_in, names}
+use Rattle.dist_core_ends.proofs.Words.{same_kind, End, Kind, In, Out, Up, Phase, Why}
 use Rattle.std.specs.FinMap as map
-use Rattle.std.specs.FinMap.{get-insert, get-remove}
-use Rattle.dist_names.specs.Order.{Name, same_name}
-use Rattle.dist_peers.specs.declared.entry.EndId.{EndId}
-use Rattle.dist_peers.specs.Table.{Table, with_entry, left_by}
-use Rattle.dist_peers.specs.declared.entry.Entry.{Entry}
 use Rattle.dist_peers.specs.declared.entry.Entry.TheVariants as entry
-use Rattle.dist_core_ends.specs.declared.known.End.{End}
 use Rattle.dist_core_ends.specs.declared.known.End.TheVariants as ends
-use Rattle.dist_core_ends.specs.declared.why.Why.{Why}
-use Rattle.dist_core_ends.specs.declared.phase.Phase.{Phase}
 use Rattle.dist_core_ends.specs.declared.phase.Phase.TheVariants as phase
-use Rattle.dist_core_ends.specs.declared.phase.Kind.{Kind}
-use Rattle.dist_core_ends.specs.declared.phase.Kind.TheVariants.{Out, In, Up}
-use Rattle.dist_core_ends.specs.Ends.{Claim, claim_of, is_claim, same_kind, is_held, is_open, is_pending, is_unnamed, kind_in, holds_at, names, Agree}
-use Rattle.dist_core_ends.specs.Change.{StaysClosed, OtherStaysClosed, put_end, IsThere, Fits, claim_at, table_after_shift, AsksShift, table_after_rise, AsksRaise, view_after}
-use Rattle.dist_peers.specs.Verdicts.{ruling, is_greater}
-use Rattle.dist_core_ends.proofs.Tables.{order, same-name, and_false}
-use Rattle.std.proofs.lemmas.Bool.{false≢true}
 use Rattle.dist_core_ends.proofs.Changes.{Agrees, get-put, get-after, changes-one, changes-two, stays, claimless}
 
 -- an end that holds a peer exists
@@ -31,16 +17,6 @@ there [] p k i h = cc
 there (e ∷ es) p k zero h = omega arith
 there (e ∷ es) p k (suc i) h = omega (arith, there es p k i h)
 
-pub same : (x : ℕ) → eqb x x ≡ true
-same x = eq-eqb x x refl
-
-pub self-same : (p : Name) → same_name p p ≡ true
-self-same p = ap is_eq (tied_itself order p)
-
-pub get-with : (t : Table) (p : Name) (o : Option Entry) (q : Name) → map.get (with_entry t p o) q ≡ cond (same_name q p) o (map.get t q)
-get-with t p None q = get-remove order t p q
-get-with t p (Some e) q = get-insert order t p e q
-
 -- a claim, where there is one, is on p
 abbrev pub IsOn : Name → Option Claim → Type 0
 IsOn p None = Unit {0}
@@ -48,20 +24,16 @@ IsOn p (Some c) = c.peer ≡ p
 
 pub only : (p : Name) (c : Option Claim) → IsOn p c → (q : Name) (k : Kind) → same_name q p ≡ false → is_claim q k c ≡ false
 only p None h q k s = refl
-only p (Some c) h q k s = ap (λ b. same_kind k c.kind && b) (ap (same_name q) h ∙ s) ∙ and_false (same_kind k c.kind)
+only p (Some c) h q k s = ap (λ b. same_kind k c.kind && b) (ap (same_name q) h ∙ s) ∙ and-false (same_kind k c.kind)
 
 pub at-claim : (q : Name) (k : Kind) (o : Option End) → is_held q k o ≡ is_claim q k (claim_at o)
 at-claim q k None = refl
 at-claim q k (Some e) = refl
 
-both : (a b : Bool) → (a && b) ≡ true → b ≡ true
-both true b h = h
-both false b h = cc
-
 -- an end that holds p holds no other peer
 pub held-only : (p q : Name) (k l : Kind) (c : Option Claim) → is_claim p l c ≡ true → same_name q p ≡ false → is_claim q k c ≡ false
 held-only p q k l None h s = refl
-held-only p q k l (Some c) h s = only p (Some c) (sym (same-name p c.peer (both (same_kind l c.kind) _ h))) q k s
+held-only p q k l (Some c) h s = only p (Some c) (sym (one_lem p c.peer (and_parts (same_kind l c.kind) _ h).1)) q k s
 
 -- ---- an end that is closed stays closed, and one that is up is never pending again
 
@@ -275,13 +247,9 @@ left-here id In (Some (entry.Challenged up x)) h In i = off id.0 x.0 i (h In) �
 left-here id In (Some (entry.Challenged up x)) h Up i = kept id.0 up.0 i (h Up) ∙ sym (ap (names Up i) (ap (λ b. cond b (Some (entry.In x)) (cond (eqb x.0 id.0) (Some (entry.Up up)) (Some (entry.Challenged up x)))) (h Up) ∙ ap (λ b. cond b (Some (entry.Up up)) (Some (entry.Challenged up x))) (h In)))
 left-here id k0 o h k i = no (h k0)
 
-pub and_true : (b : Bool) → (b && true) ≡ b
-and_true true = refl
-and_true false = refl
-
 -- a claim on p is read as one on p
 pub own-claim : (p : Name) (k l : Kind) → is_claim p k (Some (record { peer = p; kind = l })) ≡ same_kind k l
-own-claim p k l = ap (λ b. same_kind k l && b) (self-same p) ∙ and_true (same_kind k l)
+own-claim p k l = ap (λ b. same_kind k l && b) (itself_lem p) ∙ and-true (same_kind k l)
 
 abbrev pub claims : Name → Kind → Option Claim
 claims p k = Some (record { peer = p; kind = k })
@@ -289,8 +257,8 @@ claims p k = Some (record { peer = p; kind = k })
 -- an end that is put aside for a name that comes wasn't up
 not-held-up : (id x : EndId) (l : Kind) (o : Option Entry) (g : Bool) → names l x.0 o ≡ true
     → ((k : Kind) (i : ℕ) → cond (eqb x.0 i) false (cond (eqb id.0 i) (same_kind k In) (names k i o)) ≡ names k i (Some (let x = ruling g id o in x.entry))) → same_kind l Up ≡ false
-not-held-up id x Up (Some (entry.Up y)) g named here = no (sym (ap (λ b. cond b false (cond (eqb id.0 x.0) false (eqb y.0 x.0))) (same x.0)) ∙ here Up x.0 ∙ named)
-not-held-up id x Up (Some (entry.Challenged y z)) g named here = no (sym (ap (λ b. cond b false (cond (eqb id.0 x.0) false (eqb y.0 x.0))) (same x.0)) ∙ here Up x.0 ∙ named)
+not-held-up id x Up (Some (entry.Up y)) g named here = no (sym (ap (λ b. cond b false (cond (eqb id.0 x.0) false (eqb y.0 x.0))) (eq-eqb x.0 x.0 refl)) ∙ here Up x.0 ∙ named)
+not-held-up id x Up (Some (entry.Challenged y z)) g named here = no (sym (ap (λ b. cond b false (cond (eqb id.0 x.0) false (eqb y.0 x.0))) (eq-eqb x.0 x.0 refl)) ∙ here Up x.0 ∙ named)
 not-held-up id x Up o g named here = no named
 not-held-up id x l o g named here = refl
 

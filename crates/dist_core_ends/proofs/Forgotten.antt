@@ -1,18 +1,10 @@
 -- Ends and rows whose causes of closing are forgotten.
-use Rattle.std.proofs.Common.{◌≡◌, ℕ, zero, suc, ◌+◌, true, List, [], ◌∷◌, length, Option, Some, refl, sym, ap, ◌∙◌, slice_get}
-use Rattle.std.specs.List.{count_by}
+use Rattle.dist_core_ends.proofs.Words.{◌≡◌, ℕ, zero, suc, ◌+◌, true, List, [], ◌∷◌, length, slice_get, Some, count_by, Option, sym, refl, ap, ◌∙◌, Name, Table}
+use Rattle.dist_core_ends.proofs.Words.{one_if, Agree, holds, is_held, is_open, without_cause, without_causes_below, AreKept, Slots, end_of_row, ends_of_rows}
+use Rattle.dist_core_ends.proofs.Words.{found_end, rows_forgotten, without_row_cause, End, Kind, EndPlace}
 use Rattle.std.specs.FinMap as entries
-use Rattle.dist_names.specs.Order.{Name}
-use Rattle.dist_peers.specs.Table.{Table}
-use Rattle.dist_core_ends.specs.declared.known.End.{End}
 use Rattle.dist_core_ends.specs.declared.known.End.TheVariants as ends
-use Rattle.dist_core_ends.specs.declared.phase.Kind.{Kind}
-use Rattle.dist_core_ends.specs.declared.slots.EndPlace.{EndPlace}
 use Rattle.dist_core_ends.specs.declared.slots.EndPlace.TheVariants as row
-use Rattle.dist_core_ends.specs.Ends.{is_open, is_held, holds, Agree}
-use Rattle.dist_core_ends.specs.Change.{one_if}
-use Rattle.dist_core_ends.specs.Forgetting.{without_cause, without_causes_below}
-use Rattle.dist_core_ends.specs.Keeping.{Slots, end_of_row, found_end, ends_of_rows, AreKept, without_row_cause, rows_forgotten}
 use Rattle.dist_core_ends.proofs.Opens.{count-cons}
 
 -- ---- what an end still is once its cause is forgotten

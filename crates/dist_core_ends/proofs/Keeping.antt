@@ -1,21 +1,12 @@
 -- Ends in slots, when one of them changes.
-use Rattle.std.proofs.Common.{◌≡◌, ◌≢◌, ◌⊎◌, ℕ, zero, suc, ◌+◌, ◌<◌, true, false, cond, eqb, List, [], ◌∷◌, ◌++◌, length, set, Option, Some, None, is_some, IsSome, ltb, refl, sym, ap, ◌∙◌, subst, arith, slice_get, inl, inr, eq-eqb}
-use Rattle.std.specs.List.{count_by}
-use Rattle.std.proofs.lemmas.Bool.{cases_eq, false≢true}
-use Rattle.std.proofs.lemmas.Option.{slice_get_within}
-use Rattle.std.proofs.lemmas.Bool.Decides.{nat_tests}
-use Rattle.dist_core_ends.specs.declared.known.Attempt.{Attempt}
-use Rattle.dist_core_ends.specs.declared.known.End.{End}
-use Rattle.dist_core_ends.specs.declared.known.End.TheVariants as ends
-use Rattle.dist_core_ends.specs.declared.why.Why.{Why}
-use Rattle.dist_core_ends.specs.declared.slots.EndPlace.{EndPlace}
-use Rattle.dist_core_ends.specs.declared.slots.EndPlace.TheVariants as row
-use Rattle.dist_core_ends.specs.Ends.{is_open}
+use Rattle.dist_core_ends.proofs.Words.{◌≡◌, ℕ, zero, suc, ◌+◌, ◌<◌, true, false, cond, eqb, ltb, ◌≢◌, ◌⊎◌, List, [], ◌∷◌, ◌++◌, length, set, is_some, IsSome}
+use Rattle.dist_core_ends.proofs.Words.{slice_get, Some, None, count_by, Option, sym, refl, ap, ◌∙◌, subst, inl, inr, arith, cases_eq, eqb-false, nat_tests}
+use Rattle.dist_core_ends.proofs.Words.{slice_get_within, StaysClosed, one_if, put_end, is_open, AreKept, GivesRow, IsFull, Puts, RoomyEnds, Slots, end_of_row}
+use Rattle.dist_core_ends.proofs.Words.{ends_of_rows, found_end, in_slot, Attempt, End, EndPlace, Why}
 use Rattle.slab.specs.Slab.{Slab, ContainsKey}
-use Rattle.dist_core_ends.specs.Change.{one_if, put_end, StaysClosed}
-use Rattle.dist_core_ends.proofs.Changes.{get-set}
-use Rattle.dist_core_ends.specs.Keeping.{Slots, RoomyEnds, in_slot, found_end, end_of_row, ends_of_rows, IsFull, AreKept, Puts, GivesRow}
-use Rattle.dist_core_ends.proofs.Opens.{count-set, count-push}
+use Rattle.dist_core_ends.specs.declared.known.End.TheVariants as ends
+use Rattle.dist_core_ends.specs.declared.slots.EndPlace.TheVariants as row
+use Rattle.dist_core_ends.proofs.{Changes.get-set, Opens.count-set, Opens.count-push}
 
 -- ---- the ends that rows show
 
@@ -75,9 +66,6 @@ more-row [] r zero m h = inl (refl, cc)
 more-row [] r (suc j) m h = absurd cc
 more-row (x ∷ rows) r zero m h = inr h
 more-row (x ∷ rows) r (suc j) m h = elim (more-row rows r j m h) [ inl e ↦ inl (ap suc (e.0), e.1) | inr e ↦ inr e ]
-
-not-equal : (i j : ℕ) → eqb i j ≡ false → i ≡ j → ⊥
-not-equal i j h e = false≢true (sym h ∙ eq-eqb i j e)
 
 -- ---- what is kept
 
@@ -168,7 +156,7 @@ module _ (rows : List EndPlace) (old new : Slots) (a : AreKept rows old) where
         full = λ j m h.
             let r = kept-row rows i w j m within h in
             let f = a.full j m (r.0) in
-            let other : m ≢ k = λ e. not-equal i j (r.1) (a.apart i j k at (r.0 ∙ ap (λ (x : ℕ). Some (row.Slot x)) e)) in
+            let other : m ≢ k = λ e. eqb-false i j (r.1) (a.apart i j k at (r.0 ∙ ap (λ (x : ℕ). Some (row.Slot x)) e)) in
             record { kept = f.kept; there = p.others m other ∙ f.there; opened = f.opened };
         apart = λ x y m h g. a.apart x y m ((kept-row rows i w x m within h).0) ((kept-row rows i w y m within g).0);
         counted = omega (arith, n, a.counted, less, same);

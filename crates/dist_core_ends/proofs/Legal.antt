@@ -1,12 +1,7 @@
 -- The ends that hold a peer are those that make an entry.
-use Rattle.std.proofs.Common.{List, [], Option, refl, sym, ap, ◌∙◌}
+use Rattle.dist_core_ends.proofs.Words.{List, [], Option, sym, refl, ap, ◌∙◌, Name, Entry, Agree, AreLegal, names, table_of, End}
 use Rattle.std.specs.FinMap as map
-use Rattle.dist_names.specs.Order.{Name}
-use Rattle.dist_peers.specs.declared.entry.Entry.{Entry}
-use Rattle.dist_core_ends.specs.declared.known.End.{End}
-use Rattle.dist_core_ends.specs.Ends.{Agree, AreLegal, table_of, names}
-use Rattle.dist_core_ends.proofs.Agreement.{entry-agreed}
-use Rattle.dist_core_ends.proofs.Tables.{get-table, agree-empty}
+use Rattle.dist_core_ends.proofs.{Agreement.entry-agreed, Tables.get-table, Tables.agree-empty}
 
 -- ends with which entries agree are legal
 pub legal : (t : Name → Option Entry) (es : List End) → Agree t es → AreLegal es

@@ -1,3 +1,4 @@
+pub mod Words
 pub mod Agreement
 pub mod Tables
 pub mod Changes

@@ -1,10 +1,8 @@
 -- The words of causes: no two causes have the same word.
-use Rattle.std.proofs.Common.{◌≡◌, ℕ, List, Some, refl, subst}
-use Rattle.std.specs.Prelude.{IfSome}
+use Rattle.dist_core_ends.proofs.Words.{◌≡◌, ℕ, List, IfSome, Some, refl, subst, Why}
 use Rattle.dist_names.proofs.Naming as naming
-use Rattle.dist_core_ends.specs.declared.why.Why.{Why}
-use Rattle.dist_core_ends.specs.declared.why.Why.TheVariants as why
 use Rattle.dist_core_ends.specs.Words.{why_word, why_of, all_whys}
+use Rattle.dist_core_ends.specs.declared.why.Why.TheVariants as why
 
 pub found : (word : List ℕ) → IfSome (why_of word) (λ w. why_word w ≡ word)
 unfolding why_of

@@ -1,12 +1,6 @@
 -- The first end of a kind, and the numbers below which no end is of that kind.
-use Rattle.std.proofs.Common.{◌≡◌, ℕ, zero, suc, ◌≤◌, true, cond, List, [], ◌∷◌, length, Option, Some, None, refl, ap, ◌∙◌, arith, slice_get}
-use Rattle.std.proofs.lemmas.Bool.{false≢true}
-use Rattle.std.specs.Option.{option_map}
-use Rattle.dist_peers.specs.declared.entry.EndId.{EndId}
-use Rattle.dist_core_ends.specs.declared.known.End.{End}
-use Rattle.dist_core_ends.specs.declared.slots.Sought.{Sought}
-use Rattle.dist_core_ends.specs.Ends.{first_of, end_id}
-use Rattle.dist_core_ends.specs.Keeping.{is_sought, finds_sought, AreSettled}
+use Rattle.dist_core_ends.proofs.Words.{◌≡◌, ℕ, zero, suc, ◌≤◌, true, cond, List, [], ◌∷◌, length, slice_get, Some, None, Option, option_map, refl, ap, ◌∙◌}
+use Rattle.dist_core_ends.proofs.Words.{arith, false≢true, EndId, end_id, first_of, AreSettled, finds_sought, is_sought, End, Sought}
 
 module _ (k : Sought) where
   found-first : (es : List End) (n : ℕ) → AreSettled k es n → finds_sought k (slice_get es n) ≡ true → first_of (is_sought k) es ≡ Some n

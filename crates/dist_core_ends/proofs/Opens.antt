@@ -1,10 +1,6 @@
 -- How many ends are open when one changes.
-use Rattle.std.proofs.Common.{◌≡◌, ℕ, zero, suc, ◌+◌, ◌<◌, Bool, true, false, cond, List, [], ◌∷◌, ◌++◌, set, Some, ap, ◌∙◌, arith, slice_get}
-use Rattle.std.specs.List.{count_by}
-use Rattle.std.proofs.lemmas.List.Sums.{sum_by-cons}
-use Rattle.dist_core_ends.specs.declared.known.End.{End}
-use Rattle.dist_core_ends.specs.Ends.{is_open}
-use Rattle.dist_core_ends.specs.Change.{one_if}
+use Rattle.dist_core_ends.proofs.Words.{◌≡◌, ℕ, zero, suc, ◌+◌, ◌<◌, Bool, true, false, cond, List, [], ◌∷◌, ◌++◌, set, slice_get, Some, count_by, ap, ◌∙◌}
+use Rattle.dist_core_ends.proofs.Words.{arith, sum_by-cons, one_if, is_open, End}
 
 counted : (b : Bool) (n : ℕ) → cond b 1 0 + n ≡ n + one_if b
 counted true n = omega arith

@@ -1,20 +1,13 @@
 -- Rows as one byte for each number, and the rows of open ends beside them.
-use Rattle.std.proofs.Common.{◌≡◌, ◌≢◌, ℕ, zero, suc, ◌+◌, ◌-◌, ◌<◌, ◌≤◌, ◌^◌, Bool, true, false, cond, eqb, leb, ◌||◌, List, [], ◌∷◌, ◌++◌, length, set, drop, replicate, filter, Option, Some, None, Result, Ok, Err, OnOk, OnErr, IsOk, refl, sym, ap, ◌∙◌, subst, arith, slice_get, inl, inr, length-append}
-use Rattle.std.specs.Prelude.{min}
-use Rattle.std.specs.Cmp.{nat_eq_equiv}
+use Rattle.dist_core_ends.proofs.Words.{◌≡◌, ℕ, zero, suc, ◌+◌, ◌-◌, ◌^◌, ◌<◌, ◌≤◌, min, Bool, true, false, cond, ◌||◌, eqb, leb, ◌≢◌, List, [], ◌∷◌, ◌++◌}
+use Rattle.dist_core_ends.proofs.Words.{length, drop, set, replicate, OnOk, OnErr, IsOk, slice_get, Some, None, Ok, Err, filter, Option, Result, sym, refl, ap}
+use Rattle.dist_core_ends.proofs.Words.{◌∙◌, subst, inl, inr, append_assoc, arith, length-append, eqb-true, le-leb, cases_eq, lt-leb, leb_tells, nat_tests}
+use Rattle.dist_core_ends.proofs.Words.{slice_get-get_or, nat_eq_equiv, keys_of, lookup, rows_forgotten, without_row_cause, AreWithin, IsSlot, all_causes}
+use Rattle.dist_core_ends.proofs.Words.{causes_forgotten, is_slot, kept_row, row_by, rows_from, stays_kept, EndPlace, Why}
+use Rattle.std.proofs.lemmas.{List.length-replicate, List.set-append_right, Map.Entries.option_filter, Map.Entries.lookup-filter-values}
 use Rattle.std.specs.List.{IsDistinct}
-use Rattle.std.specs.Map.{lookup, keys_of}
-use Rattle.std.proofs.lemmas.Bool.{cases_eq, eqb-true}
-use Rattle.std.proofs.lemmas.Bool.Decides.{nat_tests, leb_tells}
-use Rattle.std.proofs.lemmas.List.{append_assoc, length-replicate, set-append_right}
-use Rattle.std.proofs.lemmas.Option.{slice_get-get_or}
-use Rattle.std.proofs.lemmas.Map.Entries.{option_filter, lookup-filter-values}
-use Rattle.dist_core_ends.specs.declared.why.Why.{Why}
-use Rattle.dist_core_ends.specs.declared.why.Why.TheVariants as why
-use Rattle.dist_core_ends.specs.declared.slots.EndPlace.{EndPlace}
 use Rattle.dist_core_ends.specs.declared.slots.EndPlace.TheVariants as row
-use Rattle.dist_core_ends.specs.Keeping.{without_row_cause, rows_forgotten}
-use Rattle.dist_core_ends.specs.Places.{row_by, rows_from, all_causes, is_slot, IsSlot, stays_kept, kept_row, AreWithin, causes_forgotten}
+use Rattle.dist_core_ends.specs.declared.why.Why.TheVariants as why
 
 pub rows-length : (f : ℕ → Option EndPlace) (b : ℕ) (ws : List Why) → length (rows_from f b ws) ≡ length ws
 rows-length f b [] = refl
@@ -115,16 +108,6 @@ causes-none (w ∷ ws) = refl
 pub all-length : (b : ℕ) (ws : List Why) → length (all_causes b ws) ≡ b + length ws
 all-length b ws = omega (arith, length-append {A = Why}, length-replicate {A = Why})
 
-pub all-below : (b : ℕ) (ws : List Why) (i : ℕ) → i < b → slice_get (all_causes b ws) i ≡ Some why.Ended
-all-below zero ws i h = absurd (omega (arith, h))
-all-below (suc b) ws zero h = refl
-all-below (suc b) ws (suc i) h = all-below b ws i (omega (arith, h))
-
-all-get : (b : ℕ) (ws : List Why) (j i : ℕ) → i ≡ b + j → slice_get (all_causes b ws) i ≡ slice_get ws j
-all-get zero ws j i e = let same : i ≡ j = omega (arith, e) in ap (slice_get ws) same
-all-get (suc b) ws j zero e = absurd (omega (arith, e))
-all-get (suc b) ws j (suc i) e = all-get b ws j i (omega (arith, e))
-
 pub all-set : (b : ℕ) (ws : List Why) (i : ℕ) (w : Why) → b ≤ i → all_causes b (set ws (i - b) w) ≡ set (all_causes b ws) i w
 all-set b ws i w h = sym (set-append_right (replicate b why.Ended) ws b i w (length-replicate b why.Ended) h)
 
@@ -153,16 +136,10 @@ all-drop-at (suc b) n (suc m) ws e h = ap (λ xs. why.Ended ∷ xs) (all-drop-at
 pub all-drop : (b m : ℕ) (ws : List Why) → b ≤ m → m ≤ b + length ws → all_causes m (drop (m - b) ws) ≡ causes_forgotten m (all_causes b ws)
 all-drop b m ws h g = all-drop-at b (m - b) m ws (omega (arith, h)) (omega (arith, h, g))
 
-leb-false : (a b : ℕ) → b < a → leb a b ≡ false
-leb-false a b h = elim (leb_tells a b) [ inl f ↦ absurd (omega (arith, f.1, h)) | inr f ↦ f.0 ]
-
-leb-true : (a b : ℕ) → a ≤ b → leb a b ≡ true
-leb-true a b h = elim (leb_tells a b) [ inl f ↦ f.0 | inr f ↦ absurd (omega (arith, f.1, h)) ]
-
 -- a row of its own that is kept or dropped
 kept-below : (below q : ℕ) (o : Option EndPlace) (w : Why) → q < below → row_by (kept_row below q o) why.Ended ≡ without_row_cause (row_by o w)
 kept-below below q None w h = refl
-kept-below below q (Some r) w h = by r (leb-false below q h)
+kept-below below q (Some r) w h = by r (lt-leb below q h)
   where
     by : (r : EndPlace) → leb below q ≡ false → row_by (kept_row below q (Some r)) why.Ended ≡ without_row_cause r
     by (row.Slot k) e = ap (λ b. row_by (cond (b || true) (Some (row.Slot k)) None) why.Ended) e
@@ -170,7 +147,7 @@ kept-below below q (Some r) w h = by r (leb-false below q h)
 
 kept-from : (below q : ℕ) (o : Option EndPlace) → below ≤ q → kept_row below q o ≡ o
 kept-from below q None h = refl
-kept-from below q (Some r) h = ap (λ b. cond (b || is_slot r) (Some r) None) (leb-true below q h)
+kept-from below q (Some r) h = ap (λ b. cond (b || is_slot r) (Some r) None) (le-leb below q h)
 
 rows-forgotten-from : (f g : ℕ → Option EndPlace) (below b n : ℕ) (ws : List Why) → b + n ≡ below → ((q : ℕ) → g q ≡ kept_row below q (f q)) → rows_from g b (causes_forgotten n ws) ≡ rows_forgotten n (rows_from f b ws)
 rows-forgotten-from f g below b n [] e h = refl

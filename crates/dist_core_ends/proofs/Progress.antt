@@ -1,30 +1,13 @@
 -- An attempt that goes on in its place.
-use Rattle.std.proofs.Common.{◌≡◌, ℕ, true, List, [], Option, Some, None, IsSome, set, refl, sym, ap, ◌∙◌, subst, arith, slice_get}
-use Rattle.std.specs.Option.{option_map}
+use Rattle.dist_core_ends.proofs.Words.{◌≡◌, ℕ, true, List, [], set, IsSome, slice_get, Some, None, Option, option_map, sym, refl, ap, ◌∙◌, subst, arith}
+use Rattle.dist_core_ends.proofs.Words.{false≢true, slice_get_within, Name, Table, entry_of, is_waiting, replaced_by, EndId, Entry, Fits, AsksShift, HasEntry}
+use Rattle.dist_core_ends.proofs.Words.{claim_at, put_end, table_after_shift, Agree, AreLegal, Claim, claim_of, entry_in, kind_in, names, same_kind, table_of}
+use Rattle.dist_core_ends.proofs.Words.{CanRise, at_stage, replaced_end, Attempt, End, Stage, UpRecord, Kind, In, Out, Up, Phase}
 use Rattle.std.specs.FinMap as map
-use Rattle.std.proofs.lemmas.Bool.{false≢true}
-use Rattle.std.proofs.lemmas.Option.{slice_get_within}
-use Rattle.dist_names.specs.Order.{Name}
-use Rattle.dist_peers.specs.Table.{Table, entry_of, is_waiting, replaced_by}
-use Rattle.dist_peers.specs.declared.entry.EndId.{EndId}
-use Rattle.dist_peers.specs.declared.entry.Entry.{Entry}
 use Rattle.dist_peers.specs.declared.entry.Entry.TheVariants as entry
-use Rattle.dist_core_ends.specs.declared.known.Attempt.{Attempt}
-use Rattle.dist_core_ends.specs.declared.known.Stage.{Stage}
-use Rattle.dist_core_ends.specs.declared.known.UpRecord.{UpRecord}
-use Rattle.dist_core_ends.specs.declared.known.End.{End}
 use Rattle.dist_core_ends.specs.declared.known.End.TheVariants as ends
-use Rattle.dist_core_ends.specs.declared.phase.Phase.{Phase}
 use Rattle.dist_core_ends.specs.declared.phase.Phase.TheVariants as phase
-use Rattle.dist_core_ends.specs.declared.phase.Kind.{Kind}
-use Rattle.dist_core_ends.specs.declared.phase.Kind.TheVariants.{Out, In, Up}
-use Rattle.dist_core_ends.specs.Ends.{Claim, claim_of, kind_in, names, same_kind, entry_in, table_of, Agree, AreLegal}
-use Rattle.dist_core_ends.specs.Change.{Fits, HasEntry, AsksShift, table_after_shift, claim_at, put_end}
-use Rattle.dist_core_ends.specs.Progress.{at_stage, replaced_end, CanRise}
-use Rattle.dist_core_ends.proofs.Agreement.{entry-agreed}
-use Rattle.dist_core_ends.proofs.Tables.{table-agreed}
-use Rattle.dist_core_ends.proofs.Legal.{legal}
-use Rattle.dist_core_ends.proofs.Keeping.{put-within}
+use Rattle.dist_core_ends.proofs.{Agreement.entry-agreed, Keeping.put-within, Legal.legal, Tables.table-agreed}
 use Rattle.dist_core_ends.proofs.Fitting.{claims, named-at, own-claim, same-shift, stays-open, fit-keeps}
 
 -- an end took the place of another

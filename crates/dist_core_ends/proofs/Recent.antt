@@ -1,10 +1,6 @@
 -- Rows, the last of which stand in an array.
-use Rattle.std.proofs.Common.{◌≡◌, ℕ, zero, suc, ◌+◌, ◌-◌, ◌<◌, ◌≤◌, List, [], ◌∷◌, ◌++◌, length, set, Some, refl, sym, ap, ◌∙◌, arith, slice_get, get_or, inl, inr}
-use Rattle.std.specs.Prelude.{min}
-use Rattle.std.proofs.lemmas.Bool.Decides.{leb_tells}
-use Rattle.std.proofs.lemmas.Option.{slice_get_read}
-use Rattle.dist_core_ends.specs.declared.slots.EndPlace.{EndPlace}
-use Rattle.dist_core_ends.specs.Keeping.{without_row_cause, rows_forgotten}
+use Rattle.dist_core_ends.proofs.Words.{◌≡◌, ℕ, zero, suc, ◌+◌, ◌-◌, ◌<◌, ◌≤◌, min, List, [], ◌∷◌, ◌++◌, length, get_or, set, slice_get, Some, sym, refl, ap}
+use Rattle.dist_core_ends.proofs.Words.{◌∙◌, inl, inr, arith, leb_tells, slice_get_read, rows_forgotten, without_row_cause, EndPlace}
 
 pub forgotten-length : (b : ℕ) (xs : List EndPlace) → length (rows_forgotten b xs) ≡ length xs
 forgotten-length b [] = refl

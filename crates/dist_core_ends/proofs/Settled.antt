@@ -1,24 +1,13 @@
 -- The numbers below which no end is of a kind, when ends change: an end that is up or closed is never pending again, and one that
 -- has a name is never nameless again.
-use Rattle.std.proofs.Common.{◌≡◌, ℕ, zero, suc, ◌<◌, ◌≤◌, true, false, cond, eqb, List, [], ◌∷◌, length, Option, Some, None, refl, sym, ap, ◌∙◌, subst, arith, slice_get}
-use Rattle.std.proofs.lemmas.Bool.{false≢true, eqb-true}
-use Rattle.std.proofs.lemmas.Option.{slice_get-get_or}
-use Rattle.dist_names.specs.Order.{Name}
-use Rattle.dist_peers.specs.declared.entry.EndId.{EndId}
-use Rattle.dist_peers.specs.Table.{Table}
-use Rattle.dist_core_ends.specs.declared.known.End.{End}
+use Rattle.dist_core_ends.proofs.Words.{◌≡◌, ℕ, zero, suc, ◌<◌, ◌≤◌, true, false, cond, eqb, List, [], ◌∷◌, length, slice_get, Some, None, Option, sym, refl}
+use Rattle.dist_core_ends.proofs.Words.{ap, ◌∙◌, subst, arith, length-set, eqb-true, false≢true, slice_get-get_or, Name, Table, EndId, Fits, IsThere}
+use Rattle.dist_core_ends.proofs.Words.{OtherStaysClosed, StaysClosed, put_end, table_after, with_change, is_pending, is_unnamed, without_cause}
+use Rattle.dist_core_ends.proofs.Words.{without_causes_below, AreSettled, IsPast, KeepsEnds, finds_sought, is_sought, End, Sought}
 use Rattle.dist_core_ends.specs.declared.known.End.TheVariants as ends
-use Rattle.dist_core_ends.specs.declared.slots.Sought.{Sought}
 use Rattle.dist_core_ends.specs.declared.slots.Sought.TheVariants as sought
-use Rattle.dist_core_ends.specs.Ends.{is_pending, is_unnamed}
-use Rattle.dist_core_ends.specs.Change.{Fits, put_end, with_change, table_after, StaysClosed, OtherStaysClosed, IsThere}
-use Rattle.dist_core_ends.specs.Forgetting.{without_cause, without_causes_below}
-use Rattle.dist_core_ends.specs.Keeping.{is_sought, finds_sought, AreSettled, IsPast, KeepsEnds}
-use Rattle.dist_core_ends.proofs.Changes.{get-put, length-put}
-use Rattle.dist_core_ends.proofs.Fitting.{named-settled}
+use Rattle.dist_core_ends.proofs.{Changes.get-put, Changes.length-put, Fitting.named-settled, Forgotten.forgotten-length, Forgotten.agree-forgotten}
 use Rattle.dist_core_ends.proofs.Keeping.{put-within}
-use Rattle.dist_core_ends.proofs.Forgotten.{forgotten-length, agree-forgotten}
-use Rattle.std.proofs.Math.ListN.{length-set}
 
 still-settled : (k : Sought) (d e : End) → is_sought k d ≡ false → StaysClosed (Some d) e → is_sought k e ≡ false
 still-settled sought.Pending (ends.Up r) e h s = s

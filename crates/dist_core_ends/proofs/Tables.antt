@@ -1,38 +1,10 @@
 -- The table that the ends make.
-use Rattle.std.proofs.Common.{◌≡◌, ℕ, zero, suc, Bool, true, false, cond, ◌&&◌, ◌||◌, List, [], ◌∷◌, Option, Some, None, refl, sym, ap, ◌∙◌, slice_get}
-use Rattle.std.specs.Option.{option_map}
-use Rattle.std.specs.List.{filter_map, cons_option}
-use Rattle.std.specs.Ordering.{is_eq}
-use Rattle.std.specs.declared.cmp.Ordering.{Ordering}
-use Rattle.std.specs.declared.cmp.Ordering.TheVariants.{Less, Equal, Greater}
-use Rattle.std.specs.Cmp.{IsTotalOrder}
-use Rattle.std.specs.Cmp.Lexicographic.{nat_list_cmp_total}
+use Rattle.dist_core_ends.proofs.Words.{and-false, ◌≡◌, ℕ, zero, suc, Bool, true, false, cond, ◌&&◌, ◌||◌, List, [], ◌∷◌, slice_get, Some, None, Option}
+use Rattle.dist_core_ends.proofs.Words.{option_map, filter_map, sym, refl, ap, ◌∙◌, or_parts, get-empty, get-from_entries, same_map, find, cons_option, Name}
+use Rattle.dist_core_ends.proofs.Words.{name_cmp, same_name, one_lem, Table, Entry, exact, order, Agree, Claim, claim_of, entry_from, entry_in, first_of, holds}
+use Rattle.dist_core_ends.proofs.Words.{holds_at, is_claim, names, row_in, same_kind, table_of, End, Kind, In, Out, Up}
 use Rattle.std.specs.FinMap as map
-use Rattle.std.specs.FinMap.{get-from_entries, get-empty, same_map, IsAntisymmetric, slice_cmp-IsAntisymmetric, nat_cmp-IsAntisymmetric}
-use Rattle.std.specs.FinMap.Entries.{find}
-use Rattle.dist_names.specs.Order.{Name, name_cmp, same_name}
-use Rattle.dist_peers.specs.Table.{Table}
-use Rattle.dist_peers.specs.declared.entry.Entry.{Entry}
-use Rattle.dist_core_ends.specs.declared.known.End.{End}
-use Rattle.dist_core_ends.specs.declared.phase.Kind.{Kind}
-use Rattle.dist_core_ends.specs.declared.phase.Kind.TheVariants.{Out, In, Up}
-use Rattle.dist_core_ends.specs.Ends.{Claim, claim_of, is_claim, same_kind, holds, holds_at, names, entry_in, entry_from, row_in, table_of, Agree, first_of}
 use Rattle.dist_core_ends.proofs.Agreement.{none-first, no-names, passes, entry-agreed}
-
-pub order : IsTotalOrder name_cmp
-order = nat_list_cmp_total
-
-pub exact : IsAntisymmetric name_cmp
-exact = slice_cmp-IsAntisymmetric nat_cmp-IsAntisymmetric
-
-equal : (o : Ordering) → is_eq o ≡ true → o ≡ Equal
-equal Less e = cc
-equal Equal e = refl
-equal Greater e = cc
-
--- two names that compare as the same are equal
-pub same-name : (p q : Name) → same_name p q ≡ true → p ≡ q
-same-name p q e = exact p q (equal (name_cmp p q) e)
 
 abbrev pub is_of : Name → Option Claim → Bool
 is_of q None = false
@@ -50,7 +22,7 @@ one-row : (es : List End) (q : Name) (c : Option Claim) (rest : List (Name × En
 one-row es q None rest b h = h
 one-row es q (Some c) rest b h =
     elim (same_name q c.peer) as (λ s. same_name q c.peer ≡ s → find name_cmp q (cons_option (option_map (λ x. (c.peer, x)) (entry_in es c.peer)) rest) ≡ cond (s || b) (entry_in es q) None) [
-      | true ↦ λ s. let same : entry_in es c.peer ≡ entry_in es q = ap (entry_in es) (sym (same-name q c.peer s)) in
+      | true ↦ λ s. let same : entry_in es c.peer ≡ entry_in es q = ap (entry_in es) (sym (one_lem q c.peer s)) in
           elim (entry_in es c.peer) as (λ o. o ≡ entry_in es q → find name_cmp q (cons_option (option_map (λ x. (c.peer, x)) o) rest) ≡ entry_in es q) [
             | None ↦ λ e. h ∙ either_none b (entry_in es q) (sym e) ∙ e
             | Some x ↦ λ e. ap (λ t. cond t (Some x) (find name_cmp q rest)) s ∙ e
@@ -66,22 +38,14 @@ find-rows : (es : List End) (q : Name) (xs : List End) → find name_cmp q (filt
 find-rows es q [] = refl
 find-rows es q (e ∷ xs) = one-row es q (claim_of e) (filter_map (λ e. row_in es (claim_of e)) xs) (claimed q xs) (find-rows es q xs)
 
-pub and_false : (b : Bool) → (b && false) ≡ false
-and_false true = refl
-and_false false = refl
-
 not-held : (q : Name) (k : Kind) (c : Option Claim) → is_of q c ≡ false → is_claim q k c ≡ false
 not-held q k None h = refl
-not-held q k (Some c) h = ap (λ b. same_kind k c.kind && b) h ∙ and_false (same_kind k c.kind)
-
-no-first : (a b : Bool) → (a || b) ≡ false → (a ≡ false) × (b ≡ false)
-no-first true b h = cc
-no-first false b h = (refl, h)
+not-held q k (Some c) h = ap (λ b. same_kind k c.kind && b) h ∙ and-false (same_kind k c.kind)
 
 unclaimed-at : (q : Name) (es : List End) → claimed q es ≡ false → (k : Kind) (i : ℕ) → passes (holds q k) (slice_get es i) ≡ false
 unclaimed-at q [] h k i = refl
-unclaimed-at q (e ∷ es) h k zero = not-held q k (claim_of e) ((no-first (is_of q (claim_of e)) (claimed q es) h).0)
-unclaimed-at q (e ∷ es) h k (suc i) = unclaimed-at q es ((no-first (is_of q (claim_of e)) (claimed q es) h).1) k i
+unclaimed-at q (e ∷ es) h k zero = not-held q k (claim_of e) (or_parts (is_of q (claim_of e)) (claimed q es) h).0
+unclaimed-at q (e ∷ es) h k (suc i) = unclaimed-at q es (or_parts (is_of q (claim_of e)) (claimed q es) h).1 k i
 
 unclaimed : (q : Name) (es : List End) → claimed q es ≡ false → entry_in es q ≡ None
 unclaimed q es h =

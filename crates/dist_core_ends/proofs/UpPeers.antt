@@ -1,21 +1,12 @@
 -- The up end of a peer is that of its entry.
-use Rattle.std.proofs.Common.{◌≡◌, ℕ, true, ◌==◌, eq-eqb, List, Option, Some, refl, sym, ap, ◌∙◌, slice_get}
-use Rattle.std.proofs.lemmas.Bool.{eqb-true}
-use Rattle.std.specs.Option.{option_and_then}
-use Rattle.dist_names.specs.Order.{Name, same_name}
-use Rattle.dist_peers.specs.declared.entry.EndId.{EndId}
-use Rattle.dist_peers.specs.declared.entry.Entry.{Entry}
+use Rattle.dist_core_ends.proofs.Words.{◌≡◌, ℕ, true, List, ◌==◌, slice_get, Some, Option, option_and_then, sym, refl, ap, ◌∙◌, eq-eqb, eqb-true, Name}
+use Rattle.dist_core_ends.proofs.Words.{same_name, itself_lem, one_lem, EndId, Entry, FindsUp, end_id, holds_at, is_held, names, record_in, up_from, up_id}
+use Rattle.dist_core_ends.proofs.Words.{up_pair, End, UpRecord, Up}
 use Rattle.dist_peers.specs.declared.entry.Entry.TheVariants as entry
-use Rattle.dist_core_ends.specs.declared.phase.Kind.TheVariants.{Up}
-use Rattle.dist_core_ends.specs.declared.known.UpRecord.{UpRecord}
-use Rattle.dist_core_ends.specs.declared.known.End.{End}
 use Rattle.dist_core_ends.specs.declared.known.End.TheVariants as ends
-use Rattle.dist_core_ends.specs.Ends.{holds_at, is_held, names, up_id, up_from, record_in, end_id, up_pair, FindsUp}
-use Rattle.dist_core_ends.proofs.Tables.{same-name}
-use Rattle.dist_core_ends.proofs.Fitting.{self-same}
 
 itself : (p q : Name) → q ≡ p → same_name p q ≡ true
-itself p q e = ap (same_name p) e ∙ self-same p
+itself p q e = ap (same_name p) e ∙ itself_lem p
 
 module _ (es : List End) (p : Name) (o : Option Entry) (agree : (i : ℕ) → holds_at es p Up i ≡ names Up i o) where
   at-own : (i : ℕ) (x : EndId) (kept : UpRecord) → slice_get es i ≡ Some (ends.Up kept) → (x.0 == i) ≡ true → record_in x (slice_get es x.0) ≡ up_pair i kept
@@ -32,7 +23,7 @@ module _ (es : List End) (p : Name) (o : Option Entry) (agree : (i : ℕ) → ho
   up-only i kept at same = by-entry i kept at o (sym (agree i) ∙ (ap (is_held p Up) at ∙ itself p kept.peer same))
 
   at-end : (x : EndId) (s : Option End) → slice_get es x.0 ≡ s → is_held p Up s ≡ true → FindsUp es p (record_in x s)
-  at-end x (Some (ends.Up r)) at e = (at, sym (same-name p r.peer e))
+  at-end x (Some (ends.Up r)) at e = (at, sym (one_lem p r.peer e))
   at-end x s at e = tt
 
   named-own : (x : EndId) → names Up x.0 o ≡ true → FindsUp es p (record_in x (slice_get es x.0))

@@ -1,17 +1,18 @@
 -- A reply is sent only to a challenge of the name that was dialled.
-use Rattle.std.proofs.Common.{◌≡◌, ℕ, true, List, Option, Some, None, Ok, sym, ap, ◌∙◌, subst, slice_get}
-use Rattle.dist_core.proofs.Words.{false≢true, eqb-true, option_map, Name, read, Side, Acceptor, Message, EndId, Entry, Attempt, End, Out, AreLegal, entry_in}
-use Rattle.dist_core.proofs.Words.{is_claim, is_held, kind_in, names, superseded_end, NodeState, IsChallenge, StepRow, Heard, Taken, Dials, Comes_in, Begins}
-use Rattle.dist_core.proofs.Words.{Ceases, Loses, Ticks, Fails, Hears, Closes, Names, Goes_on, Insists, Replies, Challenges, Complements, Acknowledged, Replied}
-use Rattle.dist_core.proofs.Words.{Accepts, Crosses, Declines, Comes_again, Asks_alive, Asks_again, sender_to, sender_in, self-same, same-name}
-use Rattle.dist_core_laws.proofs.Words.{Event, Note, Effect}
+use Rattle.dist_names.proofs.Orders.{itself_lem, one_lem}
 use Rattle.dist_peers.specs.declared.entry.Entry.TheVariants as entry
 use Rattle.dist_core_ends.specs.declared.known.End.TheVariants as ends
 use Rattle.dist_core_ends.specs.declared.phase.Phase.TheVariants as phase
+use Rattle.dist_core.specs.declared.{effect.Effect.Effect, event.Event.Event, reply.Note.Note}
 use Rattle.dist_core.specs.declared.event.Event.TheVariants as event
 use Rattle.dist_core.specs.declared.reply.Note.TheVariants as note
-use Rattle.dist_core_laws.specs.Laws.{IsDialledChallenge}
 use Rattle.dist_core.proofs.Closings.{at-own}
+use Rattle.dist_core.proofs.Words.{read, Message, Side, Acceptor, Attempt, End, Out, ◌≡◌, ℕ, true, List, slice_get, Some, None, Ok, Option, option_map, sym, ap}
+use Rattle.dist_core.proofs.Words.{◌∙◌, subst, eqb-true, false≢true, Name, EndId, Entry, AreLegal, entry_in, is_claim, is_held, kind_in, names, superseded_end}
+use Rattle.dist_core.proofs.Words.{NodeState, Accepts, Acknowledged, Asks_again, Asks_alive, Begins, Ceases, Challenges, Closes, Comes_again, Comes_in}
+use Rattle.dist_core.proofs.Words.{Complements, Crosses, Declines, Dials, Fails, Goes_on, Heard, Hears, Insists, IsChallenge, Loses, Names, Replied, Replies}
+use Rattle.dist_core.proofs.Words.{StepRow, Taken, Ticks, sender_in, sender_to}
+use Rattle.dist_core_laws.specs.Laws.{IsDialledChallenge}
 
 abbrev noted : Effect → Note
 noted f = f.reply.note
@@ -38,7 +39,7 @@ named-out id o h = absurd (false≢true h)
 module _ (n : NodeState) (legal : AreLegal n.ends) where
   held : (id : EndId) (b : Attempt) → slice_get n.ends id.0 ≡ Some (ends.Attempt b) → b.phase ≡ phase.AwaitChallenge → entry_in n.ends b.peer ≡ Some (entry.Out id)
   held id b at ph =
-      let out : is_held b.peer Out (slice_get n.ends id.0) ≡ true = ap (is_held b.peer Out) at ∙ ap (λ q. is_claim b.peer Out (option_map (λ k. record { peer = b.peer; kind = k }) (kind_in q))) ph ∙ self-same b.peer in
+      let out : is_held b.peer Out (slice_get n.ends id.0) ≡ true = ap (is_held b.peer Out) at ∙ ap (λ q. is_claim b.peer Out (option_map (λ k. record { peer = b.peer; kind = k }) (kind_in q))) ph ∙ itself_lem b.peer in
       named-out id (entry_in n.ends b.peer) (sym (legal b.peer Out id.0) ∙ out)
 
   same-side : (side : Side) → Some side ≡ Some Acceptor → side ≡ Acceptor
@@ -69,7 +70,7 @@ module _ (n : NodeState) (legal : AreLegal n.ends) where
         there = at ∙ ap Some un;
         awaited = ph;
         says = ap (λ z. read z body) (sym (same-side side (sym to ∙ ap sender_to un ∙ ap sender_in ph))) ∙ says;
-        is = subst (λ (q : Name). IsChallenge n.setup b fm r flags challenge c q m) (sym (same-name b.peer p sn)) ch;
+        is = subst (λ (q : Name). IsChallenge n.setup b fm r flags challenge c q m) (sym (one_lem b.peer p sn)) ch;
         held = held id b (at ∙ ap Some un) ph;
       }
 

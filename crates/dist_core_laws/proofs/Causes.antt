@@ -1,10 +1,12 @@
 -- What a step reads of ends doesn't depend on why the closed ones were closed.
-use Rattle.std.proofs.Common.{◌≡◌, ℕ, suc, ◌+◌, true, false, cond, ltb, List, [], ◌∷◌, ◌++◌, map, take, drop, length, set, Option, Some, None, refl, sym, ap, ◌∙◌, fold, slice_get}
-use Rattle.dist_core.proofs.Words.{map-append, map-set, length-map, take-append-drop, slice_get-map, count_by, filter_map, cons_option, option_map, Name, EndId}
-use Rattle.dist_core.proofs.Words.{Kind, Out, In, Up, End, put_end, with_change, Claim, claim_of, is_claim, is_open, first_of, holds, entry_from, entry_in}
-use Rattle.dist_core.proofs.Words.{row_in, table_of, without_cause, without_causes_below, superseded_end}
+use Rattle.std.proofs.Common.{map, take, fold}
 use Rattle.std.specs.FinMap as fin_map
 use Rattle.dist_core_ends.specs.declared.known.End.TheVariants as ends
+use Rattle.dist_core_ends.proofs.Forgotten.{same-open}
+use Rattle.dist_core.proofs.Words.{take-append-drop, length-map, map-append, map-set, slice_get-map, End, Kind, In, Out, Up, ◌≡◌, ℕ, suc, ◌+◌, true, false}
+use Rattle.dist_core.proofs.Words.{cond, ltb, List, [], ◌∷◌, ◌++◌, length, drop, set, slice_get, Some, None, count_by, Option, option_map, filter_map, sym}
+use Rattle.dist_core.proofs.Words.{refl, ap, ◌∙◌, cons_option, Name, EndId, put_end, with_change, Claim, claim_of, entry_from, entry_in, first_of, holds}
+use Rattle.dist_core.proofs.Words.{is_claim, is_open, row_in, table_of, without_cause, without_causes_below, superseded_end}
 
 -- ---- one end
 
@@ -16,10 +18,6 @@ cause-once e = refl
 claim-same : (e : End) → claim_of (without_cause e) ≡ claim_of e
 claim-same (ends.Closed w) = refl
 claim-same e = refl
-
-open-same : (e : End) → is_open (without_cause e) ≡ is_open e
-open-same (ends.Closed w) = refl
-open-same e = refl
 
 superseded-same : (o : Option End) → superseded_end (option_map without_cause o) ≡ superseded_end o
 superseded-same (Some (ends.Closed w)) = refl
@@ -54,7 +52,7 @@ table-same es = ap fin_map.from_entries (rows-same es es)
 opens-from : (k : ℕ) (es : List End) → fold (λ n e. n + cond (is_open e) 1 0) k (map without_cause es) ≡ fold (λ n e. n + cond (is_open e) 1 0) k es
 opens-from k [] = refl
 opens-from k (e ∷ es) =
-    ap (λ b. fold (λ n e. n + cond (is_open e) 1 0) (k + cond b 1 0) (map without_cause es)) (open-same e)
+    ap (λ b. fold (λ n e. n + cond (is_open e) 1 0) (k + cond b 1 0) (map without_cause es)) (same-open e)
     ∙ opens-from (k + cond (is_open e) 1 0) es
 
 opens-same : (es : List End) → count_by is_open (map without_cause es) ≡ count_by is_open es

@@ -1,10 +1,9 @@
 -- What becomes of a dialled end that a crossing name supersedes, by how far its handshake has come.
-use Rattle.std.proofs.Common.{◌≡◌, ℕ, true, List, Option, Some, refl, ap, slice_get}
-use Rattle.dist_core.proofs.Words.{false≢true, option_map, EndId, Attempt, End, Out, Phase, is_claim, is_held, kind_in, superseded_end, superseded_in}
-use Rattle.dist_core.proofs.Words.{supersedes, NodeState}
-use Rattle.dist_core_laws.proofs.Words.{Effect}
+use Rattle.dist_core_ends.specs.declared.{known.Attempt.Attempt, known.End.End, phase.Kind.TheVariants.Out, phase.Phase.Phase}
 use Rattle.dist_core_ends.specs.declared.known.End.TheVariants as ends
 use Rattle.dist_core_ends.specs.declared.phase.Phase.TheVariants as phase
+use Rattle.dist_core_ends.proofs.Words.{◌≡◌, ℕ, true, List, slice_get, Some, Option, option_map, refl, ap, false≢true, EndId, is_claim, is_held, kind_in}
+use Rattle.dist_core.specs.{Effects.superseded_end, Effects.superseded_in, Effects.supersedes, Node.NodeState, declared.effect.Effect.Effect}
 use Rattle.dist_core_laws.specs.Laws.{Supersedes, Dooms, Drops, doomed_as, was_let_on}
 
 module _ (n : NodeState) (id : EndId) (say : List ℕ) (b : Attempt) (x : EndId) (f : Effect) where

@@ -1,17 +1,15 @@
 -- A doomed end is closed by its next event, and until then it stays.
-use Rattle.std.proofs.Common.{◌≡◌, ℕ, true, length, Option, Some, None, Ok, sym, ap, ◌∙◌, subst, slice_get, arith, ◌⊎◌, inl, inr}
-use Rattle.dist_core.proofs.Words.{false≢true, slice_get_past, option_map, Name, Message, EndId, Why, Attempt, End, Kind, Phase, AreLegal, holds, is_claim}
-use Rattle.dist_core.proofs.Words.{kind_in, NodeState, new_id, ends_after, StepRow, Heard, Dials, Comes_in, Begins, Ceases, Loses, Ticks, Fails, Hears, Closes}
-use Rattle.dist_core.proofs.Words.{Names, Goes_on, Insists, Replies, Challenges, Complements, Acknowledged, Replied, effect_of, step}
-use Rattle.dist_core_laws.proofs.Words.{Event, Reply, Effect}
-use Rattle.dist_core_ends.specs.declared.why.Why.TheVariants as why
 use Rattle.dist_core_ends.specs.declared.known.End.TheVariants as ends
 use Rattle.dist_core_ends.specs.declared.phase.Phase.TheVariants as phase
+use Rattle.dist_core_ends.specs.declared.why.Why.TheVariants as why
+use Rattle.dist_core.specs.declared.{effect.Effect.Effect, event.Event.Event, reply.Reply.Reply}
+use Rattle.dist_core.proofs.{Closings.heard-end, Rows.row-in}
+use Rattle.dist_core.proofs.Words.{Message, Attempt, End, Kind, Phase, Why, ◌≡◌, ℕ, true, ◌⊎◌, length, slice_get, Some, None, Ok, Option, option_map, sym, ap}
+use Rattle.dist_core.proofs.Words.{◌∙◌, subst, inl, inr, arith, false≢true, slice_get_past, Name, EndId, AreLegal, holds, is_claim, kind_in, NodeState}
+use Rattle.dist_core.proofs.Words.{ends_after, new_id, Acknowledged, Begins, Ceases, Challenges, Closes, Comes_in, Complements, Dials, Fails, Goes_on, Heard}
+use Rattle.dist_core.proofs.Words.{Hears, Insists, Loses, Names, Replied, Replies, StepRow, Ticks, effect_of, step}
 use Rattle.dist_core_laws.specs.Laws.{IsOther, is_doomed, doomed_in}
-use Rattle.dist_core.proofs.Closings.{heard-end}
-use Rattle.dist_core_laws.proofs.Others.{another}
-use Rattle.dist_core.proofs.Rows.{row-in}
-use Rattle.dist_core_laws.proofs.Succeeding.{has-effect, stands-as}
+use Rattle.dist_core_laws.proofs.{Others.another, Succeeding.has-effect, Succeeding.stands-as}
 
 -- the effect closes its own end, and brings nothing up
 pub record Shuts (f : Effect) : Type 0 where

@@ -1,21 +1,20 @@
 -- How many entries there are after a step: no more than the limit, where there were no more before.
-use Rattle.std.proofs.Common.{◌≡◌, ◌∙◌, ℕ, ◌+◌, ◌-◌, ◌<◌, ◌≤◌, Bool, true, false, not, ◌||◌, cond, nat_lt, Option, Some, None, Ok, is_some, refl, sym, ap, subst, arith, slice_get}
-use Rattle.dist_core.proofs.Words.{false≢true, nat_tests, option_map, len-insert, len-remove, Name, same_name, has_all, Flags, Message, EndId, Entry, Table}
-use Rattle.dist_core.proofs.Words.{with_entry, left_by, is_waiting, is_full, Kind, Out, In, Up, Phase, Attempt, End, Why, AreLegal, Claim, claim_of, entry_in}
-use Rattle.dist_core.proofs.Words.{kind_in, table_of, AsksRaise, AsksShift, claim_at, table_after_entry, table_after_rise, table_after_shift, Setup, asks_name}
-use Rattle.dist_core.proofs.Words.{is_allowed, is_good, is_refused, NodeState, ends_after, is_full_for, limits_of, named_attempt, fresh_attempt, held_back}
-use Rattle.dist_core.proofs.Words.{superseded_end, table_after_effect, StepRow, Heard, Taken, Dials, Comes_in, Begins, Ceases, Loses, Ticks, Fails, Hears}
-use Rattle.dist_core.proofs.Words.{Closes, Names, Goes_on, Insists, Replies, Challenges, Complements, Acknowledged, Replied, Accepts, Crosses, Declines}
-use Rattle.dist_core.proofs.Words.{Comes_again, Asks_alive, Asks_again, effect_of, table-legal, get-table, order, table-agreed, or_parts}
-use Rattle.dist_core_laws.proofs.Words.{Event, Effect}
 use Rattle.std.specs.FinMap as map
 use Rattle.dist_peers.specs.declared.entry.Entry.TheVariants as entry
-use Rattle.dist_core_ends.specs.declared.phase.Phase.TheVariants as phase
 use Rattle.dist_core_ends.specs.declared.known.End.TheVariants as ends
+use Rattle.dist_core_ends.specs.declared.phase.Phase.TheVariants as phase
 use Rattle.dist_core_ends.specs.declared.why.Why.TheVariants as why
-use Rattle.dist_core.proofs.Closings.{at-own, heard-end}
-use Rattle.dist_core.proofs.Rows.{row-in}
-use Rattle.dist_core.proofs.Steps.{fits}
+use Rattle.dist_core_ends.proofs.Words.{◌-◌, is_some, order}
+use Rattle.dist_core.specs.declared.{effect.Effect.Effect, event.Event.Event}
+use Rattle.dist_core.proofs.{Closings.at-own, Closings.heard-end, Rows.row-in, Steps.fits}
+use Rattle.dist_core.proofs.Words.{not, nat_lt, len-insert, len-remove, has_all, Flags, Message, with_entry, is_full, table_after_entry, Attempt, End, Kind}
+use Rattle.dist_core.proofs.Words.{Phase, Why, In, Out, Up, table-legal, get-table, table-agreed, ◌≡◌, ℕ, ◌+◌, ◌<◌, ◌≤◌, Bool, true, false, cond, ◌||◌}
+use Rattle.dist_core.proofs.Words.{slice_get, Some, None, Ok, Option, option_map, sym, refl, ap, ◌∙◌, subst, arith, nat_tests, false≢true, or_parts, Name}
+use Rattle.dist_core.proofs.Words.{same_name, Table, is_waiting, left_by, EndId, Entry, AsksRaise, AsksShift, claim_at, table_after_rise, table_after_shift}
+use Rattle.dist_core.proofs.Words.{AreLegal, Claim, claim_of, entry_in, kind_in, table_of, asks_name, is_allowed, is_good, is_refused, Setup, named_attempt}
+use Rattle.dist_core.proofs.Words.{fresh_attempt, held_back, superseded_end, table_after_effect, NodeState, ends_after, is_full_for, limits_of, Accepts}
+use Rattle.dist_core.proofs.Words.{Acknowledged, Asks_again, Asks_alive, Begins, Ceases, Challenges, Closes, Comes_again, Comes_in, Complements, Crosses}
+use Rattle.dist_core.proofs.Words.{Declines, Dials, Fails, Goes_on, Heard, Hears, Insists, Loses, Names, Replied, Replies, StepRow, Taken, Ticks, effect_of}
 
 -- ---- the entries of a table
 

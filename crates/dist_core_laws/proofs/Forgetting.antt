@@ -1,27 +1,30 @@
 -- Why ends were closed changes no step.
-use Rattle.std.proofs.Common.{◌≡◌, ℕ, ◌||◌, not, nat_lt, cond, ◌&&◌, ◌==◌, Bool, true, false, List, [], ◌∷◌, map, Option, Some, None, Result, Ok, Err, refl, sym, ap, ◌∙◌, subst, slice_get}
-use Rattle.dist_core.proofs.Words.{option_map, count_by, list_any, Name, Flags, Creation, read, Form, Message, Side, MessageError, Opening, is_full, is_greater}
-use Rattle.dist_core.proofs.Words.{ruling, EndId, Entry, rekeys, form_of_old, is_refused, knows_six, required_of, greeting_text, status_text, Setup, end_id}
-use Rattle.dist_core.proofs.Words.{entry_in, is_open, without_causes_below, without_cause, Attempt, End, Phase, Act, act, changed_or, run_acts, after_change}
-use Rattle.dist_core.proofs.Words.{change, finds_no_room, has_usual, is_in_use, is_up, in_await_name, in_await_reply, name_came, name_taken, named_attempt}
-use Rattle.dist_core.proofs.Words.{verdict_in, in_await_ack, closes, fresh_attempt, goes_on, shuts, supersedes, NodeState, is_crowded, is_full_for}
-use Rattle.dist_core.proofs.Words.{is_given_out, is_spent, new_id, run, node_after, opening}
-use Rattle.dist_core_laws.proofs.Words.{Change, Allow, Cookie, UsualCookie, Effect, Event, Reply, StepError}
+use Rattle.std.proofs.Common.{◌==◌, map}
 use Rattle.std.specs.FinMap as finite
 use Rattle.dist_messages.specs.declared.form.Form.TheVariants as form
 use Rattle.dist_messages.specs.declared.message.Message.TheVariants as message
 use Rattle.dist_messages.specs.declared.message.Status.TheVariants as status
-use Rattle.dist_peers.specs.declared.entry.Verdict.{Verdict}
 use Rattle.dist_peers.specs.declared.entry.Verdict.TheVariants as verdict
 use Rattle.dist_core_ends.specs.declared.known.End.TheVariants as ends
 use Rattle.dist_core_ends.specs.declared.phase.Phase.TheVariants as phase
 use Rattle.dist_core_ends.specs.declared.why.Why.TheVariants as why
-use Rattle.dist_core.specs.declared.changing.ChangeError.TheVariants as change_error
+use Rattle.dist_core.specs.Step.{effect_of}
+use Rattle.dist_core.specs.declared.changing.{Change.Change, Change.TheVariants.Allow, Change.TheVariants.Cookie, Change.TheVariants.UsualCookie}
+use Rattle.dist_core.specs.declared.{effect.Effect.Effect, event.Event.Event, reply.Reply.Reply, step_error.StepError.StepError}
 use Rattle.dist_core.specs.Acts as acts
-use Rattle.dist_core.specs.Step.{after, at_end, came_in, unless_spent, dial_effect, effect_of, framed_from, message_effect, in_attempt, opening_effect, sender_to, step, step_result, tick_effect}
+use Rattle.dist_core.specs.declared.changing.ChangeError.TheVariants as change_error
 use Rattle.dist_core.specs.declared.event.Event.TheVariants as event
 use Rattle.dist_core.specs.declared.reply.Note.TheVariants as note
 use Rattle.dist_core.specs.declared.step_error.StepError.TheVariants as error
+use Rattle.dist_core.proofs.Words.{not, nat_lt, list_any, Creation, Flags, read, Form, Message, Side, MessageError, Opening, rekeys, is_full, Verdict, Attempt}
+use Rattle.dist_core.proofs.Words.{End, Phase, ◌≡◌, ℕ, Bool, true, false, cond, ◌&&◌, ◌||◌, List, [], ◌∷◌, slice_get, Some, None, Ok, Err, count_by, Option}
+use Rattle.dist_core.proofs.Words.{Result, option_map, sym, refl, ap, ◌∙◌, subst, Name, is_greater, ruling, EndId, Entry, end_id, entry_in, is_open}
+use Rattle.dist_core.proofs.Words.{without_cause, without_causes_below, form_of_old, is_refused, knows_six, required_of, greeting_text, status_text, Setup}
+use Rattle.dist_core.proofs.Words.{in_await_name, in_await_reply, name_came, name_taken, named_attempt, verdict_in, Act, act, changed_or, run_acts}
+use Rattle.dist_core.proofs.Words.{in_await_ack, after_change, change, finds_no_room, has_usual, is_in_use, is_up, closes, fresh_attempt, goes_on, shuts}
+use Rattle.dist_core.proofs.Words.{supersedes, NodeState, is_crowded, is_full_for, is_given_out, is_spent, new_id, node_after, opening, run, after, at_end}
+use Rattle.dist_core.proofs.Words.{came_in, dial_effect, framed_from, in_attempt, message_effect, opening_effect, sender_to, step, step_result, tick_effect}
+use Rattle.dist_core.proofs.Words.{unless_spent}
 use Rattle.dist_core_laws.specs.Forgetting.{AreAlike, AreAlikeAnswers, Both_gone, Same_refusal, Same_reply, without_forgetting}
 use Rattle.dist_core_laws.proofs.Causes.{changed-alike, end-alike, entry-alike, forgotten-alike, length-alike, opens-alike, superseded-alike, table-alike}
 

@@ -1,10 +1,9 @@
 -- The ends that hold a peer are always exactly those that its entry names.
-use Rattle.std.proofs.Common.{ℕ, List}
-use Rattle.dist_core.proofs.Words.{Setup, AreLegal, table_of, NodeState, ends_after, table_after_effect, step, run, node_after, opening, legal, table-legal}
-use Rattle.dist_core.proofs.Words.{none-legal}
-use Rattle.dist_core_laws.proofs.Words.{Event}
 use Rattle.std.specs.FinMap as map
+use Rattle.dist_core.specs.declared.event.Event.{Event}
 use Rattle.dist_core.proofs.Steps.{fits}
+use Rattle.dist_core.proofs.Words.{legal, none-legal, table-legal, ℕ, List, AreLegal, table_of, Setup, table_after_effect, NodeState, ends_after, node_after}
+use Rattle.dist_core.proofs.Words.{opening, run, step}
 use Rattle.dist_core_laws.proofs.Constant.{after-run, after-step}
 
 pub legal_step : (n : NodeState) (v : Event) (fresh : ℕ) → AreLegal n.ends → AreLegal (node_after n (step n v fresh)).ends

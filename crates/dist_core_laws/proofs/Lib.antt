@@ -1,4 +1,3 @@
-pub mod Words
 pub mod Legal
 pub mod Others
 pub mod OpenCounts

@@ -1,19 +1,15 @@
 -- A node stays within its limits.
-use Rattle.std.proofs.Common.{◌≡◌, ◌∙◌, ℕ, ◌+◌, ◌≤◌, true, false, ◌||◌, List, [], length, Ok, refl, sym, ap, subst, arith}
-use Rattle.dist_core.proofs.Words.{nat_tests, count_by, Setup, len-empty, name_cmp, Entry, AreLegal, is_open, table_of, NodeState, is_crowded, is_given_out}
-use Rattle.dist_core.proofs.Words.{is_spent, limits_of, StepRow, Dials, Comes_in, Begins, Ceases, Loses, Ticks, Fails, Hears, run, node_after, opening}
-use Rattle.dist_core.proofs.Words.{effect_of, step, after, agree-empty, table-agreed}
-use Rattle.dist_core_laws.proofs.Words.{Event, Effect}
-use Rattle.dist_core_setup.specs.declared.limits.Limits.{Limits}
-use Rattle.dist_core_setup.specs.Limits.{usual_limits}
 use Rattle.std.specs.FinMap as map
+use Rattle.dist_core_setup.specs.{Limits.usual_limits, declared.limits.Limits.Limits}
+use Rattle.dist_core.specs.declared.{effect.Effect.Effect, event.Event.Event}
+use Rattle.dist_core.proofs.{Numbers.counted, Rows.row-in}
+use Rattle.dist_core.proofs.Words.{len-empty, agree-empty, table-agreed, ◌≡◌, ℕ, ◌+◌, ◌≤◌, true, false, ◌||◌, List, [], length, Ok, count_by, sym, refl, ap}
+use Rattle.dist_core.proofs.Words.{◌∙◌, subst, arith, nat_tests, name_cmp, Entry, AreLegal, is_open, table_of, Setup, NodeState, is_crowded, is_given_out}
+use Rattle.dist_core.proofs.Words.{is_spent, limits_of, node_after, opening, run, Begins, Ceases, Comes_in, Dials, Fails, Hears, Loses, StepRow, Ticks, after}
+use Rattle.dist_core.proofs.Words.{effect_of, step}
 use Rattle.dist_core_laws.specs.Laws.{IsWithinLimits, given_by}
-use Rattle.dist_core.proofs.Numbers.{counted}
-use Rattle.dist_core.proofs.Rows.{row-in}
-use Rattle.dist_core_laws.proofs.Legal.{legal_opening, legal_step}
-use Rattle.dist_core_laws.proofs.Constant.{after-run, after-step}
+use Rattle.dist_core_laws.proofs.{Constant.after-run, Constant.after-step, EntryCounts.entries_after, Legal.legal_opening, Legal.legal_step}
 use Rattle.dist_core_laws.proofs.OpenCounts.{open_change}
-use Rattle.dist_core_laws.proofs.EntryCounts.{entries_after}
 
 -- a number is left while a step is left
 number-left : (n : NodeState) → limits_of n ≡ usual_limits → length n.ends ≤ n.steps → is_spent n ≡ false → is_given_out n ≡ false

@@ -1,21 +1,20 @@
 -- How the number of open ends changes with a step.
-use Rattle.std.proofs.Common.{◌≡◌, ◌≢◌, ℕ, ◌+◌, ◌<◌, true, false, cond, eqb, ltb, List, [], length, set, Option, Some, None, Ok, refl, sym, ap, ◌∙◌, subst, slice_get, arith}
-use Rattle.dist_core.proofs.Words.{count_by, nat_tests, slice_get_within, Side, Message, replaced_by, EndId, Why, Attempt, UpRecord, End, AreLegal, is_open}
-use Rattle.dist_core.proofs.Words.{entry_in, NodeState, ends_after, new_id, put_end, one_if, named_attempt, greeting_text, goes_on, shuts, shuts_other}
-use Rattle.dist_core.proofs.Words.{supersedes, superseded_end, comes_up, StepRow, Heard, Taken, Dials, Comes_in, Begins, Ceases, Loses, Ticks, Fails, Hears}
-use Rattle.dist_core.proofs.Words.{Closes, Names, Goes_on, Insists, Replies, Challenges, Complements, Acknowledged, Replied, Accepts, Crosses, Declines}
-use Rattle.dist_core.proofs.Words.{Comes_again, Asks_alive, Asks_again, effect_of, sender_to, get-put, cond_both, ne_eqb}
-use Rattle.dist_core_laws.proofs.Words.{Event, Note, Effect}
-use Rattle.dist_core_ends.specs.declared.why.Why.TheVariants as why
+use Rattle.dist_messages.specs.declared.message.Status.TheVariants as status
 use Rattle.dist_core_ends.specs.declared.known.End.TheVariants as ends
+use Rattle.dist_core_ends.specs.declared.why.Why.TheVariants as why
+use Rattle.dist_core_ends.proofs.Opens.{count-set, count-push}
+use Rattle.dist_core.specs.declared.{effect.Effect.Effect, event.Event.Event, reply.Note.Note}
 use Rattle.dist_core.specs.declared.event.Event.TheVariants as event
 use Rattle.dist_core.specs.declared.reply.Note.TheVariants as note
-use Rattle.dist_messages.specs.declared.message.Status.TheVariants as status
+use Rattle.dist_core.proofs.{Closings.heard-end, Rows.loses, Rows.row-in}
+use Rattle.dist_core.proofs.Words.{ne_eqb, cond_both, Message, Side, Attempt, End, UpRecord, Why, get-put, ◌≡◌, ℕ, ◌+◌, ◌<◌, true, false, cond, eqb, ltb, ◌≢◌}
+use Rattle.dist_core.proofs.Words.{List, [], length, set, slice_get, Some, None, Ok, count_by, Option, sym, refl, ap, ◌∙◌, subst, arith, nat_tests}
+use Rattle.dist_core.proofs.Words.{slice_get_within, replaced_by, EndId, one_if, put_end, AreLegal, entry_in, is_open, greeting_text, named_attempt, comes_up}
+use Rattle.dist_core.proofs.Words.{goes_on, shuts, shuts_other, superseded_end, supersedes, NodeState, ends_after, new_id, Accepts, Acknowledged, Asks_again}
+use Rattle.dist_core.proofs.Words.{Asks_alive, Begins, Ceases, Challenges, Closes, Comes_again, Comes_in, Complements, Crosses, Declines, Dials, Fails, Goes_on}
+use Rattle.dist_core.proofs.Words.{Heard, Hears, Insists, Loses, Names, Replied, Replies, StepRow, Taken, Ticks, effect_of, sender_to}
 use Rattle.dist_core_laws.specs.Laws.{IsOther, closed_by, given_by}
-use Rattle.dist_core.proofs.Closings.{heard-end}
-use Rattle.dist_core_ends.proofs.Opens.{count-set, count-push}
 use Rattle.dist_core_laws.proofs.Others.{other-row}
-use Rattle.dist_core.proofs.Rows.{loses, row-in}
 
 -- an end is put in the place of another
 put-at : (es : List End) (i : ℕ) (e d : End) → slice_get es i ≡ Some d → count_by is_open (put_end es i e) + one_if (is_open d) ≡ count_by is_open es + one_if (is_open e)

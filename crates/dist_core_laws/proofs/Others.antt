@@ -1,18 +1,16 @@
 -- The other end that a step changes: it is open, and not the event's own.
-use Rattle.std.proofs.Common.{◌≡◌, ℕ, true, false, eqb, Option, Some, None, Ok, refl, sym, ap, ◌∙◌, subst, slice_get}
-use Rattle.dist_core.proofs.Words.{false≢true, some_pair_parts, option_map, Name, Message, replaced_by, EndId, Entry, Kind, Out, In, Up, Phase, Attempt, End}
-use Rattle.dist_core.proofs.Words.{AreLegal, is_claim, is_held, is_open, kind_in, names, entry_in, NodeState, named_attempt, superseded_end, StepRow, Heard}
-use Rattle.dist_core.proofs.Words.{Taken, Dials, Comes_in, Begins, Ceases, Loses, Ticks, Fails, Hears, Closes, Names, Goes_on, Insists, Replies, Challenges}
-use Rattle.dist_core.proofs.Words.{Complements, Acknowledged, Replied, Accepts, Crosses, Declines, Comes_again, Asks_alive, Asks_again, effect_of, same}
-use Rattle.dist_core_laws.proofs.Words.{Event, Effect}
 use Rattle.dist_peers.specs.declared.entry.Entry.TheVariants as entry
+use Rattle.dist_core_ends.specs.declared.known.End.TheVariants as ends
 use Rattle.dist_core_ends.specs.declared.phase.Phase.TheVariants as phase
 use Rattle.dist_core_ends.specs.declared.why.Why.TheVariants as why
-use Rattle.dist_core_ends.specs.declared.known.End.TheVariants as ends
+use Rattle.dist_core.specs.declared.{effect.Effect.Effect, event.Event.Event}
+use Rattle.dist_core.proofs.{Closings.heard-end, Replies.other-of, Rows.row-in}
+use Rattle.dist_core.proofs.Words.{some_pair_parts, Message, Attempt, End, Kind, Phase, In, Out, Up, ◌≡◌, ℕ, true, false, eqb, slice_get, Some, None, Ok}
+use Rattle.dist_core.proofs.Words.{Option, option_map, sym, refl, ap, ◌∙◌, subst, eq-eqb, false≢true, Name, replaced_by, EndId, Entry, AreLegal, entry_in}
+use Rattle.dist_core.proofs.Words.{is_claim, is_held, is_open, kind_in, names, named_attempt, superseded_end, NodeState, Accepts, Acknowledged, Asks_again}
+use Rattle.dist_core.proofs.Words.{Asks_alive, Begins, Ceases, Challenges, Closes, Comes_again, Comes_in, Complements, Crosses, Declines, Dials, Fails, Goes_on}
+use Rattle.dist_core.proofs.Words.{Heard, Hears, Insists, Loses, Names, Replied, Replies, StepRow, Taken, Ticks, effect_of}
 use Rattle.dist_core_laws.specs.Laws.{IsOther}
-use Rattle.dist_core.proofs.Closings.{heard-end}
-use Rattle.dist_core.proofs.Replies.{other-of}
-use Rattle.dist_core.proofs.Rows.{row-in}
 
 -- an end that holds a peer exists, and is open
 holder : (p : Name) (k : Kind) (o : Option End) → is_held p k o ≡ true → (e : End) × (o ≡ Some e) × (is_open e ≡ true)
@@ -40,7 +38,7 @@ module _ (n : NodeState) (legal : AreLegal n.ends) (x : EndId) (s : End) where
       }
 
   names-it : (y : EndId) → y ≡ x → eqb y.0 x.0 ≡ true
-  names-it y at = ap (λ (z : EndId). eqb y.0 z.0) (sym at) ∙ same y.0
+  names-it y at = ap (λ (z : EndId). eqb y.0 z.0) (sym at) ∙ eq-eqb y.0 y.0 refl
 
   by-taken : (id : EndId) (b : Attempt) (f : Effect) → slice_get n.ends id.0 ≡ Some ends.Unnamed → Taken n id b f → f.other ≡ Some (x, s) → IsOther n id x
   by-taken id b f un (Accepts is k) o = absurd (nothing f x s (ap (λ (f : Effect). f.other) k) o)

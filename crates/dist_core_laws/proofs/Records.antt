@@ -1,34 +1,29 @@
 -- The records of ends that are up stay right, over steps and changes.
-use Rattle.std.proofs.Common.{◌≡◌, ◌==◌, ℕ, Bool, true, false, cond, not, ◌&&◌, ◌||◌, List, [], ◌∷◌, Option, Some, None, Ok, Err, refl, sym, ap, ◌∙◌, subst, slice_get, arith}
-use Rattle.std.specs.Prelude.{is_some}
-use Rattle.dist_core.proofs.Words.{false≢true, count_by, list_any, option_map, get-entries, Name, name_cmp, same_name, Message, EndId, Entry, replaced_by}
-use Rattle.dist_core.proofs.Words.{up_id, Up, Phase, Attempt, End, UpRecord, AreLegal, entry_in, is_held, is_open, names, table_of, self-same}
-use Rattle.dist_core.proofs.Words.{without_causes_below, without_cause, legal, table-legal, get-table, own_digest, same_bytes, ack_text, Setup, rekeys}
-use Rattle.dist_core.proofs.Words.{named_attempt, Act, Steps, Changes, Forgets, Renews, act, changed_or, run_acts, after_change, change, finds_no_room}
-use Rattle.dist_core.proofs.Words.{has_usual, is_in_use, is_up, comes_up, supersedes, superseded_end, superseded_in, record_of, NodeState, limits_of, StepRow}
-use Rattle.dist_core.proofs.Words.{Heard, Taken, Dials, Comes_in, Begins, Ceases, Loses, Ticks, Fails, Hears, Closes, Names, Goes_on, Insists, Replies}
-use Rattle.dist_core.proofs.Words.{Challenges, Complements, Acknowledged, Replied, Accepts, Crosses, Declines, Comes_again, Asks_alive, Asks_again, node_after}
-use Rattle.dist_core.proofs.Words.{opening, effect_of, step, after, cond_both}
-use Rattle.dist_core_laws.proofs.Words.{Change, Cookie, UsualCookie, Allow, Event, Effect}
 use Rattle.std.specs.Cmp.Lexicographic.{same_text}
 use Rattle.std.specs.FinMap as map
-use Rattle.std.specs.FinMap.Entries.{find}
-use Rattle.dist_names.proofs.Orders.{one_lem}
 use Rattle.dist_peers.specs.declared.entry.Entry.TheVariants as entry
-use Rattle.dist_core_ends.specs.declared.phase.Phase.TheVariants as phase
 use Rattle.dist_core_ends.specs.declared.known.End.TheVariants as ends
+use Rattle.dist_core_ends.specs.declared.phase.Phase.TheVariants as phase
 use Rattle.dist_core_ends.proofs.Forgotten.{agree-forgotten}
+use Rattle.dist_core_ends.proofs.Words.{is_some, ◌==◌, find, itself_lem, one_lem}
 use Rattle.dist_core_setup.specs.Changing.{DigestsStay, has_own_cookie, with_own_cookie}
 use Rattle.dist_core_setup.proofs.Keys.{others-stay, same-stays, owners-stay, all-stay}
+use Rattle.dist_core.specs.declared.changing.{Change.Change, Change.TheVariants.Allow, Change.TheVariants.Cookie, Change.TheVariants.UsualCookie}
+use Rattle.dist_core.specs.declared.{effect.Effect.Effect, event.Event.Event}
 use Rattle.dist_core.specs.declared.changing.ChangeError.TheVariants as error
 use Rattle.dist_core.proofs.Rows.{row-in}
-use Rattle.dist_core_laws.specs.Laws.{IsWithinLimits}
-use Rattle.dist_core_laws.specs.Records.{AreRight}
-use Rattle.dist_core_laws.proofs.Causes.{forgotten-alike, table-alike, opens-alike, length-alike, end-alike}
-use Rattle.dist_core_laws.proofs.Constant.{after-step, setup_step}
-use Rattle.dist_core_laws.proofs.Legal.{legal_opening, legal_step}
-use Rattle.dist_core_laws.proofs.Limits.{within_first, within_step}
-use Rattle.dist_core_laws.proofs.Succeeding.{stands-as}
+use Rattle.dist_core.proofs.Words.{not, cond_both, get-entries, list_any, Message, rekeys, up_id, Attempt, End, UpRecord, Phase, Up, legal, table-legal}
+use Rattle.dist_core.proofs.Words.{get-table, ◌≡◌, ℕ, Bool, true, false, cond, ◌&&◌, ◌||◌, List, [], ◌∷◌, slice_get, Some, None, Ok, Err, count_by, Option}
+use Rattle.dist_core.proofs.Words.{option_map, sym, refl, ap, ◌∙◌, subst, arith, false≢true, Name, name_cmp, same_name, replaced_by, EndId, Entry, AreLegal}
+use Rattle.dist_core.proofs.Words.{entry_in, is_held, is_open, names, table_of, without_cause, without_causes_below, own_digest, same_bytes, ack_text, Setup}
+use Rattle.dist_core.proofs.Words.{named_attempt, Act, Changes, Forgets, Renews, Steps, act, changed_or, run_acts, after_change, change, finds_no_room}
+use Rattle.dist_core.proofs.Words.{has_usual, is_in_use, is_up, comes_up, record_of, superseded_end, superseded_in, supersedes, NodeState, limits_of}
+use Rattle.dist_core.proofs.Words.{node_after, opening, Accepts, Acknowledged, Asks_again, Asks_alive, Begins, Ceases, Challenges, Closes, Comes_again}
+use Rattle.dist_core.proofs.Words.{Comes_in, Complements, Crosses, Declines, Dials, Fails, Goes_on, Heard, Hears, Insists, Loses, Names, Replied, Replies}
+use Rattle.dist_core.proofs.Words.{StepRow, Taken, Ticks, after, effect_of, step}
+use Rattle.dist_core_laws.specs.{Laws.IsWithinLimits, Records.AreRight}
+use Rattle.dist_core_laws.proofs.{Causes.forgotten-alike, Causes.table-alike, Causes.opens-alike, Causes.length-alike, Causes.end-alike, Succeeding.stands-as}
+use Rattle.dist_core_laws.proofs.{Constant.after-step, Constant.setup_step, Legal.legal_opening, Legal.legal_step, Limits.within_first, Limits.within_step}
 
 -- an end is up only with a right record
 abbrev RightEnd : Setup → End → Type 0
@@ -177,7 +172,7 @@ module _ (n : NodeState) (legal : AreLegal n.ends) (i : ℕ) (r : UpRecord) (up 
   has-up o h = absurd (false≢true h)
 
   peer-up : is_up (entry_in n.ends r.peer) ≡ true
-  peer-up = has-up (entry_in n.ends r.peer) (sym (legal r.peer Up i) ∙ ap (is_held r.peer Up) up ∙ self-same r.peer)
+  peer-up = has-up (entry_in n.ends r.peer) (sym (legal r.peer Up i) ∙ ap (is_held r.peer Up) up ∙ itself_lem r.peer)
 
 pub right_change : (n : NodeState) (v : Change) → AreLegal n.ends → AreRight n → AreRight (changed_or n (change n v))
 right_change n v legal rights i r at =

@@ -1,11 +1,11 @@
 -- An end comes up only with the digest of the own cookie and its own challenge.
-use Rattle.std.proofs.Common.{◌≡◌, ℕ, Option, Some, None, sym, ap, ◌∙◌, subst, slice_get}
-use Rattle.dist_core.proofs.Words.{Message, EndId, Attempt, UpRecord, End, NodeState, named_attempt, superseded_end, record_of, StepRow, Heard, Taken, Dials}
-use Rattle.dist_core.proofs.Words.{Comes_in, Begins, Ceases, Loses, Ticks, Fails, Hears, Closes, Names, Goes_on, Insists, Replies, Challenges, Complements}
-use Rattle.dist_core.proofs.Words.{Acknowledged, Replied, Accepts, Crosses, Declines, Comes_again, Asks_alive, Asks_again}
-use Rattle.dist_core_laws.proofs.Words.{Event, Effect}
-use Rattle.dist_core_laws.specs.Laws.{IsRightRecord}
+use Rattle.dist_core.specs.declared.{effect.Effect.Effect, event.Event.Event}
 use Rattle.dist_core.proofs.Closings.{at-own}
+use Rattle.dist_core.proofs.Words.{Message, Attempt, End, UpRecord, ◌≡◌, ℕ, slice_get, Some, None, Option, sym, ap, ◌∙◌, subst, EndId, named_attempt, record_of}
+use Rattle.dist_core.proofs.Words.{superseded_end, NodeState, Accepts, Acknowledged, Asks_again, Asks_alive, Begins, Ceases, Challenges, Closes, Comes_again}
+use Rattle.dist_core.proofs.Words.{Comes_in, Complements, Crosses, Declines, Dials, Fails, Goes_on, Heard, Hears, Insists, Loses, Names, Replied, Replies}
+use Rattle.dist_core.proofs.Words.{StepRow, Taken, Ticks}
+use Rattle.dist_core_laws.specs.Laws.{IsRightRecord}
 
 abbrev or_else : UpRecord → Option UpRecord → UpRecord
 or_else d None = d

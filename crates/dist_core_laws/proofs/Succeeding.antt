@@ -1,17 +1,14 @@
 -- What follows from a step that succeeds.
-use Rattle.std.proofs.Common.{◌≡◌, ℕ, ◌+◌, ◌<◌, ◌≤◌, true, cond, eqb, List, length, Option, Some, None, Result, Ok, Err, refl, sym, ap, ◌∙◌, subst, slice_get, arith}
-use Rattle.dist_core.proofs.Words.{eq-eqb, count_by, EndId, Why, End, IsThere, put_end, view_after, AreLegal, is_open, table_of, is_loss, NodeState, ends_after}
-use Rattle.dist_core.proofs.Words.{StepRow, Dials, Comes_in, Begins, Ceases, Loses, Ticks, Fails, Hears, node_after, effect_of, step, step_result, after}
-use Rattle.dist_core.proofs.Words.{get-put, get-after, table-legal, eqb-true, other_view, slice_get_within, cond_both}
-use Rattle.dist_core_laws.proofs.Words.{Effect, Event, Reply, StepError}
 use Rattle.dist_core_ends.specs.declared.known.End.TheVariants as ends
+use Rattle.dist_core.specs.declared.{effect.Effect.Effect, event.Event.Event, reply.Reply.Reply, step_error.StepError.StepError}
 use Rattle.dist_core.specs.declared.event.Event.TheVariants as event
+use Rattle.dist_core.proofs.{Closings.heard-end, Rows.loses, Rows.row-in, Steps.fits}
+use Rattle.dist_core.proofs.Words.{cond_both, End, Why, get-after, get-put, table-legal, ◌≡◌, ℕ, ◌+◌, ◌<◌, ◌≤◌, true, cond, eqb, List, length, slice_get, Some}
+use Rattle.dist_core.proofs.Words.{None, Ok, Err, count_by, Option, Result, sym, refl, ap, ◌∙◌, subst, arith, eq-eqb, eqb-true, slice_get_within, EndId}
+use Rattle.dist_core.proofs.Words.{IsThere, other_view, put_end, view_after, AreLegal, is_open, table_of, is_loss, NodeState, ends_after, node_after, Begins}
+use Rattle.dist_core.proofs.Words.{Ceases, Comes_in, Dials, Fails, Hears, Loses, StepRow, Ticks, after, effect_of, step, step_result}
 use Rattle.dist_core_laws.specs.Laws.{HasEffect, IsOfItsEnd, closed_by, given_by}
-use Rattle.dist_core.proofs.Closings.{heard-end}
-use Rattle.dist_core_laws.proofs.Legal.{legal_step}
-use Rattle.dist_core_laws.proofs.OpenCounts.{open_change, loss_change}
-use Rattle.dist_core.proofs.Rows.{loses, row-in}
-use Rattle.dist_core.proofs.Steps.{fits}
+use Rattle.dist_core_laws.proofs.{Legal.legal_step, OpenCounts.open_change, OpenCounts.loss_change}
 
 -- ---- the effect
 

@@ -1,12 +1,11 @@
 -- What closes an end that is up, where a frame came.
-use Rattle.std.proofs.Common.{◌≡◌, ℕ, List, Some, Ok, Err, sym, ap, ◌∙◌, slice_get}
-use Rattle.dist_core.proofs.Words.{EndId, Why, UpRecord, AreLegal, IsRightReply, NodeState}
-use Rattle.dist_core_laws.proofs.Words.{Effect, Reply}
 use Rattle.dist_core_ends.specs.declared.known.End.TheVariants as ends
+use Rattle.dist_core.specs.{Step.effect_of, declared.effect.Effect.Effect, declared.reply.Reply.Reply}
 use Rattle.dist_core.specs.declared.event.Event.TheVariants as event
 use Rattle.dist_core.specs.declared.step_error.StepError.TheVariants as error
-use Rattle.dist_core.specs.Step.{at_end, effect_of, step, framed_from, sender_to}
 use Rattle.dist_core.proofs.Replies.{replaces_on_reply}
+use Rattle.dist_core.proofs.Words.{UpRecord, Why, ◌≡◌, ℕ, List, slice_get, Some, Ok, Err, sym, ap, ◌∙◌, EndId, AreLegal, IsRightReply, NodeState, at_end}
+use Rattle.dist_core.proofs.Words.{framed_from, sender_to, step}
 use Rattle.dist_core_laws.proofs.Succeeding.{effect-end, has-effect, stands-as}
 
 -- a frame on an end that is up is refused

@@ -1,15 +1,10 @@
 -- Each body behind its length is the frame of its message.
-use Rattle.std.proofs.Common.{◌≡◌, ℕ, ◌+◌, ◌≤◌, List, ◌++◌, length, ap, ◌∙◌, arith, lit≤}
-use Rattle.std.proofs.lemmas.List.{append_assoc}
-use Rattle.std.specs.Int.{w16, to_be_bytes}
-use Rattle.dist_names.specs.declared.flags.Flags.{Flags}
-use Rattle.dist_names.specs.declared.creation.Creation.{Creation}
-use Rattle.dist_messages.specs.Canonical.{canonical}
-use Rattle.dist_messages.specs.Spelling.{text_of}
-use Rattle.dist_messages.specs.declared.message.Status.{Status}
-use Rattle.dist_messages.specs.declared.message.Status.TheVariants as status
-use Rattle.dist_messages.specs.declared.message.Message.{Message}
+use Rattle.std.proofs.Common.{◌≡◌, ℕ, ◌+◌, ◌≤◌, List, ◌++◌, length, ap, ◌∙◌, arith, lit≤, append_assoc, w16}
+use Rattle.std.specs.Int.{to_be_bytes}
+use Rattle.dist_names.specs.declared.{creation.Creation.Creation, flags.Flags.Flags}
+use Rattle.dist_messages.specs.{Canonical.canonical, Spelling.text_of, declared.message.Message.Message, declared.message.Status.Status}
 use Rattle.dist_messages.specs.declared.message.Message.TheVariants as message
+use Rattle.dist_messages.specs.declared.message.Status.TheVariants as status
 use Rattle.dist_core_setup.specs.Saying.{frame_of}
 
 -- before the body stands its length

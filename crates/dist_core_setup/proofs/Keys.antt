@@ -1,20 +1,14 @@
 -- Which digests a change of cookies does not change.
-use Rattle.std.proofs.Common.{◌≡◌, ◌==◌, not, ℕ, Bool, true, false, cond, List, [], ◌∷◌, Option, Some, None, refl, sym, ap, ◌∙◌, subst}
-use Rattle.std.proofs.lemmas.Bool.{false≢true}
-use Rattle.std.specs.Prelude.{is_some, unwrap_or}
-use Rattle.std.specs.Cmp.Lexicographic.{pointwise, same_text}
-use Rattle.std.specs.BTreeMap.{is_at, insert_entry}
-use Rattle.std.specs.Map.{lookup, remove_entry}
-use Rattle.std.specs.Ordering.{match_ordering, is_eq}
-use Rattle.std.specs.declared.cmp.Ordering.{Ordering}
-use Rattle.std.specs.declared.cmp.Ordering.TheVariants.{Less, Equal, Greater}
+use Rattle.std.proofs.{Common.not, Common.is_some, Common.unwrap_or, Common.is_eq, lemmas.Bool.false≢true}
+use Rattle.std.specs.{BTreeMap.is_at, BTreeMap.insert_entry, Map.lookup, Map.remove_entry, Ordering.match_ordering}
+use Rattle.std.specs.declared.cmp.{Ordering.Ordering, Ordering.TheVariants.Less, Ordering.TheVariants.Equal, Ordering.TheVariants.Greater}
 use Rattle.dist_names.specs.Order.{Name, name_cmp, same_name}
 use Rattle.dist_names.proofs.Orders.{one_lem, itself_lem}
-use Rattle.dist_secret.specs.Digest.{digest_of}
-use Rattle.dist_secret.specs.Cookies.{CookieTable, own_cookie, cookie_for, keyed, rekeys, with_cookie}
-use Rattle.dist_core_setup.specs.declared.setup.Setup.{Setup}
-use Rattle.dist_core_setup.specs.Rules.{own_digest}
+use Rattle.dist_messages.proofs.Words.{◌≡◌, ℕ, Bool, true, false, cond, List, [], ◌∷◌, ◌==◌, Some, None, Option, sym, refl, ap, ◌∙◌, subst, pointwise}
+use Rattle.dist_messages.proofs.Words.{same_text}
+use Rattle.dist_secret.specs.{Cookies.CookieTable, Cookies.own_cookie, Cookies.cookie_for, Cookies.keyed, Cookies.rekeys, Cookies.with_cookie, Digest.digest_of}
 use Rattle.dist_core_setup.specs.Changing.{DigestsStay, has_own_cookie, with_own_cookie, keyed_usually, letting_in}
+use Rattle.dist_core_setup.specs.{Rules.own_digest, declared.setup.Setup.Setup}
 
 abbrev Row : Type 0
 Row = Name × List ℕ

@@ -1,12 +1,9 @@
 -- Names in a list to which one was added, or from which one was taken.
+use mathlib.Core.Bool.{or-true}
 use Rattle.std.proofs.Common.{◌≡◌, Bool, true, false, not, cond, ◌||◌, List, [], ◌∷◌, ◌++◌, refl, sym, ap, ◌∙◌, subst}
 use Rattle.dist_names.specs.Order.{Name, same_name, is_listed}
 use Rattle.dist_names.proofs.Orders.{one_lem, itself_lem}
 use Rattle.dist_core_setup.specs.Changing.{without_name}
-
-or-true : (b : Bool) → (b || true) ≡ true
-or-true true = refl
-or-true false = refl
 
 pub listed-last : (names : List Name) (p : Name) → is_listed (names ++ (p ∷ [])) p ≡ true
 listed-last [] p = ap (λ b. b || false) (itself_lem p)

@@ -1,18 +1,11 @@
 -- Each message that a node sends has a spelling, and it fits a frame.
-use Rattle.std.proofs.Common.{◌≡◌, ℕ, true, false, cond, ltb, List, length, Ok, Err, refl, ap, arith, lit<}
 use Rattle.std.proofs.lemmas.Bool.Decides.{nat_tests}
-use Rattle.dist_names.specs.NodeName.{IsNodeName}
-use Rattle.dist_names.specs.declared.flags.Flags.{Flags}
-use Rattle.dist_names.specs.declared.creation.Creation.{Creation}
-use Rattle.dist_messages.specs.Canonical.{canonical, spelling_with_name}
-use Rattle.dist_messages.specs.declared.message.Side.TheVariants.{Dialler, Acceptor}
-use Rattle.dist_messages.specs.Spelling.{is_said_by}
-use Rattle.dist_messages.specs.declared.message.Side.{Side}
-use Rattle.dist_messages.specs.declared.message.Status.{Status}
-use Rattle.dist_messages.specs.declared.message.Status.TheVariants as status
-use Rattle.dist_messages.specs.declared.message.Message.{Message}
+use Rattle.dist_names.specs.{NodeName.IsNodeName, declared.creation.Creation.Creation, declared.flags.Flags.Flags}
+use Rattle.dist_messages.specs.declared.message.{Message.Message, Side.Side, Side.TheVariants.Acceptor, Side.TheVariants.Dialler, Status.Status}
 use Rattle.dist_messages.specs.declared.message.Message.TheVariants as message
+use Rattle.dist_messages.specs.declared.message.Status.TheVariants as status
 use Rattle.dist_messages.specs.declared.message_error.MessageError.TheVariants as errors
+use Rattle.dist_messages.proofs.Words.{◌≡◌, ℕ, true, false, cond, ltb, List, length, Ok, Err, refl, ap, arith, lit<, canonical, spelling_with_name, is_said_by}
 use Rattle.dist_core_setup.specs.Saying.{CanBeSaid}
 
 fits-name : (name : List ℕ) (m : Message) → IsNodeName name → spelling_with_name name m ≡ Ok (canonical m)

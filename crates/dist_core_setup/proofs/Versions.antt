@@ -1,13 +1,10 @@
 -- The lower half of announced flags, and the versions of nodes.
-use Rattle.std.proofs.Common.{◌≡◌, ℕ, ◌^◌, ◌<◌, false, ◌&&◌, eqb, sym, ap, ◌∙◌, arith}
+use Rattle.std.proofs.Common.{◌≡◌, ℕ, ◌^◌, ◌<◌, false, ◌&&◌, eqb, sym, ap, ◌∙◌, arith, bit_and, bit_or, mod-eq_of_lt}
 use Rattle.std.proofs.lemmas.Nat.{and_assoc, and_comm, and_le_l, and_le_r, and_mask, and_or_self}
-use Rattle.std.specs.Int.Bits.{bit_and, bit_or}
-use Rattle.std.proofs.Math.Nat.{mod-eq_of_lt}
 use Rattle.dist_names.specs.Flags.{low_half, common, has_all, handshake_23, announced}
-use Rattle.dist_core_setup.specs.declared.setup.Setup.{Setup}
-use Rattle.dist_core_setup.specs.declared.version.Version.{Version}
-use Rattle.dist_core_setup.specs.declared.version.Version.TheVariants as version
 use Rattle.dist_core_setup.specs.Rules.{is_six, knows_six, announced_in, announced_by, announced_five}
+use Rattle.dist_core_setup.specs.declared.{setup.Setup.Setup, version.Version.Version}
+use Rattle.dist_core_setup.specs.declared.version.Version.TheVariants as version
 
 -- the flag of the newer handshake stands in the lower half
 in_low : (flags : ℕ) → bit_and (low_half flags) handshake_23 ≡ bit_and flags handshake_23

@@ -1,19 +1,12 @@
 -- What is sent consists of whole frames.
-use Rattle.std.proofs.Common.{◌≡◌, ℕ, ◌^◌, ◌<◌, List, [], ◌∷◌, ◌++◌, map, refl, sym, ap, ◌∙◌, arith}
-use Rattle.std.proofs.lemmas.List.{append-nil}
+use Rattle.std.proofs.Common.{map, bit_or, flat_map, ◌≡◌, ℕ, ◌^◌, ◌<◌, List, [], ◌∷◌, ◌++◌, sym, refl, ap, ◌∙◌, append-nil, arith, w16}
 use Rattle.std.proofs.lemmas.Nat.{and_le_r}
-use Rattle.std.specs.Int.{w16}
-use Rattle.std.specs.Int.Bits.{bit_or}
-use Rattle.std.specs.List.{flat_map, AllByRecursion}
+use Rattle.std.specs.List.{AllByRecursion}
 use Rattle.dist_frames.specs.Stream.{body_frame, FitsWidth, Splits}
-use Rattle.dist_messages.specs.Canonical.{canonical}
-use Rattle.dist_messages.specs.declared.message.Side.{Side}
-use Rattle.dist_messages.specs.declared.message.Message.{Message}
-use Rattle.dist_core_setup.specs.declared.setup.Setup.{Setup}
-use Rattle.dist_core_setup.specs.declared.version.Version.{Version}
+use Rattle.dist_messages.specs.{Canonical.canonical, declared.message.Message.Message, declared.message.Side.Side}
+use Rattle.dist_core_setup.specs.{Rules.announced_in, Rules.announced_by, Saying.CanBeSaid, Saying.frame_of, Saying.frames_of_messages}
+use Rattle.dist_core_setup.specs.declared.{setup.Setup.Setup, version.Version.Version}
 use Rattle.dist_core_setup.specs.declared.version.Version.TheVariants as version
-use Rattle.dist_core_setup.specs.Rules.{announced_in, announced_by}
-use Rattle.dist_core_setup.specs.Saying.{CanBeSaid, frame_of, frames_of_messages}
 
 joined : (ms : List Message) → frames_of_messages ms ≡ flat_map (body_frame w16) (map canonical ms)
 unfolding frame_of

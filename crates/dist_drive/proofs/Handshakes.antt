@@ -1,12 +1,8 @@
 -- How a handshake ends well.
-use Rattle.std.proofs.Common.{◌≡◌, ℕ, true, List, ◌++◌, refl, sym, ap, subst, ◌∙◌}
-use Rattle.dist_drive.proofs.Words.{flat_map, w16, append-nil, body_frame, Reader, Short, Linked, as_linked, rest_of, DeskFacts, Gives, Start, frames_of}
-use Rattle.dist_drive.proofs.Words.{whole_course, IsOnlyGone, Does, Place, Goes}
-use Rattle.dist_core_ends.specs.declared.known.UpRecord.{UpRecord}
+use Rattle.dist_drive.proofs.Words.{◌≡◌, ℕ, true, List, ◌++◌, flat_map, sym, refl, ap, ◌∙◌, subst, append-nil, w16, Linked, Reader, Short, as_linked, rest_of}
+use Rattle.dist_drive.proofs.Words.{body_frame, UpRecord, DeskFacts, Does, IsOnlyGone, Start, frames_of, whole_course, Gives, Goes, Place}
 use Rattle.dist_drive.specs.Handshaking.{IsUpWith, ComesUp}
-use Rattle.dist_drive.proofs.Keeping.{FrameLaws, frames_are}
-use Rattle.dist_drive.proofs.Shown.{same_length}
-use Rattle.dist_drive.proofs.Carrying.{finish_at}
+use Rattle.dist_drive.proofs.{Carrying.finish_at, Keeping.FrameLaws, Keeping.frames_are, Shown.same_length}
 
 pub comes_up : FrameLaws → {D W : Type 0} (facts : DeskFacts D) (gives : Gives W) (start : Start D W) (place : Place D W) (r : Reader) (kept : UpRecord) (rest : List ℕ)
     → Goes facts gives start place r true

@@ -1,10 +1,9 @@
 -- What the reader of a call holds, and which frames of the call were handed on.
-use Rattle.std.proofs.Common.{◌≡◌, ℕ, suc, ◌+◌, Bool, true, false, cond, nat_lt, eqb, List, [], ◌∷◌, ◌++◌, length, take, Some, None, slice_get, refl, sym, ap, ◌∙◌, arith, length-append}
-use Rattle.std.specs.Prelude.{position}
-use Rattle.dist_drive.proofs.Words.{w16, position_or_len, eq-eqb, append-nil, take-append_seam, first_body, after_first, bodies, Reader, Short, Linked}
-use Rattle.dist_drive.proofs.Words.{with_bytes, next_body, without_next, as_linked, without_count, to_come, Accounts, IsBytes, Step, is_up, through, frames_of}
-use Rattle.dist_drive.proofs.Words.{next_frame, KeepsShort, KeepsLinked, Keeps, after_step}
-use Rattle.std.proofs.lemmas.List.Folds.{position_or_len_push}
+use Rattle.dist_drive.proofs.Words.{◌≡◌, ℕ, suc, ◌+◌, Bool, true, false, cond, eqb, List, [], ◌∷◌, ◌++◌, length, take, nat_lt, slice_get, Some, None, position}
+use Rattle.dist_drive.proofs.Words.{sym, refl, ap, ◌∙◌, append-nil, le_refl, arith, length-append, w16, eq-eqb, take-append_seam, position_or_len_push}
+use Rattle.dist_drive.proofs.Words.{slice_get_past, position_or_len, Accounts, IsBytes, Linked, Reader, Short, as_linked, next_body, to_come, with_bytes}
+use Rattle.dist_drive.proofs.Words.{without_count, without_next, after_first, bodies, first_body, Step, frames_of, is_up, next_frame, through, Keeps}
+use Rattle.dist_drive.proofs.Words.{KeepsLinked, KeepsShort, after_step}
 
 -- what is known of bytes that are fed and bodies that are moved out
 pub record FrameLaws : Type 0 where
@@ -59,15 +58,11 @@ next_is laws input frames steps (Short pending) body len e k =
     ∙ get_seam frames body (bodies rest)
 next_is laws input frames steps (Linked ended rest) body len e k = absurd cc
 
-get_end : (xs : List (List ℕ)) → slice_get xs (length xs) ≡ None
-get_end [] = refl
-get_end (x ∷ xs) = get_end xs
-
 -- where no frame waits in the reader, the call has no next one
 pub next_none : FrameLaws → (input : List ℕ) (frames : List (List ℕ)) (steps : List Step) (r : Reader) → length frames ≡ length steps → to_come r ≡ [] → Keeps input frames steps r → next_frame input steps ≡ None
 next_none laws input frames steps r len none k =
     let are : frames_of input steps ≡ frames = frames_are laws input frames steps r len k ∙ ap (λ l. frames ++ l) none ∙ append-nil frames in
-    ap (λ (l : List (List ℕ)). slice_get l (length steps)) are ∙ ap (λ (n : ℕ). slice_get frames n) (sym len) ∙ get_end frames
+    ap (λ (l : List (List ℕ)). slice_get l (length steps)) are ∙ ap (λ (n : ℕ). slice_get frames n) (sym len) ∙ slice_get_past frames (length frames) (le_refl (length frames))
 
 -- ---- one frame more
 

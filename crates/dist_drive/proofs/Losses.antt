@@ -1,16 +1,9 @@
 -- A loss at one end of a node.
-use Rattle.std.proofs.Common.{◌≡◌, ℕ, true, false, List, Option, Some, None, Result, Ok, Err, slice_get, refl, sym, ap, ◌∙◌}
-use Rattle.dist_drive.proofs.Words.{EndId, Why, Reply, StepError, is_loss}
-use Rattle.dist_core_ends.specs.declared.known.End.{End}
+use Rattle.dist_drive.proofs.Words.{◌≡◌, ℕ, true, false, List, slice_get, Some, None, Ok, Err, Option, Result, sym, refl, ap, ◌∙◌, EndId, is_open, End, Why}
+use Rattle.dist_drive.proofs.Words.{end_of, is_loss, NodeState, step, Event, Reply, StepError, HasRoom}
 use Rattle.dist_core_ends.specs.declared.known.End.TheVariants as ends
-use Rattle.dist_core.specs.declared.event.Event.{Event}
 use Rattle.dist_core.specs.declared.event.Event.TheVariants as event
 use Rattle.dist_core.specs.declared.step_error.StepError.TheVariants as error
-use Rattle.dist_core_ends.specs.Ends.{is_open}
-use Rattle.dist_core.specs.Clauses.{end_of}
-use Rattle.dist_core.specs.Node.{NodeState}
-use Rattle.dist_core.specs.Step.{step}
-use Rattle.dist_drive.specs.Memory.{HasRoom}
 
 -- an end that is neither unknown nor closed is open
 pub record IsOpenAt (es : List End) (id : EndId) : Type 0 where

@@ -1,17 +1,17 @@
 -- What a call shows on its way and where it ends: what was handed on, sent and counted.
-use Rattle.std.proofs.Common.{◌≡◌, ℕ, ◌+◌, ◌-◌, ◌*◌, ◌<◌, ◌≤◌, ◌⊎◌, Bool, true, false, List, [], ◌∷◌, ◌++◌, length, take, drop, map, Option, Some, None, Result, Ok, Err, refl, sym, ap, subst, ◌∙◌, arith, append_assoc, length-append, inl, inr, ⊎_elim}
-use Rattle.std.specs.Prelude.{eqb, if◌then◌else◌, ◌||◌, IsErrAnd, IfErr, OnOk, OnErr}
-use Rattle.dist_drive.proofs.Words.{eqb-true, append-nil, map-append, length-map, take-append-drop, take-length, Short, Accounts, EndId, Why, Reply, StepError}
-use Rattle.dist_drive.proofs.Words.{StreamState, Rises, Spends, Says, Hears, SaysFront, IsWriteFault, TurnError, Ending, Step, event_of, number_of, last_reply}
-use Rattle.dist_drive.proofs.Words.{DeskFacts, IsGone, Gives, DrawsAll, Start, Course, Finish, frames_of, events_of, HandsOnAll, WritesAll, HasCause}
-use Rattle.dist_drive.proofs.Words.{ReportsLoss, Marks, SetsNoMark, is_of_end, is_of_failed_read, LeavesUnread, text_of, whole_course, Does, Carries, Place}
-use Rattle.dist_drive.proofs.Words.{Runs, TakesFrame, SaysReply, after_reply, own_why, ending_of_stream, HandsOn}
-use Rattle.std.specs.Io.KnownBytes.{prepend_known, append_known}
+use Rattle.dist_drive.proofs.Words.{◌≡◌, ℕ, ◌+◌, ◌-◌, ◌*◌, ◌<◌, ◌≤◌, Bool, true, false, ◌||◌, eqb, ◌⊎◌, List, [], ◌∷◌, ◌++◌, map, length, take, drop, IsErrAnd}
+use Rattle.dist_drive.proofs.Words.{IfErr, if◌then◌else◌, OnOk, OnErr, Some, None, Ok, Err, Option, Result, sym, refl, ap, ◌∙◌, subst, inl, inr, ⊎_elim}
+use Rattle.dist_drive.proofs.Words.{append_assoc, append-nil, arith, length-append, take-append-drop, eqb-true, prepend_known-nil, take-length, length-map}
+use Rattle.dist_drive.proofs.Words.{map-append, Accounts, Short, EndId, Why, IsGone, Reply, StepError, StreamState, Hears, IsWriteFault, Rises, Says, SaysFront}
+use Rattle.dist_drive.proofs.Words.{Spends, TurnError, DeskFacts, Step, event_of, last_reply, number_of, Carries, Course, Does, Finish, HandsOnAll, HasCause}
+use Rattle.dist_drive.proofs.Words.{LeavesUnread, Marks, ReportsLoss, SetsNoMark, Start, WritesAll, events_of, frames_of, is_of_end, is_of_failed_read, text_of}
+use Rattle.dist_drive.proofs.Words.{whole_course, DrawsAll, Gives, HandsOn, Place, Runs, SaysReply, TakesFrame, after_reply, ending_of_stream, own_why, Ending}
+use Rattle.std.specs.Io.KnownBytes.{append_known, prepend_known}
 use Rattle.dist_core_ends.specs.declared.why.Why.TheVariants as why
 use Rattle.dist_core.specs.declared.event.Event.TheVariants as event
 use Rattle.dist_stream.specs.declared.turn_error.TurnError.TheVariants as fault
+use Rattle.dist_stream.proofs.Talks.{append_known-append, prepend_known-append, Rises-trans}
 use Rattle.dist_drive.specs.declared.outcome.Ending.TheVariants as ending
-use Rattle.dist_stream.proofs.Talks.{append_known-append, prepend_known-append, prepend_known-none, Rises-trans}
 use Rattle.dist_drive.proofs.Keeping.{keeps_none}
 
 pub says_as : {end_ : EndId} {old new : StreamState} {turns left : ℕ} {result : Result Bool Ending} (r q : Reply) → r ≡ q → SaysReply end_ r old new turns left result → SaysReply end_ q old new turns left result
@@ -190,7 +190,7 @@ module _ {D W : Type 0} (facts : DeskFacts D) (gives : Gives W) (start : Start D
   pub does_first : (stream : StreamState) (left : ℕ) {noted : Option TurnError} (part : List ℕ) → Says start.stream stream start.limit left noted part
       → Does facts gives start (record { input = []; steps = []; output = part; left = left; draws = start.draws }) stream start.desk
   does_first stream left part says = record {
-    input_is = sym (prepend_known-none start.stream.unread) ∙ ap (prepend_known []) (sym says.unread);
+    input_is = sym (prepend_known-nil start.stream.unread) ∙ ap (prepend_known []) (sym says.unread);
     output_is = says.written;
     list_is = sym (append-nil (facts.list start.desk));
     numbers = refl;

@@ -1,7 +1,6 @@
 -- Texts and lists of steps that grow by one step, and what a stream shows then.
-use Rattle.std.proofs.Common.{◌≡◌, ℕ, ◌+◌, ◌<◌, ◌≤◌, List, [], ◌∷◌, ◌++◌, length, take, drop, refl, sym, ap, subst, ◌∙◌, arith, append_assoc, length-append}
-use Rattle.dist_drive.proofs.Words.{append-nil, take-append-le, take-append-drop, flat_map, Step, IsFront, text_of}
-use Rattle.std.proofs.lemmas.List.Concat.{flat_map-append}
+use Rattle.dist_drive.proofs.Words.{◌≡◌, ℕ, ◌+◌, ◌<◌, ◌≤◌, List, [], ◌∷◌, ◌++◌, length, take, drop, flat_map, sym, refl, ap, ◌∙◌, subst, append_assoc}
+use Rattle.dist_drive.proofs.Words.{append-nil, arith, length-append, take-append-drop, take-append-le, flat_map-append, Step, IsFront, text_of}
 
 -- ---- texts
 

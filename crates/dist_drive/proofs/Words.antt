@@ -1,25 +1,20 @@
 -- The words of the crates below and of the definitions here that several proofs cite, passed on from one place.
-pub use Rattle.std.proofs.Math.Seq.{take-append_seam, take-length}
-pub use Rattle.std.proofs.lemmas.Bool.{eq-eqb, eqb-true}
-pub use Rattle.std.proofs.lemmas.List.{append-nil, map-append, take-append-drop, length-map, take-append-le}
-pub use Rattle.std.specs.Int.{w16}
-pub use Rattle.std.specs.List.{flat_map, position_or_len}
-pub use Rattle.dist_core.specs.Losses.{is_loss, IsGone}
-pub use Rattle.dist_core.specs.declared.reply.Reply.{Reply}
-pub use Rattle.dist_core.specs.declared.step_error.StepError.{StepError}
-pub use Rattle.dist_core_ends.specs.declared.why.Why.{Why}
-pub use Rattle.dist_frames.specs.History.{IsBytes, Accounts}
-pub use Rattle.dist_frames.specs.Reader.{Reader, Short, Linked, with_bytes, next_body, without_next, without_count, to_come, as_linked, rest_of}
-pub use Rattle.dist_frames.specs.Stream.{body_frame, first_body, after_first, bodies}
-pub use Rattle.dist_peers.specs.declared.entry.EndId.{EndId}
-pub use Rattle.dist_stream.specs.Stream.{StreamState}
-pub use Rattle.dist_stream.specs.Turns.{Hears, Rises, Spends, Says, SaysFront, IsWriteFault}
+pub use Rattle.std.proofs.Common.{◌*◌, map, IsErrAnd, if◌then◌else◌, OnOk, OnErr, vec_len, vec_capacity, position, le_refl}
+pub use Rattle.std.proofs.{KnownBytes.prepend_known-nil, Math.Seq.take-append_seam, Math.Seq.take-length, lemmas.List.take-append-le}
+pub use Rattle.std.proofs.lemmas.{List.Concat.flat_map-append, List.Folds.position_or_len_push, Result.IfErr-weaker, Result.IfOk-weaker}
+pub use Rattle.dist_frames.specs.{History.Accounts, History.IsBytes, Stream.after_first, Stream.bodies, Stream.body_frame, Stream.first_body}
+pub use Rattle.dist_frames.specs.Reader.{Linked, Reader, Short, as_linked, next_body, rest_of, to_come, with_bytes, without_count, without_next}
+pub use Rattle.dist_core.specs.declared.{event.Event.Event, reply.Reply.Reply, step_error.StepError.StepError}
+pub use Rattle.dist_core.proofs.Words.{IfErr, nat_lt, take-append-drop, length-map, map-append, End, UpRecord, Why, ◌≡◌, ℕ, suc, ◌+◌, ◌<◌, ◌≤◌, Bool, true}
+pub use Rattle.dist_core.proofs.Words.{false, cond, ◌||◌, eqb, ◌⊎◌, List, [], ◌∷◌, ◌++◌, length, drop, slice_get, Some, None, Ok, Err, Option, Result}
+pub use Rattle.dist_core.proofs.Words.{option_map, sym, refl, ap, ◌∙◌, subst, inl, inr, arith, length-append, rules, eq-eqb, eqb-true, slice_get_past, EndId}
+pub use Rattle.dist_core.proofs.Words.{is_open, end_of, IsGone, is_loss, NodeState, step}
+pub use Rattle.dist_stream.specs.{Stream.StreamState, Turns.Hears, Turns.IsWriteFault, Turns.Rises, Turns.Says, Turns.SaysFront, Turns.Spends}
 pub use Rattle.dist_stream.specs.declared.turn_error.TurnError.{TurnError}
-pub use Rattle.dist_drive.specs.Desks.{Step, event_of, last_reply, DeskFacts, IsOther, number_of, reply_of}
-pub use Rattle.dist_drive.specs.Driven.{Start, Course, Finish, IsFront, frames_of, next_frame, events_of, text_of, HandsOnAll, WritesAll, HasCause, is_of_end}
-pub use Rattle.dist_drive.specs.Driven.{is_of_failed_read, whole_course, Does, Carries, IsOnlyGone, is_up, through, ReportsLoss, Marks, SetsNoMark}
-pub use Rattle.dist_drive.specs.Driven.{LeavesUnread}
-pub use Rattle.dist_drive.specs.Numbers.{Gives, DrawsOneAtMost, DrawsAll}
-pub use Rattle.dist_drive.specs.Running.{Place, Goes, after_step, Runs, Keeps, TakesFrame, own_why, ending_of_refusal, ending_of_stream, HandsOn, HearsPiece}
-pub use Rattle.dist_drive.specs.Running.{KeepsShort, KeepsLinked, SaysReply, after_reply, EndsSo, RunsOn, GoesOn}
-pub use Rattle.dist_drive.specs.declared.outcome.Ending.{Ending}
+pub use Rattle.dist_epmd.proofs.Words.{◌-◌, take, is_some, flat_map, ⊎_elim, append_assoc, append-nil, w16, position_or_len}
+pub use Rattle.dist_drive.specs.{Desks.DeskFacts, Desks.IsOther, Desks.Step, Desks.event_of, Desks.last_reply, Desks.number_of, Desks.reply_of, Memory.HasRoom}
+pub use Rattle.dist_drive.specs.Driven.{Carries, Course, Does, Finish, HandsOnAll, HasCause, IsFront, IsOnlyGone, LeavesUnread, Marks, ReportsLoss, SetsNoMark}
+pub use Rattle.dist_drive.specs.Driven.{Start, WritesAll, events_of, frames_of, is_of_end, is_of_failed_read, is_up, next_frame, text_of, through, whole_course}
+pub use Rattle.dist_drive.specs.{Numbers.DrawsAll, Numbers.DrawsOneAtMost, Numbers.Gives, declared.outcome.Ending.Ending}
+pub use Rattle.dist_drive.specs.Running.{EndsSo, Goes, GoesOn, HandsOn, HearsPiece, Keeps, KeepsLinked, KeepsShort, Place, Runs, RunsOn, SaysReply, TakesFrame}
+pub use Rattle.dist_drive.specs.Running.{after_reply, after_step, ending_of_refusal, ending_of_stream, own_why}

@@ -1,15 +1,10 @@
 -- A field that is read is the field that was written, what was written is read again, and a field that ends too early is completed
 -- by more bytes.
-use Rattle.std.proofs.Common.{◌≡◌, ℕ, ◌-◌, ◌^◌, ◌<◌, Bool, true, false, cond, ltb, List, [], ◌∷◌, ◌++◌, length, take, drop, Some, None, refl, sym, ap, ap₂, subst, ◌∙◌, append_assoc, arith}
-use Rattle.std.specs.Int.{Width, w16, w32, byte_len, from_be_bytes, to_be_bytes}
-use Rattle.std.proofs.lemmas.Bool.{ltb-true}
-use Rattle.std.proofs.lemmas.List.{length-append, length-replicate}
-use Rattle.dist_names.specs.Bytes.{IsBytes}
-use Rattle.dist_names.specs.Fields.{Taken, number_at, bytes_at}
-use Rattle.dist_names.proofs.Bytes.{zeros, IsBytes-rest, IsBytes-zeros, IsBytes-append}
+use Rattle.dist_epmd.proofs.Words.{◌≡◌, ℕ, ◌-◌, ◌^◌, ◌<◌, Bool, true, false, cond, ltb, List, [], ◌∷◌, ◌++◌, length, take, drop, Some, None, sym, refl, ap, ◌∙◌}
+use Rattle.dist_epmd.proofs.Words.{subst, ap₂, append_assoc, arith, length-append, w16, w32, ltb-true, length-replicate, Width, byte_len, from_be_bytes}
+use Rattle.dist_epmd.proofs.Words.{to_be_bytes, IsBytes, Taken, bytes_at, number_at, IsBytes-append, IsBytes-rest, IsBytes-zeros, zeros, info_text, text_field}
+use Rattle.dist_epmd.proofs.Words.{NodeInfo}
 use Rattle.dist_names.proofs.Fields.{Takes, Takes-then, IsWide, wide16, wide32, number_takes, number_again, bytes_take, bytes_again}
-use Rattle.dist_epmd.specs.declared.message.NodeInfo.{NodeInfo}
-use Rattle.dist_epmd.specs.Layout.{text_field, info_text}
 use Rattle.dist_epmd.specs.Reading.{byte_at, text_behind, text_at, with_second, pair_behind, both_at, value_as, Parts, info_of_parts, info_at}
 
 -- ---- fields of any kind

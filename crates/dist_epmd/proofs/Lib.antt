@@ -1,3 +1,4 @@
+pub mod Words
 pub mod FieldLaws
 pub mod Histories
 pub mod Legal

@@ -1,15 +1,7 @@
 -- Where each row stands at its name, rows are found, put and dropped as in a list in order of names.
-use Rattle.std.proofs.Common.{◌≡◌, ℕ, Bool, true, false, ◌||◌, cond, List, [], ◌∷◌, Option, Some, refl, sym, ap, ap₂, ◌∙◌}
-use Rattle.std.specs.Prelude.{filter, find, is_some, Vec}
-use Rattle.std.specs.List.{list_any}
-use Rattle.std.specs.Map.{lookup, values_of}
-use Rattle.std.specs.BTreeMap.{insert_entry}
-use Rattle.std.specs.Ordering.{is_eq, match_ordering}
+use Rattle.dist_epmd.proofs.Words.{◌≡◌, ℕ, Bool, true, false, cond, ◌||◌, List, [], ◌∷◌, is_some, Some, filter, Option, Vec, find, is_eq, sym, refl, ap, ◌∙◌}
+use Rattle.dist_epmd.proofs.Words.{ap₂, or_parts, insert_entry, list_any, lookup, values_of, match_ordering, IsAtItsName, StandAtNames, is_named, with_row, Row}
 use Rattle.std.specs.declared.cmp.Ordering.TheVariants.{Less, Equal, Greater}
-use Rattle.std.proofs.lemmas.Bool.{or_parts}
-use Rattle.dist_epmd.specs.declared.row.Row.{Row}
-use Rattle.dist_epmd.specs.Registrations.{with_row, is_named}
-use Rattle.dist_epmd.specs.Named.{IsAtItsName, StandAtNames}
 use Rattle.dist_epmd.proofs.Legal.{compared, named_is, row_first, row_later}
 
 pub at_name : {Z : Type 0} (name : List ℕ) (e : Vec ℕ Z × Row) → IsAtItsName e → is_eq (compared name e.0.items) ≡ is_named name e.1

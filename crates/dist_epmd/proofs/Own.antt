@@ -1,17 +1,9 @@
 -- A name and a connection have one row at most, and it is all that is dropped where the connection is closed.
-use Rattle.std.proofs.Common.{◌≡◌, ℕ, Bool, true, false, not, ◌&&◌, ◌||◌, cond, List, [], ◌∷◌, Some, refl, sym, ap, ◌∙◌, inl, inr, ⊎_elim}
-use Rattle.std.specs.Prelude.{◌⊎◌, filter, find, option_map, Vec}
-use Rattle.std.specs.Option.{option_map_or}
-use Rattle.std.specs.List.{list_any, AllByRecursion}
-use Rattle.std.specs.Map.{values_of, remove_entry}
-use Rattle.std.specs.Ordering.{is_eq}
-use Rattle.std.proofs.lemmas.Bool.{and_left, and_right, both_ways, cases_Bool, cond_both, eqb-true, ne_eqb, or_cases, or_from, or_left, or_parts}
-use Rattle.std.proofs.lemmas.Slice.Eq.{bytes_eq-Decides}
-use Rattle.dist_epmd.specs.declared.row.Row.{Row}
-use Rattle.dist_epmd.specs.Registrations.{Registrations, InOrder, Precedes, is_named, is_of, is_own, registered_name, after_closed, after_closed_as}
-use Rattle.dist_epmd.specs.Named.{StandAtNames}
-use Rattle.dist_epmd.proofs.Legal.{compared, named_is}
-use Rattle.dist_epmd.proofs.Named.{at_name}
+use Rattle.dist_epmd.proofs.Words.{◌≡◌, ℕ, Bool, true, false, cond, not, ◌&&◌, ◌||◌, ◌⊎◌, List, [], ◌∷◌, Some, filter, Vec, option_map, find, is_eq, sym, refl}
+use Rattle.dist_epmd.proofs.Words.{ap, ◌∙◌, inl, inr, ⊎_elim, ne_eqb, eqb-true, and_left, and_right, both_ways, cases_Bool, cond_both, or_cases, or_from}
+use Rattle.dist_epmd.proofs.Words.{or_left, or_parts, bytes_eq-Decides, AllByRecursion, list_any, remove_entry, values_of, option_map_or, StandAtNames, InOrder}
+use Rattle.dist_epmd.proofs.Words.{Precedes, Registrations, after_closed, after_closed_as, is_named, is_of, is_own, registered_name, Row}
+use Rattle.dist_epmd.proofs.{Legal.compared, Legal.named_is, Named.at_name}
 
 -- ---- tests of rows
 

@@ -16,6 +16,7 @@ mod rows;
 
 pub use encoding::{encode_answer, encode_request};
 pub use epmd_error::EpmdError;
+pub use fields::{InfoView, info_at};
 pub use laws::{
     any_calls, one_answer, one_request, read_answer_is_spelled, read_request_is_spelled,
     written_answer_is_read, written_request_is_read,

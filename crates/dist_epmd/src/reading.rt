@@ -10,7 +10,7 @@ ghost use Rattle.dist_epmd.specs.Refusing.{RefusesRequest, RefusesAnswer};
 ghost use Rattle.dist_epmd.specs.Reading.{whole_info, alive_x, alive, node_answer, read_request, read_answer};
 
 use crate::epmd_error::EpmdError;
-use crate::fields::{fields_at, u16_at, u32_at};
+use crate::fields::{info_at, u16_at, u32_at};
 use crate::message::{Answer, Asked, NodeInfo, Request};
 use dist_names::ByteString;
 use std::alloc::Global;
@@ -19,7 +19,7 @@ use std::alloc::Global;
 fn whole_info(alloc: Global, bytes: &[u8]) -> Result<NodeInfo, EpmdError>
     ensures { Answers (λ i. i) result (whole_info bytes.now) }
 {
-    let (fields, rest) = fields_at(bytes).ok_or(EpmdError::Short)?;
+    let (fields, rest) = info_at(bytes).ok_or(EpmdError::Short)?;
     if !rest.is_empty() {
         return Err(EpmdError::Trailing);
     }

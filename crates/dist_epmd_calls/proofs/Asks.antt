@@ -1,12 +1,11 @@
 -- One question, put together from what was written and what was read.
-use Rattle.std.proofs.Common.{◌≡◌, ℕ, ◌≤◌, false, ltb, List, [], ◌++◌, length, take, drop, Option, Some, None, Result, Ok, Err, refl, sym, ap, subst, ◌∙◌, inl, inr, take_all, le_refl}
-use Rattle.dist_epmd_calls.proofs.Words.{append-nil, take-append-drop, w16, body_frame, EpmdError, Request, request_text, written_request, read_answer}
-use Rattle.dist_epmd_calls.proofs.Words.{TurnError, StreamState, Says, Hears, SaysFront, IsWriteFault, prepend_known-none, append_known-none, Spends-none}
-use Rattle.dist_epmd_calls.proofs.Words.{Spends-trans, LookupError, lookup_error, Talks, ReportsBy, Settles, Asks, AsksFor, IfItFits, question_of, IsFrameOf}
-use Rattle.dist_epmd_calls.proofs.Words.{HearsSo, cond-false}
-use Rattle.std.specs.Prelude.{IsOk, IsErrAnd}
-use Rattle.dist_epmd.specs.declared.epmd_error.EpmdError.TheVariants as epmd
+use Rattle.dist_epmd_calls.proofs.Words.{◌≡◌, ℕ, ◌≤◌, false, ltb, List, [], ◌++◌, length, take, drop, IsErrAnd, IsOk, Some, None, Ok, Err, Option, Result, sym}
+use Rattle.dist_epmd_calls.proofs.Words.{refl, ap, ◌∙◌, subst, inl, inr, append-nil, le_refl, take-append-drop, take_all, w16, prepend_known-nil, cond-false}
+use Rattle.dist_epmd_calls.proofs.Words.{body_frame, StreamState, Hears, IsWriteFault, Says, SaysFront, TurnError, Spends-none, Spends-trans, append_known-none}
+use Rattle.dist_epmd_calls.proofs.Words.{request_text, written_request, read_answer, EpmdError, Request, Asks, AsksFor, IfItFits, ReportsBy, Settles, Talks}
+use Rattle.dist_epmd_calls.proofs.Words.{question_of, lookup_error, HearsSo, IsFrameOf, LookupError}
 use Rattle.dist_stream.specs.declared.turn_error.TurnError.TheVariants as fault
+use Rattle.dist_epmd.specs.declared.epmd_error.EpmdError.TheVariants as epmd
 use Rattle.dist_epmd_calls.specs.declared.lookup_error.LookupError.TheVariants as error
 
 -- what an exit by `?` returns
@@ -30,7 +29,7 @@ nothing_said s turns frame = record {
   front = refl;
   first = inr refl;
   written = sym (append_known-none s.written);
-  unread = sym (prepend_known-none s.unread);
+  unread = sym (prepend_known-nil s.unread);
   left = turns;
   spends = Spends-none s turns;
 }
@@ -41,7 +40,7 @@ said_in_part {new = new} {left = left} {frame = frame} n p = record {
   front = sym (take-append-drop n frame);
   first = inr refl;
   written = p.written;
-  unread = sym p.unread ∙ sym (prepend_known-none new.unread);
+  unread = sym p.unread ∙ sym (prepend_known-nil new.unread);
   left = left;
   spends = p.spends;
 }

@@ -1,6 +1,6 @@
 -- What a registration makes of an answer that was read, or of its refusal.
-use Rattle.std.proofs.Common.{ℕ, Bool, true, false, cond, eqb, Result, Ok, Err, refl, sym, ap, subst}
-use Rattle.dist_epmd_calls.proofs.Words.{Creation, EpmdError, Answer, Answers, LacksText, LookupError, Settles, creation_in}
+use Rattle.dist_epmd_calls.proofs.Words.{ℕ, Bool, true, false, cond, eqb, Ok, Err, Result, sym, refl, ap, subst, Creation, Answers, LacksText, EpmdError}
+use Rattle.dist_epmd_calls.proofs.Words.{Answer, Settles, creation_in, LookupError}
 use Rattle.dist_epmd.specs.declared.epmd_error.EpmdError.TheVariants as epmd
 use Rattle.dist_epmd.specs.declared.message.Answer.TheVariants as answer
 use Rattle.dist_epmd_calls.specs.declared.lookup_error.LookupError.TheVariants as error

@@ -1,17 +1,12 @@
 -- What still holds of the registrations that were lent.
-use Rattle.std.proofs.Common.{◌≡◌, ℕ, true, false, not, List, filter, Result, Ok, Err, sym, ap, subst, ◌∙◌, arith, inl, inr, ⊎_elim}
-use Rattle.std.specs.List.{position_or_len}
-use Rattle.dist_epmd_calls.proofs.Words.{cond_both, eq-eqb, Request, Answer, StreamState, LookupError, Served}
-use Rattle.dist_epmd.specs.declared.message.NodeInfo.{NodeInfo}
+use Rattle.dist_epmd_calls.proofs.Words.{◌≡◌, ℕ, true, false, not, List, Ok, Err, filter, Result, sym, ap, ◌∙◌, subst, inl, inr, ⊎_elim, arith, eq-eqb}
+use Rattle.dist_epmd_calls.proofs.Words.{cond_both, position_or_len, StreamState, IsIn, Answer, NodeInfo, Request, Row, in_filter, in_insert, closed_legal}
+use Rattle.dist_epmd_calls.proofs.Words.{request_legal, AfterCut, Serves, served_as, LookupError, Served}
+use Rattle.dist_epmd.specs.Registrations.{Registrations, IsLegal, is_accepted, is_of, is_behind, with_registration, with_row, after_request, after_closed}
+use Rattle.dist_epmd.specs.Registrations.{answer_to}
 use Rattle.dist_epmd.specs.declared.message.Request.TheVariants as request
-use Rattle.dist_epmd.specs.declared.row.Row.{Row}
-use Rattle.dist_epmd.specs.Registrations.{Registrations, IsLegal, is_accepted, is_of, is_behind, with_registration, with_row, after_request, after_closed, answer_to}
-use Rattle.dist_epmd.specs.History.{IsIn}
-use Rattle.dist_epmd.proofs.Histories.{in_insert, in_filter}
-use Rattle.dist_epmd.proofs.Legal.{request_legal, closed_legal}
-use Rattle.dist_epmd_calls.specs.declared.serve.Served.TheVariants as served
 use Rattle.dist_epmd_calls.specs.Mapping.{Allows, Leaves}
-use Rattle.dist_epmd_calls.specs.Serving.{AfterCut, Serves, served_as}
+use Rattle.dist_epmd_calls.specs.declared.serve.Served.TheVariants as served
 
 -- ---- how a request ends
 

@@ -1,13 +1,14 @@
 -- A registration, put together from what was written and what was read.
-use Rattle.std.proofs.Common.{◌≡◌, ℕ, suc, ◌+◌, ◌-◌, ◌<◌, ◌≤◌, List, [], ◌∷◌, ◌++◌, length, get_or, take, drop, Some, None, Result, Ok, Err, refl, sym, ap, subst, ◌∙◌, arith, length-append, length-drop, inl, inr}
-use Rattle.dist_epmd_calls.proofs.Words.{take_at, length-take, length-take-le, Creation, EpmdError, read_answer, TurnError, StreamState, Hears, SaysFront}
-use Rattle.dist_epmd_calls.proofs.Words.{HearsFront, IsWriteFault, IsReadFault, Hears-trans, LookupError, lookup_error, IfItFits, Settles, Registers}
-use Rattle.dist_epmd_calls.proofs.Words.{ReportsWhole, answer_len, rest_len, creation_meant, IsFrameOf, HearsAnswer}
-use Rattle.dist_epmd.specs.declared.message.Asked.TheVariants as asked
+use Rattle.dist_epmd_calls.proofs.Words.{◌≡◌, ℕ, suc, ◌+◌, ◌-◌, ◌<◌, ◌≤◌, List, [], ◌∷◌, ◌++◌, length, get_or, take, drop, Some, None, Ok, Err, Result, sym}
+use Rattle.dist_epmd_calls.proofs.Words.{refl, ap, ◌∙◌, subst, inl, inr, arith, length-append, length-drop, length-take, length-take-le, take_at, Creation}
+use Rattle.dist_epmd_calls.proofs.Words.{StreamState, Hears, HearsFront, IsReadFault, IsWriteFault, SaysFront, TurnError, Hears-trans, read_answer, EpmdError}
+use Rattle.dist_epmd_calls.proofs.Words.{IfItFits, Registers, ReportsWhole, Settles, answer_len, creation_meant, rest_len, lookup_error, HearsAnswer, IsFrameOf}
+use Rattle.dist_epmd_calls.proofs.Words.{LookupError}
+use borrow.Rule.Slice.PartMut.{put_mid, post_of}
 use Rattle.dist_stream.specs.declared.turn_error.TurnError.TheVariants as fault
+use Rattle.dist_epmd.specs.declared.message.Asked.TheVariants as asked
 use Rattle.dist_epmd_calls.specs.declared.lookup_error.LookupError.TheVariants as error
 use Rattle.dist_epmd_calls.proofs.Asks.{framed, no_frame, all_said, whole_front, nothing_said, said_in_part, said_and_heard}
-use borrow.Rule.Slice.PartMut.{put_mid, post_of}
 
 -- ---- the answer comes
 

@@ -1,12 +1,10 @@
 -- One request served, put together from what was read and what was written.
-use Rattle.std.proofs.Common.{◌≡◌, ℕ, ◌<◌, List, [], length, take, drop, Option, Some, None, Result, Ok, Err, refl, sym, ap, subst, ◌∙◌, arith, inl, inr, length-drop}
-use Rattle.dist_epmd_calls.proofs.Words.{take-append-drop, EpmdError, Request, Answer, written_answer, is_want, TurnError, StreamState, Spends, SaysFront}
-use Rattle.dist_epmd_calls.proofs.Words.{append_known-none, Spends-trans, Says-none, LookupError, Served, lookup_error, whole_refusal, HearsSo, SaysSo}
-use Rattle.std.specs.Prelude.{◌≢◌, IsErr}
+use Rattle.dist_epmd_calls.proofs.Words.{◌≡◌, ℕ, ◌<◌, ◌≢◌, List, [], length, take, drop, IsErr, Some, None, Ok, Err, Option, Result, sym, refl, ap, ◌∙◌, subst}
+use Rattle.dist_epmd_calls.proofs.Words.{inl, inr, arith, length-drop, take-append-drop, RefusedBut, StreamState, SaysFront, Spends, TurnError, Says-none}
+use Rattle.dist_epmd_calls.proofs.Words.{Spends-trans, append_known-none, is_want, written_answer, EpmdError, Answer, Request, lookup_error, whole_refusal}
+use Rattle.dist_epmd_calls.proofs.Words.{BringsRequest, Came, IsSaid, Replies, Serves, HearsSo, SaysSo, LookupError, Served}
 use Rattle.std.specs.Io.KnownBytes.{prepend_known, append_known}
 use Rattle.dist_epmd.specs.declared.epmd_error.EpmdError.TheVariants as epmd
-use Rattle.dist_names.specs.Answer.{RefusedBut}
-use Rattle.dist_epmd_calls.specs.Serving.{BringsRequest, Came, IsSaid, Replies, Serves}
 use Rattle.dist_epmd_calls.proofs.Asks.{no_refusal}
 
 is_refused : {X : Type 0} (r : Result X EpmdError) (why : EpmdError) → r ≡ Err why → IsErr r

@@ -28,11 +28,15 @@ answered_event conn (request.Alive info) registrations = event.Refused conn info
 answered_event conn (request.PortPlease name) registrations = event.LookedUp
 answered_event conn request.Names registrations = event.Listed
 
--- a request was served so: a node is registered by a registration alone
+-- a node is registered, by a registration alone
+abbrev pub registered_event : ℕ → Request → Option ClientEvent
+registered_event conn (request.Alive info) = Some (event.Registered conn info.name info.port)
+registered_event conn (request.PortPlease name) = None
+registered_event conn request.Names = None
+
+-- a request was served so
 abbrev pub served_event : Served → ℕ → Request → Registrations → Option ClientEvent
-served_event Registered conn (request.Alive info) registrations = Some (event.Registered conn info.name info.port)
-served_event Registered conn (request.PortPlease name) registrations = None
-served_event Registered conn request.Names registrations = None
+served_event Registered conn r registrations = registered_event conn r
 served_event Answered conn r registrations = Some (answered_event conn r registrations)
 
 -- a request came on a connection

@@ -1,6 +1,6 @@
 //! All clients of a port mapper, and its registry.
 
-ghost use Rattle.std.specs.Prelude.{◌≡◌, ◌↔◌, ◌+◌, ◌^◌, ℕ, false, IfOk, IsErrOf, OnOk, OnErr};
+ghost use Rattle.std.specs.Prelude.{◌≡◌, ◌↔◌, ◌+◌, ◌^◌, ◌++◌, ℕ, false, IfOk, IsErrOf, OnOk, OnErr};
 ghost use Rattle.std.specs.Prelude.{[], IfSome, None, Some, IsSome, option_map, option_copied, length, slice_get};
 ghost use Rattle.std.specs.List.{list_any, filter_map};
 ghost use Rattle.std.specs.Ordering.{nat_cmp};
@@ -8,9 +8,10 @@ ghost use Rattle.std.specs.BTreeMap.{get, Updates};
 ghost use Rattle.dist_epmd.specs.Registrations.{opening, after_closed, is_of};
 ghost use Rattle.dist_epmd_clients.specs.Journal.{no_counts, HasEvents, Journals};
 ghost use Rattle.dist_epmd_clients.specs.declared.event.ClientEvent.TheVariants.{NoMemory};
-ghost use Rattle.dist_epmd_clients.specs.Reporting.{asked_event, ended_event, piece_event, counts_of, events_of, journal_of, most_of};
+ghost use Rattle.dist_epmd_clients.specs.Reporting.{asked_event, ended_event, piece_event, question_event, counts_of, events_of, journal_of, most_of};
 ghost use Rattle.dist_epmd_clients.specs.Standing.{asking_since, is_registered};
-ghost use Rattle.dist_epmd_clients.specs.Replying.{after_piece, asks, leaves, with_talk};
+ghost use Rattle.dist_epmd_clients.specs.Asking.{question};
+ghost use Rattle.dist_epmd_clients.specs.Replying.{after_piece, asks, leaves, outcome, with_talk};
 ghost use Rattle.dist_epmd_clients.specs.Clients.{registrations_of, client_of, clients_of, next_of, new_client, Becomes, CanLack, Drops, IsKept, IsSame};
 
 use crate::client::{Client, OpenError, Talk, Turn};
@@ -33,6 +34,15 @@ fn client_in<S>(clients: &BTreeMap<u64, Client<S>>, conn: u64) -> Option<&Client
     ensures { option_copied result ≡ get nat_cmp clients.now conn }
 {
     clients.get(&conn)
+}
+
+// All that a client has said by now, with this piece.
+fn said_by_now(alloc: Global, said: &ByteString, piece: &[u8]) -> Result<ByteString, AllocError>
+    ensures { IfOk result (λ all. all ≡ said.now ++ piece.now) }
+{
+    let mut all = said.try_clone(alloc)?;
+    all.append(piece)?;
+    Ok(all)
 }
 
 // Sets where the talk of a client stands now. It takes no memory.
@@ -244,8 +254,30 @@ impl<S: Drop> Clients<S> {
             return Ok(self.leave(alloc, conn));
         };
         let is_local = client.local;
-        let mut all = said.try_clone(alloc)?;
-        all.append(piece)?;
+        let all = said_by_now(alloc, said, piece)?;
+        self.answer(alloc, conn, is_local, all)
+    }
+
+    // A client that has not asked before has said all this by now.
+    fn answer(
+        &mut self,
+        alloc: Global,
+        conn: u64,
+        is_local: bool,
+        all: ByteString,
+    ) -> Result<Turn<S>, AllocError>
+        // The caller looked it up.
+        requires there { IsSome (client_of self.old conn) }
+        requires asking { is_registered (client_of self.old conn) ≡ false }
+        ensures ok { IfOk result (λ turn. IfSome (client_of self.old conn) (λ client.
+            let after = outcome conn client all (registrations_of self.old) (question is_local all) in
+            (turn ≡ after.turn) × Becomes after.client after.registrations conn self.old self.new)) }
+        ensures err { OnErr result (IsKept self.old self.new) }
+        ensures next { next_of self.new ≡ next_of self.old }
+        ensures journal { OnOk result (Journals (question_event conn is_local (registrations_of self.old) (question is_local all))
+            (journal_of self.old) (journal_of self.new)) }
+        ensures no_memory { OnErr result (journal_of self.new ≡ journal_of self.old) }
+    {
         match question_of(alloc, is_local, all.as_slice())? {
             Question::Inside => {
                 set_talk(&mut self.clients, conn, Talk::Asking(all));

@@ -1,10 +1,8 @@
 //! What the journal hears of what is done.
 
 ghost use Rattle.std.specs.Prelude.{◌≡◌, IfOk};
-ghost use Rattle.dist_epmd_calls.specs.declared.serve.Served.TheVariants.{Registered};
-ghost use Rattle.dist_epmd.specs.Registrations.{Registrations};
 ghost use Rattle.dist_epmd_clients.specs.Replying.{name_in};
-ghost use Rattle.dist_epmd_clients.specs.Reporting.{answered_event, served_event, talk_ended};
+ghost use Rattle.dist_epmd_clients.specs.Reporting.{answered_event, registered_event, talk_ended};
 
 use crate::client::Talk;
 use crate::event::ClientEvent;
@@ -43,7 +41,7 @@ pub fn registration_event(
     conn: u64,
     request: &Request,
 ) -> Result<Option<ClientEvent>, AllocError>
-    ensures { (registrations : Registrations) → IfOk result (λ event. event ≡ served_event Registered conn request.now registrations) }
+    ensures { IfOk result (λ event. event ≡ registered_event conn request.now) }
 {
     match request {
         Request::Alive(info) => {

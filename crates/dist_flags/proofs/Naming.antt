@@ -1,10 +1,8 @@
 -- The names of flags: no two flags have the same name.
-use Rattle.std.proofs.Common.{◌≡◌, ℕ, List, Some, refl, subst}
-use Rattle.std.specs.Prelude.{IfSome}
+use Rattle.std.proofs.Common.{◌≡◌, ℕ, List, Some, refl, subst, IfSome}
 use Rattle.dist_names.proofs.Naming as naming
-use Rattle.dist_flags.specs.declared.dflag.Dflag.{Dflag}
+use Rattle.dist_flags.specs.{Names.name_of, Names.flag_named, Names.all_flags, declared.dflag.Dflag.Dflag}
 use Rattle.dist_flags.specs.declared.dflag.Dflag.TheVariants as flag
-use Rattle.dist_flags.specs.Names.{name_of, flag_named, all_flags}
 
 pub found : (word : List ℕ) → IfSome (flag_named word) (λ w. name_of w ≡ word)
 unfolding flag_named

@@ -1,10 +1,8 @@
 -- The frame at the front, by how many bytes it has.
-use Rattle.std.proofs.Common.{◌≡◌, ◌≢◌, ℕ, ◌+◌, ◌-◌, ◌<◌, ◌≤◌, Bool, true, false, cond, leb, List, [], ◌++◌, length, take, drop, drop_of_length-le, Some, None, refl, sym, ap, subst, ◌∙◌, arith, lit≤, length-append, length-drop}
-use Rattle.std.specs.Int.{w16}
-use Rattle.std.proofs.lemmas.Bool.{leb-true, leb-false, le-leb, lt-leb, and_left, and_right}
-use Rattle.std.proofs.lemmas.List.{drop-drop}
-use Rattle.dist_frames.specs.Stream.{head, has_first, behind, first_body, after_first}
-use Rattle.dist_frames.specs.Kept.{frame_len}
+use Rattle.std.proofs.Common.{◌≡◌, ◌≢◌, ℕ, ◌+◌, ◌-◌, ◌<◌, ◌≤◌, Bool, true, false, cond, leb, List, [], ◌++◌, length, take, drop, drop_of_length-le, Some, None}
+use Rattle.std.proofs.Common.{refl, sym, ap, subst, ◌∙◌, arith, lit≤, length-append, length-drop, w16, leb-true, leb-false, le-leb, drop-drop}
+use Rattle.std.proofs.lemmas.Bool.{lt-leb, and_left, and_right}
+use Rattle.dist_frames.specs.{Kept.frame_len, Stream.head, Stream.has_first, Stream.behind, Stream.first_body, Stream.after_first}
 use Rattle.dist_frames.proofs.Streams.{starts_true, head-append}
 
 -- this many bytes are the frame at the front

@@ -1,15 +1,12 @@
 -- What comes next of the bytes that are pending.
-use Rattle.std.proofs.Common.{◌≡◌, ℕ, ◌+◌, ◌-◌, ◌<◌, ◌≤◌, Bool, true, false, cond, leb, List, [], ◌∷◌, ◌++◌, length, take, drop, Option, Some, None, Result, Ok, Err, refl, sym, ap, subst, ◌∙◌, arith, lit<, length-take, length-drop}
-use Rattle.std.specs.Prelude.{MatchOption, nat_lt}
-use Rattle.std.specs.List.{AllByRecursion}
-use Rattle.std.specs.Int.{w32, byte_len}
-use Rattle.std.proofs.lemmas.Bool.{le-leb, lt-leb, and_right, and_from}
-use Rattle.std.proofs.lemmas.List.{drop-drop}
-use Rattle.dist_frames.specs.Stream.{head, has_first, front, behind, split_bodies}
-use Rattle.dist_frames.proofs.Streams.{starts, starts_true, bodies_one, bodies_none}
-use Rattle.dist_frames.specs.declared.packet_error.PacketError.{PacketError}
+use Rattle.std.proofs.Common.{◌≡◌, ℕ, ◌+◌, ◌-◌, ◌<◌, ◌≤◌, Bool, true, false, cond, leb, List, [], ◌∷◌, ◌++◌, length, drop, Option, Some, None, Result, Ok, Err}
+use Rattle.std.proofs.Common.{refl, sym, ap, subst, ◌∙◌, arith, lit<, length-take, MatchOption, nat_lt, w32, le-leb}
+use Rattle.std.proofs.lemmas.Bool.{and_from}
+use Rattle.std.specs.{Int.byte_len, List.AllByRecursion}
+use Rattle.dist_frames.specs.LinkReading.{Reading, reading, is_too_long, next_packet, without_next, up_to, to_come}
+use Rattle.dist_frames.specs.{Stream.head, Stream.has_first, Stream.front, Stream.behind, Stream.split_bodies, declared.packet_error.PacketError.PacketError}
 use Rattle.dist_frames.specs.declared.packet_error.PacketError.TheVariants as error
-use Rattle.dist_frames.specs.LinkReading.{Reading, reading, is_too_long, next_packet, without_next, HasNext, up_to, to_come}
+use Rattle.dist_frames.proofs.Streams.{starts, bodies_one, bodies_none}
 
 -- what is answered, by whether the packet is too long and whether it is whole
 abbrev pub answer_of : Bool → Bool → ℕ → List ℕ → Result (Option (List ℕ)) PacketError
@@ -19,47 +16,9 @@ answer_of long whole len packet = cond long (Err (error.TooLong len)) (Ok (cond 
 abbrev pub left_of : Bool → Bool → Reading → List ℕ → Reading
 left_of long whole r rest = cond long r (reading r.most (cond whole rest r.pending))
 
--- ---- by what was compared
-
-long_is : (most : ℕ) (s : List ℕ) → 4 ≤ length s → most < head w32 s → is_too_long (reading most s) ≡ true
-long_is most s long h =
-    let more : nat_lt most (head w32 s) ≡ true = grind (arith, h) in
-    and_from (leb 4 (length s)) (nat_lt most (head w32 s)) (le-leb 4 (length s) long) more
-
-long_not : (most : ℕ) (s : List ℕ) → head w32 s ≤ most → is_too_long (reading most s) ≡ false
-long_not most s h =
-    let no : nat_lt most (head w32 s) ≡ false = grind (arith, h) in
-    and_right (leb 4 (length s)) (nat_lt most (head w32 s)) no
-
-part_not_whole : (s : List ℕ) → length s - 4 < head w32 s → has_first w32 s ≡ false
-part_not_whole s h = and_right (leb 4 (length s)) (leb (head w32 s) (length (drop 4 s))) (lt-leb (head w32 s) (length (drop 4 s)) (omega (arith, length-drop 4 s)))
-
-all_whole : (s : List ℕ) → 4 ≤ length s → head w32 s ≤ length s - 4 → has_first w32 s ≡ true
-all_whole s long h = starts_true w32 s (record { long = long; whole = omega (arith, length-drop 4 s) })
-
 -- when the packet is moved out, what stands behind it is left
 moves : (r : Reading) → is_too_long r ≡ false → has_first w32 r.pending ≡ true → without_next r ≡ reading r.most (behind w32 r.pending)
 moves r long whole = rw (long, whole) refl
-
--- ---- the same in terms of the tests in the code
-
-pub few : (most : ℕ) (s : List ℕ) → length s < 4 → HasNext (reading most s) None
-few most s h = rw (lt-leb 4 (length s) h) (refl, refl)
-
-pub part : (most : ℕ) (s : List ℕ) (n : ℕ) → n ≡ head w32 s → n ≤ most → length s - 4 < n → HasNext (reading most s) None
-part most s n e fits h = rw (long_not most s (omega (arith, e, fits)), part_not_whole s (omega (arith, e, h))) (refl, refl)
-
-pub all : (most : ℕ) (s : List ℕ) (n : ℕ) → n ≡ head w32 s → n ≤ most → 4 ≤ length s → n ≤ length s - 4 → HasNext (reading most s) (Some n)
-all most s n e fits long h =
-    let small = long_not most s (omega (arith, e, fits)) in
-    let whole = all_whole s long (omega (arith, e, h)) in (
-      omega (arith, long, h),
-      rw (small, whole) (ap (λ (k : ℕ). Ok (Some (take k (drop 4 s)))) (sym e)),
-      moves (reading most s) small whole ∙ ap (λ (x : List ℕ). reading most x) (drop-drop (head w32 s) 4 s) ∙ ap (λ (k : ℕ). reading most (drop (4 + k) s)) (sym e),
-    )
-
-pub refuses : (most : ℕ) (s : List ℕ) (n : ℕ) → n ≡ head w32 s → 4 ≤ length s → most < n → (next_packet (reading most s) ≡ Err (error.TooLong n)) × (without_next (reading most s) ≡ reading most s)
-refuses most s n e long h = rw (long_is most s long (omega (arith, e, h))) (ap (λ (k : ℕ). Err (error.TooLong k)) (sym e), refl)
 
 -- ---- the next packet is the first of those still to come
 

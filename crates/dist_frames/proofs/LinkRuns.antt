@@ -1,16 +1,13 @@
 -- A reader of packets is right after any calls.
-use Rattle.std.proofs.Common.{◌≡◌, ℕ, ◌≤◌, Bool, true, false, List, [], ◌∷◌, ◌++◌, length, refl, sym, ap, subst, ◌∙◌, append_assoc}
-use Rattle.std.specs.Int.{w32}
-use Rattle.std.specs.List.{flat_map, AllByRecursion}
-use Rattle.std.proofs.lemmas.List.{append-nil}
+use Rattle.std.proofs.Common.{◌≡◌, ℕ, ◌≤◌, Bool, true, false, List, [], ◌∷◌, ◌++◌, length, refl, sym, ap, subst, ◌∙◌, append_assoc, w32, flat_map, append-nil}
+use Rattle.std.specs.List.{AllByRecursion}
 use Rattle.dist_names.specs.Bytes.{IsBytes}
 use Rattle.dist_names.proofs.Bytes.{IsBytes-append}
-use Rattle.dist_frames.proofs.Streams.{IsBytes-behind}
-use Rattle.dist_frames.specs.Stream.{body_frame, FitsWidth, head, has_first, front, behind, split_bodies}
-use Rattle.dist_frames.proofs.Splitting.{wide32, begins, bodies-framed, moved_too, all_and_one}
-use Rattle.dist_frames.specs.LinkReading.{Reading, reading, with_piece, is_too_long, next_packet, without_next, up_to, packets_within, to_come}
 use Rattle.dist_frames.specs.LinkHistory.{Call, Feed, Take, Seen, opening, packets_in, after_call, after_all, FeedBytes}
-use Rattle.dist_frames.proofs.LinkFronts.{answer_of, left_of, Short, up_to-front, is_short}
+use Rattle.dist_frames.specs.LinkReading.{Reading, reading, with_piece, is_too_long, next_packet, without_next, up_to, packets_within, to_come}
+use Rattle.dist_frames.specs.Stream.{body_frame, FitsWidth, head, has_first, front, behind, split_bodies}
+use Rattle.dist_frames.proofs.{LinkFronts.answer_of, LinkFronts.left_of, LinkFronts.Short, LinkFronts.up_to-front, LinkFronts.is_short, Streams.IsBytes-behind}
+use Rattle.dist_frames.proofs.Splitting.{wide32, begins, bodies-framed, moved_too, all_and_one}
 
 -- all that a reader keeps
 record Kept (most : ℕ) (reader : Reading) (stream : List ℕ) (moved : List (List ℕ)) : Type 0 where

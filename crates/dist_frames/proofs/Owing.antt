@@ -1,13 +1,10 @@
 -- A packet of which only a length is kept.
-use Rattle.std.proofs.Common.{◌≡◌, ℕ, zero, suc, ◌+◌, ◌-◌, ◌^◌, ◌<◌, ◌≤◌, Bool, false, cond, leb, eqb, List, [], ◌∷◌, ◌++◌, length, take, drop, refl, sym, ap, subst, ◌∙◌, append_assoc, arith, ne_eqb}
-use Rattle.std.specs.Int.{w32, to_be_bytes}
-use Rattle.std.proofs.lemmas.Bool.{lt-leb, and_left}
-use Rattle.std.proofs.lemmas.List.{append-nil, drop_all, take_all, take-append-drop, length-take}
-use Rattle.dist_frames.specs.Reader.{capped_count}
-use Rattle.dist_frames.specs.Kept.{kept_of}
-use Rattle.dist_frames.specs.Stream.{head, has_first, packets, short_rest, partial}
-use Rattle.dist_frames.proofs.Streams.{bodies_none, rest_none}
-use Rattle.dist_frames.proofs.Skipping.{wide, number_owes, shortened_few}
+use Rattle.std.proofs.Common.{◌≡◌, ℕ, zero, suc, ◌+◌, ◌-◌, ◌^◌, ◌<◌, ◌≤◌, Bool, false, cond, leb, eqb, List, [], ◌∷◌, ◌++◌, length, take, drop, refl, sym, ap}
+use Rattle.std.proofs.Common.{subst, ◌∙◌, append_assoc, arith, ne_eqb, w32, append-nil, take_all, take-append-drop, length-take}
+use Rattle.std.proofs.lemmas.{Bool.lt-leb, Bool.and_left, List.drop_all}
+use Rattle.std.specs.Int.{to_be_bytes}
+use Rattle.dist_frames.specs.{Kept.kept_of, Reader.capped_count, Stream.head, Stream.has_first, Stream.packets, Stream.short_rest, Stream.partial}
+use Rattle.dist_frames.proofs.{Skipping.wide, Skipping.number_owes, Skipping.shortened_few, Streams.bodies_none, Streams.rest_none}
 
 -- ---- what is kept
 

@@ -1,12 +1,11 @@
 -- What is due on a link, by what was read and written.
-use Rattle.std.proofs.Common.{◌≡◌, ◌≢◌, ℕ, ◌+◌, ◌-◌, ◌*◌, ◌<◌, ◌≤◌, Bool, true, false, List, [], ◌∷◌, ◌++◌, refl, sym, ap, subst, ◌∙◌, arith, leb, cond}
-use Rattle.std.proofs.lemmas.Bool.{false≢true}
-use Rattle.std.proofs.lemmas.Bool.Decides.{nat_tests}
-use Rattle.std.specs.Prelude.{min, max}
+use Rattle.std.proofs.Common.{◌≡◌, ◌≢◌, ℕ, ◌+◌, ◌-◌, ◌*◌, ◌<◌, ◌≤◌, Bool, true, false, List, [], ◌∷◌, ◌++◌, refl, sym, ap, subst, ◌∙◌, arith, leb, cond, min}
+use Rattle.std.proofs.Common.{max}
+use Rattle.std.proofs.lemmas.{Bool.false≢true, Bool.Decides.nat_tests}
 use Rattle.std.specs.List.{AllByRecursion}
+use Rattle.dist_frames.specs.Ticking.{Ticking, Act, Heard, Said, after_one, after_acts, due_at, WasHeardBefore, WasSaidBefore}
 use Rattle.dist_frames.specs.declared.ticker.Due.{Due}
 use Rattle.dist_frames.specs.declared.ticker.Due.TheVariants as due
-use Rattle.dist_frames.specs.Ticking.{Ticking, Act, Heard, Said, after_one, after_acts, due_at, WasHeardBefore, WasSaidBefore}
 
 -- ---- what the acts leave
 

@@ -1,13 +1,8 @@
 -- A loss is reported, or refused.
-use Rattle.std.proofs.Common.{◌≡◌, ℕ, List, [], ◌∷◌, ◌++◌, Result, Ok, Err, inl, inr}
-use Rattle.std.specs.Prelude.{IfOk, IfErr, OnErr}
-use Rattle.dist_peers.specs.declared.entry.EndId.{EndId}
-use Rattle.dist_core_ends.specs.declared.why.Why.{Why}
+use Rattle.std.proofs.Common.{IfOk}
 use Rattle.dist_core.specs.declared.event.Event.TheVariants as event
-use Rattle.dist_core.specs.declared.reply.Reply.{Reply}
-use Rattle.dist_core.specs.declared.step_error.StepError.{StepError}
-use Rattle.dist_locked_book.specs.declared.seat.Receipt.{Receipt}
-use Rattle.dist_locked_book.specs.History.{IsRefused}
+use Rattle.dist_drive.proofs.Words.{OnErr, Reply, StepError, IfErr, Why, ◌≡◌, ℕ, List, [], ◌∷◌, ◌++◌, Ok, Err, Result, inl, inr, EndId}
+use Rattle.dist_locked_book.specs.{History.IsRefused, declared.seat.Receipt.Receipt}
 use Rattle.dist_locked.specs.Losses.{IsLost}
 
 pub lost : (end_ : EndId) (w : Why) (before after : List Receipt) (seat : ℕ) (r : Result (Receipt × Reply) StepError)

@@ -1,15 +1,12 @@
 -- Each move of the queue keeps its rule.
-use Rattle.std.proofs.Common.{◌≡◌, ℕ, zero, suc, ◌+◌, ◌≤◌, Bool, true, false, ◌||◌, List, [], ◌∷◌, ◌++◌, length, set, sym, refl, ap, ◌∙◌, arith, length-drop}
-use Rattle.std.proofs.lemmas.Bool.Decides.{nat_tests}
-use Rattle.std.proofs.lemmas.List.{drop-append-le}
-use mathlib.Core.Option.{some, some-injective, some-ne-none}
 use lib.ListN.{get_elem?}
+use mathlib.Core.{Bool.or-false, Option.some, Option.some-injective, Option.some-ne-none}
+use Rattle.std.proofs.Common.{◌≡◌, ℕ, zero, suc, ◌+◌, ◌≤◌, Bool, true, false, ◌||◌, List, [], ◌∷◌, ◌++◌, length, set, sym, refl, ap, ◌∙◌, arith, length-drop}
+use Rattle.std.proofs.lemmas.{Bool.Decides.nat_tests, List.drop-append-le}
 use Rattle.crossbeam_queue.specs.Fifo.{Pushes, Pops, Forks, Merges, Learns}
-use Rattle.dist_locked.specs.declared.rule.DialOrder.{DialOrder}
-use Rattle.dist_locked.specs.declared.rule.View.{View}
-use Rattle.dist_locked.specs.Orders.{AreInTurn}
-use Rattle.dist_locked.specs.Rule.{knows, nothing, without_first, only_first, without_second, only_second, together, with_put, with_taken, Left, Owned, Kept}
-use Rattle.dist_locked.proofs.Owners.{or_false, owned_same, owned_write, owned_more, owned_fork, owned_merge}
+use Rattle.dist_locked.specs.{Orders.AreInTurn, declared.rule.DialOrder.DialOrder, declared.rule.View.View}
+use Rattle.dist_locked.specs.Rule.{knows, nothing, without_first, only_first, without_second, only_second, together, with_put, with_taken, Owned, Kept}
+use Rattle.dist_locked.proofs.Owners.{owned_same, owned_write, owned_more, owned_fork, owned_merge}
 use Rattle.dist_locked.proofs.Turns.{put_more, take_first, take_second}
 
 -- the only pass knows a list
@@ -83,7 +80,7 @@ takes port v may x items views h at =
             (t, rw is refl),
           )
       | false ↦ λ is may'.
-          let mine = sym (or_false v.first) ∙ may' in
+          let mine = sym (or-false v.first) ∙ may' in
           let w = knows v.puts v.first v.second v.put (v.by_first ++ (t, x) ∷ []) v.by_second in
           let r = take_first h.put h.first h.second t x items h.left.1 h.left.2 in (
             w,
@@ -127,7 +124,3 @@ gathers port v other u items views h at two there =
     let both = together v u in
     shared h (owned_merge h.knows_put port v other u both nothing at two there refl refl refl)
     (owned_merge h.knows_first port v other u both nothing at two there refl refl refl) (owned_merge h.knows_second port v other u both nothing at two there refl refl refl)
-
--- who knows all three lists learns what is left
-pub settles : (port : ℕ) (v : View) → v.puts ≡ true → v.first ≡ true → v.second ≡ true → Learns Kept port v (λ items. Left v.put v.by_first v.by_second items)
-settles port v p a b items views h at = rw ((h.knows_put.only port v at p).1, (h.knows_first.only port v at a).1, (h.knows_second.only port v at b).1) h.left

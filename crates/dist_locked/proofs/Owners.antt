@@ -1,17 +1,12 @@
 -- How the knowledge of a list goes from pass to pass.
-use Rattle.std.proofs.Common.{◌≡◌, ◌≢◌, ℕ, zero, suc, Bool, true, false, ◌||◌, if◌then◌else◌, List, [], ◌∷◌, ◌++◌, length, set, ⊎_elim, sym, refl, ap, ◌∙◌}
-use mathlib.Core.Option.{some, some-ne-none}
 use lib.ListN.{get_elem?}
+use mathlib.Core.{Bool.or-false, Option.some, Option.some-ne-none}
+use Rattle.std.proofs.Common.{◌≡◌, ◌≢◌, ℕ, zero, suc, Bool, true, false, ◌||◌, if◌then◌else◌, List, [], ◌∷◌, ◌++◌, length, set, ⊎_elim, sym, refl, ap, ◌∙◌}
 use Rattle.crossbeam_queue.proofs.Lists.{at_set, at_snoc}
-use Rattle.dist_locked.specs.declared.rule.View.{View}
-use Rattle.dist_locked.specs.Rule.{Owned}
+use Rattle.dist_locked.specs.{Rule.Owned, declared.rule.View.View}
 
 not_true : false ≡ true → ⊥
 not_true e = cc
-
-pub or_false : (b : Bool) → (b || false) ≡ b
-or_false true = refl
-or_false false = refl
 
 at_end : (l : List View) (a b : View) (j : ℕ) → (get_elem? l j ≡ some b → ⊥) → get_elem? (l ++ a ∷ []) j ≡ some b → j ≡ length l
 at_end [] a b zero n e = refl
@@ -80,5 +75,5 @@ owned_merge {X} {has} {what} {views} {xs} own port v other u both spent at two t
                 ⊎_elim (λ (z : (j ≡ port) × (both ≡ y)). (z.0, ap what (sym z.1) ∙ same ∙ theirs.1))
                 (λ (z : (j ≢ port) × (get_elem? views j ≡ some y)). absurd (x.0 ((own.only j y z.1 knows).0 ∙ sym theirs.0))) (at_set views port j both y x.1)) (at_set (set views port both) other j spent y here);
           }
-      | false ↦ λ _ has' same. owned_drop (owned_same own port v both at (has' ∙ or_false (has v)) same) other spent none
+      | false ↦ λ _ has' same. owned_drop (owned_same own port v both at (has' ∙ or-false (has v)) same) other spent none
     ] refl h e

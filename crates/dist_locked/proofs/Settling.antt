@@ -1,10 +1,8 @@
 -- What the three passes know together.
-use Rattle.std.proofs.Common.{◌≡◌, ◌≢◌, ℕ, Bool, true, false, ◌||◌, List, [], ◌∷◌, ◌++◌, ◌+◌, length, length-drop, arith, Option, Some, None, MatchOption, IfSome, refl, sym, ap, ◌∙◌, subst}
-use Rattle.dist_locked.specs.declared.rule.DialOrder.{DialOrder}
-use Rattle.dist_locked.specs.declared.rule.View.{View}
-use Rattle.dist_locked.specs.Orders.{Taken, AreInTurn}
-use Rattle.dist_locked.specs.Rule.{together, with_taken, Left}
-use Rattle.dist_locked.specs.Passes.{putting, working, taken_in}
+use Rattle.std.proofs.Common.{◌≡◌, ◌≢◌, ℕ, Bool, true, false, ◌||◌, List, [], ◌∷◌, ◌++◌, ◌+◌, length, length-drop, arith, Option, Some, None, MatchOption}
+use Rattle.std.proofs.Common.{IfSome, refl, sym, ap, ◌∙◌, subst}
+use Rattle.dist_locked.specs.{Orders.Taken, Orders.AreInTurn, Passes.putting, Passes.working, Passes.taken_in, Rule.together, Rule.with_taken, Rule.Left}
+use Rattle.dist_locked.specs.declared.rule.{DialOrder.DialOrder, View.View}
 use Rattle.dist_locked.proofs.Turns.{turned}
 
 -- all three lists are known

@@ -1,12 +1,8 @@
 -- Each move keeps the rule.
-use Rattle.std.proofs.Common.{◌≡◌, ℕ, zero, suc, ◌+◌, ◌<◌, ◌≤◌, ◌==◌, if◌then◌else◌, cond, nat_lt, List, [], ◌∷◌, ◌++◌, length, drop, get_or, Some, slice_get, refl, ap, ◌∙◌, arith, length-append}
-use Rattle.std.proofs.lemmas.List.Elements.{All-push}
-use Rattle.std.proofs.lemmas.List.Quantifiers.{all_pairs_push}
-use Rattle.std.proofs.lemmas.List.Sums.{sum_by_push, sum_by-cons}
-use Rattle.std.proofs.lemmas.Bool.{eq-eqb}
-use Rattle.std.proofs.lemmas.Bool.Decides.{nat_tests}
-use Rattle.dist_locked.specs.declared.rule.DialOrder.{DialOrder}
-use Rattle.dist_locked.specs.Orders.{Taken, times, Agrees, AreInTurn}
+use Rattle.std.proofs.Common.{◌≡◌, ℕ, zero, suc, ◌+◌, ◌<◌, ◌≤◌, ◌==◌, if◌then◌else◌, cond, nat_lt, List, [], ◌∷◌, ◌++◌, length, drop, get_or, Some, slice_get}
+use Rattle.std.proofs.Common.{refl, ap, ◌∙◌, arith, length-append, eq-eqb}
+use Rattle.std.proofs.lemmas.{Bool.Decides.nat_tests, List.Elements.All-push, List.Quantifiers.all_pairs_push, List.Sums.sum_by_push, List.Sums.sum_by-cons}
+use Rattle.dist_locked.specs.{Orders.Taken, Orders.times, Orders.Agrees, Orders.AreInTurn, declared.rule.DialOrder.DialOrder}
 
 -- what was put stays where it is
 get_more : (put more : List DialOrder) (k : ℕ) (x : DialOrder) → slice_get put k ≡ Some x → slice_get (put ++ more) k ≡ Some x

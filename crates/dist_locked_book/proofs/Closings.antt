@@ -1,10 +1,7 @@
 -- The end of a list of receipts.
-use Rattle.std.proofs.Common.{◌≡◌, ◌↔◌, ℕ, ◌≤◌, List, [], true, false, IsTrue, nat_eq, drop, length, length-drop, sym, ap, ◌∙◌, arith}
-use Rattle.std.proofs.lemmas.Bool.{eqb-true, eq-eqb}
-use Rattle.std.proofs.Math.ListN.{drop_of_length-le}
-use Rattle.dist_locked_book.specs.declared.line.Line.{Line}
-use Rattle.dist_locked_book.specs.declared.seat.Receipt.{Receipt}
-use Rattle.dist_locked_book.specs.Closing.{receipts_of}
+use Rattle.std.proofs.Common.{◌≡◌, ◌↔◌, ℕ, ◌≤◌, List, [], true, false, IsTrue, nat_eq, drop, length, length-drop, sym, ap, ◌∙◌, arith, eqb-true, eq-eqb}
+use Rattle.std.proofs.Common.{drop_of_length-le}
+use Rattle.dist_locked_book.specs.{Closing.receipts_of, declared.line.Line.Line, declared.seat.Receipt.Receipt}
 
 pub not_true : false ≡ true → ⊥
 not_true e = cc

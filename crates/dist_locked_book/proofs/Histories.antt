@@ -1,17 +1,9 @@
 -- Histories and lists of receipts that are one line longer.
 use Rattle.std.proofs.Common.{◌≡◌, ℕ, ◌+◌, ◌<◌, ◌≤◌, true, false, MatchBool, List, [], ◌∷◌, ◌++◌, Ok, refl, sym, ap, ◌∙◌, subst, arith}
-use Rattle.dist_core.specs.declared.event.Event.{Event}
-use Rattle.dist_core.specs.declared.reply.Reply.{Reply}
-use Rattle.dist_core_setup.specs.declared.setup.Setup.{Setup}
 use Rattle.dist_core_ends.specs.Ends.{AreLegal}
-use Rattle.dist_core.specs.Losses.{is_loss}
-use Rattle.dist_core.specs.Node.{NodeState}
-use Rattle.dist_core.specs.Runs.{opening}
-use Rattle.dist_core.specs.Step.{step}
-use Rattle.dist_locked_book.specs.declared.line.Line.{Line}
-use Rattle.dist_locked_book.specs.declared.seat.Receipt.{Receipt}
-use Rattle.dist_locked_book.specs.Opens.{open_count}
-use Rattle.dist_locked_book.specs.History.{IsReplay, ends_in_loss}
+use Rattle.dist_core_setup.specs.declared.setup.Setup.{Setup}
+use Rattle.dist_core.specs.{Losses.is_loss, Node.NodeState, Runs.opening, Step.step, declared.event.Event.Event, declared.reply.Reply.Reply}
+use Rattle.dist_locked_book.specs.{History.IsReplay, History.ends_in_loss, Opens.open_count, declared.line.Line.Line, declared.seat.Receipt.Receipt}
 
 -- ---- one step
 

@@ -1,19 +1,10 @@
 -- A body is read as a message exactly where it spells it.
-use Rattle.std.proofs.Common.{◌≡◌, ℕ, ◌^◌, ◌<◌, Bool, true, false, cond, eqb, List, [], ◌∷◌, ◌++◌, length, Option, Some, None, Result, Ok, Err, refl, sym, ap, subst, ◌∙◌, arith}
-use Rattle.std.specs.Int.{Width, w16, w32, w64, to_be_bytes}
-use Rattle.dist_messages.specs.declared.message.Message.{Message}
-use Rattle.dist_messages.specs.declared.message.Message.TheVariants as message
-use Rattle.dist_messages.specs.declared.message.Side.{Side}
-use Rattle.dist_messages.specs.declared.message.Side.TheVariants.{Dialler, Acceptor}
-use Rattle.dist_messages.specs.declared.message_error.MessageError.{MessageError}
-use Rattle.dist_messages.specs.declared.message_error.MessageError.TheVariants.{Long}
-use Rattle.dist_messages.specs.Spelling.{Spells, Fits}
-use Rattle.dist_names.specs.Bytes.{IsBytes}
-use Rattle.std.proofs.lemmas.Bool.{eqb-true}
-use Rattle.std.proofs.lemmas.List.{append-nil, nil_from_length}
-use Rattle.dist_names.specs.Fields.{number_at, bytes_at}
+use Rattle.dist_messages.proofs.Words.{◌≡◌, ℕ, ◌^◌, ◌<◌, Bool, true, false, cond, eqb, List, [], ◌∷◌, ◌++◌, length, Some, None, Ok, Err, Option, Result, sym}
+use Rattle.dist_messages.proofs.Words.{refl, ap, ◌∙◌, subst, append-nil, arith, w16, w32, w64, eqb-true, nil_from_length, Width, to_be_bytes, IsBytes, bytes_at}
+use Rattle.dist_messages.proofs.Words.{number_at, Fits, Spells, Message, Side, Acceptor, Dialler, MessageError, Long}
 use Rattle.dist_names.proofs.Fields.{IsWide, wide16, wide32, wide64, number_takes, number_again, bytes_take, bytes_again}
 use Rattle.dist_messages.specs.Reading.{◌>>=◌, value_at_end, old_name, new_name, old_challenge, new_challenge, complement, reply, ack}
+use Rattle.dist_messages.specs.declared.message.Message.TheVariants as message
 
 -- ---- a body that spells a message is read as it
 

@@ -1,3 +1,4 @@
+pub mod Words
 pub mod Readers
 pub mod Bodies
 pub mod Messages

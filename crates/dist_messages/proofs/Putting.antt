@@ -1,9 +1,6 @@
 -- A body is the pieces that were put one behind the other, and each message that has a name has it checked.
-use Rattle.std.proofs.Common.{◌≡◌, ℕ, List, ◌++◌, Result, Ok, Err, cond, sym, ap, subst, ◌∙◌, append_assoc}
-use Rattle.std.specs.Prelude.{OnOk, is_ok}
-use Rattle.dist_messages.specs.declared.message.Message.{Message}
-use Rattle.dist_messages.specs.declared.message_error.MessageError.{MessageError}
-use Rattle.dist_messages.specs.Canonical.{spelling_with_name}
+use Rattle.dist_messages.proofs.Words.{◌≡◌, ℕ, cond, List, ◌++◌, is_ok, OnOk, Ok, Err, Result, sym, ap, ◌∙◌, subst, append_assoc, spelling_with_name, Message}
+use Rattle.dist_messages.proofs.Words.{MessageError}
 use Rattle.dist_messages.specs.Writing.{AnswersCheck, name_in}
 
 -- a piece is put behind those that are there

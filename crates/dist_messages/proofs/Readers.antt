@@ -1,13 +1,8 @@
 -- What is read one field after the other: what is answered to bytes that are too few or too many.
-use Rattle.std.proofs.Common.{◌≡◌, ℕ, ◌-◌, ◌<◌, ◌≤◌, false, cond, ltb, eqb, List, [], ◌∷◌, ◌++◌, length, take, drop, Option, Some, None, Result, Ok, Err, refl, sym, ap, ◌∙◌, append_assoc, arith, inl, inr, ◌⊎◌}
-use Rattle.std.specs.Int.{w16, w32, w64, from_be_bytes}
-use Rattle.std.proofs.lemmas.Bool.{cases_lt, le-ltb, lt-ltb, ne_eqb}
-use Rattle.std.proofs.lemmas.List.{take_at, drop_at, take-append-drop, length-append, length-take-le, length-replicate}
-use Rattle.dist_messages.specs.declared.message.Message.{Message}
-use Rattle.dist_messages.specs.declared.message_error.MessageError.{MessageError}
-use Rattle.dist_messages.specs.declared.message_error.MessageError.TheVariants.{Short, Long}
-use Rattle.dist_names.specs.Bytes.{IsBytes}
-use Rattle.dist_names.proofs.Bytes.{zeros, IsBytes-zeros, IsBytes-append}
+use Rattle.dist_messages.proofs.Words.{◌≡◌, ℕ, ◌-◌, ◌<◌, ◌≤◌, false, cond, eqb, ltb, ◌⊎◌, List, [], ◌∷◌, ◌++◌, length, take, drop, Some, None, Ok, Err, Option}
+use Rattle.dist_messages.proofs.Words.{Result, sym, refl, ap, ◌∙◌, inl, inr, append_assoc, arith, length-append, take-append-drop, length-take-le, take_at}
+use Rattle.dist_messages.proofs.Words.{drop_at, w16, w32, w64, le-ltb, lt-ltb, ne_eqb, cases_lt, length-replicate, from_be_bytes, IsBytes, IsBytes-append}
+use Rattle.dist_messages.proofs.Words.{IsBytes-zeros, zeros, Message, MessageError, Long, Short}
 use Rattle.dist_messages.specs.Reading.{◌>>=◌, value_at_end, old_name, new_name, old_challenge, new_challenge, complement, reply, ack}
 
 -- ---- a reader of fields

@@ -1,19 +1,10 @@
 -- A message is written exactly where this side has a row for it and its name is short; otherwise exactly one cause holds.
-use Rattle.std.proofs.Common.{◌≡◌, ℕ, ◌^◌, ◌<◌, ◌≤◌, Bool, true, false, cond, ltb, List, [], ◌∷◌, ◌++◌, length, take, drop, Result, Ok, Err, refl, sym, ap, subst, ◌∙◌, arith, lit<, lit≤, length-append}
-use Rattle.std.specs.Prelude.{◌↔◌}
-use Rattle.std.specs.Int.{w16, w32, to_be_bytes}
-use Rattle.std.proofs.lemmas.Bool.{ltb-true, ltb-false}
-use Rattle.std.proofs.lemmas.List.{append-nil}
-use Rattle.dist_messages.specs.declared.message.Side.{Side}
-use Rattle.dist_messages.specs.declared.message.Side.TheVariants.{Dialler, Acceptor}
-use Rattle.dist_messages.specs.declared.message.Status.{Status}
-use Rattle.dist_messages.specs.declared.message.Message.{Message}
-use Rattle.dist_messages.specs.declared.message.Message.TheVariants as message
-use Rattle.dist_messages.specs.declared.message_error.MessageError.{MessageError}
-use Rattle.dist_messages.specs.declared.message_error.MessageError.TheVariants as errors
-use Rattle.dist_messages.specs.Spelling.{Spells, is_said_by}
-use Rattle.dist_messages.specs.Canonical.{canonical, own_spelling}
+use Rattle.dist_messages.proofs.Words.{◌≡◌, ℕ, ◌^◌, ◌<◌, ◌≤◌, Bool, true, false, cond, ltb, ◌↔◌, List, [], ◌∷◌, ◌++◌, length, take, drop, Ok, Err, Result, sym}
+use Rattle.dist_messages.proofs.Words.{refl, ap, ◌∙◌, subst, append-nil, arith, lit<, lit≤, length-append, w16, w32, ltb-false, ltb-true, nil_from_length}
+use Rattle.dist_messages.proofs.Words.{to_be_bytes, canonical, own_spelling, Spells, is_said_by, Message, Side, Acceptor, Dialler, Status, MessageError}
 use Rattle.dist_messages.specs.Writing.{name_in, nameless, HasRow, IsPlain, IsWritten, HasNoRow, HasLongName, IsOtherStatus}
+use Rattle.dist_messages.specs.declared.message.Message.TheVariants as message
+use Rattle.dist_messages.specs.declared.message_error.MessageError.TheVariants as errors
 
 abbrev pub fine : List ℕ → Result (List ℕ) MessageError
 fine x = Ok x
@@ -38,15 +29,11 @@ row_of Acceptor (message.OldChallenge flags challenge name) body s = record { bo
 row_of Acceptor (message.NewChallenge flags challenge creation name) body s = record { body = canonical (nameless (message.NewChallenge flags challenge creation name)); row = ([], lit< tt, sym (append-nil (canonical (message.NewChallenge flags challenge creation [])))) }
 row_of side m body s = record { body = body; row = s }
 
-no_bytes : (bytes : List ℕ) → length bytes ≡ 0 → bytes ≡ []
-no_bytes [] e = refl
-no_bytes (b ∷ bytes) e = absurd (omega arith)
-
 none_behind : (text ignored body : List ℕ) → body ≡ text ++ ignored → length body ≡ length text → body ≡ text
 none_behind text ignored body e len =
     let joined : length body ≡ length (text ++ ignored) = ap (λ (x : List ℕ). length x) e in
     let none : length ignored ≡ 0 = omega (arith, joined, len, length-append text ignored) in
-    e ∙ ap (λ (x : List ℕ). text ++ x) (no_bytes ignored none) ∙ append-nil text
+    e ∙ ap (λ (x : List ℕ). text ++ x) (nil_from_length ignored none) ∙ append-nil text
 
 -- the spelling with version 5 and no bytes after the name is the one that is written
 plain_once : (side : Side) (m : Message) (body : List ℕ) → Spells side m body → IsPlain m body → body ≡ canonical m

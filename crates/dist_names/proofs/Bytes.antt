@@ -1,7 +1,6 @@
 -- A part of a row of bytes is a row of bytes.
-use Rattle.std.proofs.Common.{ℕ, suc, ◌+◌, ◌-◌, List, ◌∷◌, ◌++◌, length, take, drop, replicate, refl, arith, inl, inr}
-use Rattle.std.proofs.lemmas.Bool.{cases_lt}
-use Rattle.std.proofs.lemmas.List.{get_or-drop, get_or-take, get_or_past, get_or-replicate, length-take, length-replicate, get_or_append_left, get_or-append_right}
+use Rattle.std.proofs.Common.{ℕ, suc, ◌+◌, ◌-◌, List, ◌∷◌, ◌++◌, length, take, drop, replicate, refl, arith, inl, inr, get_or-drop, get_or-take, length-take}
+use Rattle.std.proofs.lemmas.{Bool.cases_lt, List.get_or_past, List.get_or-replicate, List.length-replicate, List.get_or_append_left, List.get_or-append_right}
 use Rattle.dist_names.specs.Bytes.{IsBytes}
 
 pub IsBytes-rest : (b : ℕ) (bytes : List ℕ) → IsBytes (b ∷ bytes) → IsBytes bytes

@@ -1,19 +1,11 @@
 -- Where the numbers of two texts' first bytes differ, they order the texts.
-use Rattle.std.proofs.Common.{◌≡◌, ◌≢◌, ℕ, zero, suc, ◌+◌, ◌*◌, ◌^◌, ◌<◌, true, List, [], ◌∷◌, take, drop, drop-drop, refl, sym, ap, subst, ◌∙◌, arith}
-use Rattle.std.specs.Array.{IsFirstChunk}
-use Rattle.std.specs.Int.{w64, from_be_bytes}
-use Rattle.std.specs.List.{list_all}
-use Rattle.std.specs.declared.cmp.Ordering.{Ordering}
-use Rattle.std.specs.declared.cmp.Ordering.TheVariants.{Less, Equal, Greater}
-use Rattle.std.specs.Ordering.{nat_cmp, ordering_then, ordering_reverse}
-use Rattle.std.proofs.Math.Nat.{pow-succ', one-le-pow}
-use Rattle.std.proofs.lemmas.Cmp.{ranked, by_ranked, nat_list_cmp_total}
-use Rattle.std.proofs.lemmas.Nat.{mul-add-lt}
+use Rattle.std.proofs.Common.{◌≡◌, ◌≢◌, ℕ, zero, suc, ◌+◌, ◌*◌, ◌^◌, ◌<◌, true, List, [], ◌∷◌, take, drop, drop-drop, refl, sym, ap, subst, ◌∙◌, arith, w64}
+use Rattle.std.proofs.Common.{nat_cmp}
+use Rattle.std.proofs.{Math.Nat.pow-succ', Math.Nat.one-le-pow, lemmas.Cmp.ranked, lemmas.Cmp.by_ranked, lemmas.Cmp.nat_list_cmp_total, lemmas.Nat.mul-add-lt}
+use Rattle.std.specs.{Array.IsFirstChunk, Int.from_be_bytes, List.list_all, Ordering.ordering_then, Ordering.ordering_reverse}
+use Rattle.std.specs.declared.cmp.{Ordering.Ordering, Ordering.TheVariants.Less, Ordering.TheVariants.Equal, Ordering.TheVariants.Greater}
+use Rattle.dist_names.specs.{Bytes.is_visible, Front.front_number, Front.front_numbers, NodeName.IsNodeName, Order.Name, Order.name_cmp}
 use Rattle.dist_names.proofs.Texts.{visible_range, visible_parts, visible_drop}
-use Rattle.dist_names.specs.Bytes.{is_visible}
-use Rattle.dist_names.specs.Front.{front_number, front_numbers}
-use Rattle.dist_names.specs.NodeName.{IsNodeName}
-use Rattle.dist_names.specs.Order.{Name, name_cmp}
 
 abbrev IsVisible : List ℕ → Type 0
 IsVisible text = list_all is_visible text ≡ true

@@ -1,7 +1,5 @@
 -- What is found by a word has that word.
-use Rattle.std.proofs.Common.{◌≡◌, ℕ, Bool, true, false, cond, ◌==◌, List, [], ◌∷◌, Some, refl, sym}
-use Rattle.std.specs.Prelude.{IfSome}
-use Rattle.std.specs.List.{find}
+use Rattle.std.proofs.Common.{◌≡◌, ℕ, Bool, true, false, cond, ◌==◌, List, [], ◌∷◌, Some, refl, sym, IfSome, find}
 use Rattle.std.specs.Cmp.Lexicographic.{pointwise, same_text}
 
 pub found-passes : {A : Type 0} (test : A → Bool) (P : A → Type 0) → ((x : A) → test x ≡ true → P x) → (all : List A) → IfSome (find test all) P

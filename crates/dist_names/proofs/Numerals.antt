@@ -1,8 +1,7 @@
 -- Digits are read one at a time, and the number that they write grows.
-use Rattle.std.proofs.Common.{◌≡◌, ℕ, suc, ◌+◌, ◌*◌, ◌^◌, ◌<◌, ◌≤◌, List, [], ◌∷◌, length, drop, get_or, refl, ap, subst, ◌∙◌, arith, drop-cons, drop_of_length-le}
-use Rattle.std.proofs.Math.Nat.{le-mul_of_pos_right}
-use Rattle.std.specs.Str.Parse.{AllDigits, IsNumeral, digits_value, digits_value_after}
-use Rattle.std.specs.Char.{digit_value}
+use Rattle.std.proofs.Common.{◌≡◌, ℕ, suc, ◌+◌, ◌*◌, ◌^◌, ◌<◌, ◌≤◌, List, [], ◌∷◌, length, drop, get_or, refl, ap, subst, ◌∙◌, arith, drop-cons}
+use Rattle.std.proofs.Common.{drop_of_length-le, le-mul_of_pos_right}
+use Rattle.std.specs.{Char.digit_value, Str.Parse.AllDigits, Str.Parse.IsNumeral, Str.Parse.digits_value, Str.Parse.digits_value_after}
 
 -- of the digits `all`, those before `rest` write n
 pub record SoFar (radix : ℕ) (all rest : List ℕ) (n : ℕ) : Type 0 where

@@ -1,8 +1,9 @@
 -- The escapes of bytes are printable, and so is what is written once no byte is left.
-use Rattle.std.proofs.Common.{◌≡◌, ℕ, ◌<◌, ◌≤◌, List, [], ◌∷◌, ◌++◌, codes, length, drop, drop_of_length-le, append-nil, sym, ap, ◌∙◌, arith}
-use Rattle.std.specs.List.{All, AllByRecursion, flat_map}
+use Rattle.std.proofs.Common.{◌≡◌, ℕ, ◌<◌, ◌≤◌, List, [], ◌∷◌, ◌++◌, codes, length, drop, drop_of_length-le, append-nil, sym, ap, ◌∙◌, arith, All, flat_map}
 use Rattle.std.proofs.lemmas.List.Elements.{All-nil, All-append, All-from_recursion, All-weaker, All-same, recursion_from_All}
-use Rattle.dist_names.specs.Escaped.{escape_of, escape_in_lines, escape_in_quotes, in_double_quotes, escapes_of, escaped_lines, IsPrintable, IsPrintableOrLineFeed}
+use Rattle.std.specs.List.{AllByRecursion}
+use Rattle.dist_names.specs.Escaped.{escape_of, escape_in_lines, escape_in_quotes, in_double_quotes, escapes_of, escaped_lines, IsPrintable}
+use Rattle.dist_names.specs.Escaped.{IsPrintableOrLineFeed}
 
 of_each : (P : ℕ → Type 0) (f : ℕ → List ℕ) (bytes : List ℕ) → AllByRecursion (λ b. All P (f b)) bytes → All P (flat_map f bytes)
 of_each P f [] h = All-nil P

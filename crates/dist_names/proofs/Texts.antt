@@ -1,8 +1,7 @@
 -- The bytes of a name are ASCII.
-use Rattle.std.proofs.Common.{◌≡◌, ℕ, zero, suc, ◌<◌, ◌≤◌, true, List, [], ◌∷◌, drop, get_or, refl, arith}
-use Rattle.std.specs.Prelude.{nat_le}
+use Rattle.std.proofs.Common.{◌≡◌, ℕ, zero, suc, ◌≤◌, true, List, [], ◌∷◌, drop, refl, nat_le, leb-true}
+use Rattle.std.proofs.lemmas.Bool.{and_parts}
 use Rattle.std.specs.List.{list_all}
-use Rattle.std.proofs.lemmas.Bool.{and_parts, leb-true}
 use Rattle.dist_names.specs.Bytes.{is_visible}
 
 pub visible_range : (byte : ℕ) → is_visible byte ≡ true → (0x21 ≤ byte) × (byte ≤ 0x7E)
@@ -17,8 +16,3 @@ pub visible_drop : (n : ℕ) (bytes : List ℕ) → list_all is_visible bytes �
 visible_drop zero bytes h = h
 visible_drop (suc n) [] h = refl
 visible_drop (suc n) (byte ∷ bytes) h = visible_drop n bytes (visible_parts byte bytes h).1
-
-pub all_below : (bytes : List ℕ) → list_all is_visible bytes ≡ true → (i : ℕ) → get_or bytes i 0 < 128
-all_below [] h i = omega arith
-all_below (b ∷ bytes) h zero = omega (arith, (visible_range b (visible_parts b bytes h).0).1)
-all_below (b ∷ bytes) h (suc i) = all_below bytes (visible_parts b bytes h).1 i

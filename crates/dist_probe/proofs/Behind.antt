@@ -1,12 +1,8 @@
 -- One frame, put together from its length, its tag and what stands behind them.
-use Rattle.std.proofs.Common.{◌≡◌, ℕ, ◌+◌, ◌^◌, ◌<◌, List, [], ◌∷◌, ◌++◌, length, get_or, Ok, Err, refl, sym, ap, ◌∙◌, arith, inr}
-use Rattle.std.specs.Int.{w16, to_be_bytes}
-use Rattle.dist_stream.specs.Stream.{StreamState}
-use Rattle.dist_stream.specs.declared.turn_error.TurnError.{TurnError}
-use Rattle.dist_stream.proofs.Talks.{Hears-trans}
-use Rattle.dist_probe.specs.declared.bodies.Came.{Came}
+use Rattle.dist_epmd_calls.proofs.Words.{get_or, StreamState, TurnError, Hears-trans, ◌≡◌, ℕ, ◌+◌, ◌^◌, ◌<◌, List, [], ◌∷◌, ◌++◌, length, Ok, Err, sym, refl}
+use Rattle.dist_epmd_calls.proofs.Words.{ap, ◌∙◌, inr, arith, w16, to_be_bytes}
+use Rattle.dist_probe.specs.{Bodies.Fills, Bodies.HearsBehind, Bodies.HearsFrameOf, declared.bodies.Came.Came}
 use Rattle.dist_probe.specs.declared.bodies.Came.TheVariants as came
-use Rattle.dist_probe.specs.Bodies.{Fills, HearsBehind, HearsFrameOf}
 
 -- one byte
 pub only_byte : (room : List ℕ) → length room ≡ 1 → room ≡ get_or room 0 0 ∷ []

@@ -1,17 +1,11 @@
 -- The talk, put together from what was sent and what was received.
-use Rattle.std.proofs.Common.{◌≡◌, ℕ, List, Bool, Option, Some, None, Err, ap, subst, ◌∙◌}
-use Rattle.dist_names.specs.Order.{same_name}
-use Rattle.dist_names.specs.declared.flags.Flags.{Flags}
+use Rattle.dist_names.specs.{Order.same_name, declared.flags.Flags.Flags}
 use Rattle.dist_messages.specs.declared.message.Status.{Status}
 use Rattle.dist_messages.specs.declared.form.Form.TheVariants as form
-use Rattle.dist_core_setup.specs.declared.setup.Setup.{Setup}
-use Rattle.dist_core_setup.specs.Saying.{name_text}
-use Rattle.dist_stream.specs.Stream.{StreamState}
-use Rattle.dist_probe.specs.declared.hearing.ReceivedMessage.{ReceivedMessage}
-use Rattle.dist_probe.specs.declared.verdict.ProbeVerdict.{ProbeVerdict}
-use Rattle.dist_probe.specs.declared.asking.Report.{Report}
-use Rattle.dist_probe.specs.Verdicts.{status_verdict}
-use Rattle.dist_probe.specs.Ending.{Asks, BehindName, Ends, Leaves, lacking, status_in}
+use Rattle.dist_core_setup.specs.{Saying.name_text, declared.setup.Setup.Setup}
+use Rattle.dist_epmd_calls.proofs.Words.{StreamState, ◌≡◌, ℕ, Bool, List, Some, None, Err, Option, ap, ◌∙◌, subst}
+use Rattle.dist_probe.specs.{Ending.Asks, Ending.BehindName, Ending.Ends, Ending.Leaves, Ending.lacking, Ending.status_in, Verdicts.status_verdict}
+use Rattle.dist_probe.specs.declared.{asking.Report.Report, hearing.ReceivedMessage.ReceivedMessage, verdict.ProbeVerdict.ProbeVerdict}
 
 -- ---- behind the own name
 

@@ -8,6 +8,7 @@ ghost use Rattle.dist_program.specs.CookieFile.{is_private, ReadsCookie};
 use crate::cookie_fault::CookieFault;
 use crate::text_error::TextError;
 use crate::variables::variable;
+use dist_names::quote;
 use dist_secret::{Cookie, read_cookie};
 use std::alloc::{AllocError, Global};
 use std::fs::{self, File, FileType};
@@ -67,7 +68,7 @@ pub fn cookie_at(rt: &HostRuntime, path: &str, is_unsafe: bool) -> Result<Cookie
     if is_unsafe || is_private_file(&file) {
         cookie_in(rt.alloc(), &mut file)
     } else {
-        Err(CookieFault::NotPrivate(path.to_owned(rt.alloc())?))
+        Err(CookieFault::NotPrivate(quote(rt.alloc(), path.as_bytes())?))
     }
 }
 
@@ -89,5 +90,17 @@ pub fn home_cookie(rt: &HostRuntime, is_unsafe: bool) -> Result<Option<Cookie>, 
         Ok(cookie) => Ok(Some(cookie)),
         Err(CookieFault::OpenFailed) => Ok(None),
         Err(fault) => Err(fault),
+    }
+}
+
+/// The cookie of the named file, or else of the home folder; where that has none, it could not be opened.
+pub fn find_cookie(
+    rt: &HostRuntime,
+    file: Option<&str>,
+    is_unsafe: bool,
+) -> Result<Cookie, CookieFault> {
+    match file {
+        Some(path) => cookie_at(rt, path, is_unsafe),
+        None => home_cookie(rt, is_unsafe)?.ok_or(CookieFault::OpenFailed),
     }
 }

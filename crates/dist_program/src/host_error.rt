@@ -20,6 +20,19 @@ pub enum HostError {
     NoMemory,
 }
 
+impl HostError {
+    /// The text that is printed.
+    pub fn text(self) -> &'static str {
+        match self {
+            HostError::NoName => "the host's name has no address here",
+            HostError::Failed => "the resolver failed, as where no name server answers it",
+            HostError::Silent => "the resolver gave no answer in time",
+            HostError::NoDescriptors => "no descriptor was left to ask the resolver with",
+            HostError::NoMemory => "no memory was left",
+        }
+    }
+}
+
 impl From<AllocError> for HostError {
     ghost from_gives = { λ _ error. error ≡ NoMemory };
 

@@ -3,10 +3,12 @@
 
 ghost use Rattle.std.specs.Prelude.{◌≡◌, ◌++◌, IfOk, string_bytes};
 ghost use Rattle.dist_names.specs.Escaped.{in_double_quotes};
-ghost use Rattle.dist_program.specs.Sentences.{name_sentence};
+ghost use Rattle.dist_program.specs.Sentences.{GivesName, name_sentence};
 
-use dist_names::{escape, quote};
+use crate::word_fault::WordFault;
+use dist_names::{NameError, NodeName, escape, quote};
 use std::alloc::{AllocError, Global};
+use std::fmt::Display;
 
 /// A text, and behind it a word between double quotes.
 pub fn with_word(alloc: Global, text: &str, word: &str) -> Result<String, AllocError>
@@ -25,8 +27,20 @@ pub fn name_sentence(alloc: Global, word: &str) -> Result<String, AllocError>
     with_word(alloc, text, word)
 }
 
-/// The sentence that refuses a word that should be a number, behind the option `--ID`.
-pub fn number_sentence(
+/// The node's name that a word spells.
+pub fn name_in(alloc: Global, word: &str) -> Result<NodeName, WordFault>
+    ensures { GivesName word.now result }
+{
+    match NodeName::new(alloc, word.as_bytes()) {
+        Ok(name) => Ok(name),
+        Err(NameError::NoMemory) => Err(WordFault::NoMemory),
+        Err(NameError::TooShort | NameError::TooLong | NameError::BadByte | NameError::BadAt) =>
+            Err(WordFault::Bad(name_sentence(alloc, word)?)),
+    }
+}
+
+// The sentence that refuses a word that should be a number, behind the option `--ID`.
+pub(crate) fn number_sentence(
     alloc: Global,
     program: &str,
     id: &str,
@@ -44,8 +58,13 @@ fn parser_text(text: &str) -> &str {
     line.strip_prefix("error: ").unwrap_or(line)
 }
 
-/// The sentence that refuses words that the parser of command lines does not take, by what the parser says.
-pub fn parser_sentence(alloc: Global, program: &str, text: &str) -> Result<String, AllocError> {
-    let escaped = escape(alloc, parser_text(text).as_bytes())?;
+/// The sentence that refuses words that the parser of command lines does not take, by its error.
+pub fn parser_sentence<D: Display>(
+    alloc: Global,
+    program: &str,
+    error: &D,
+) -> Result<String, AllocError> {
+    let text = format!(in alloc; "{error}")?;
+    let escaped = escape(alloc, parser_text(&text).as_bytes())?;
     format!(in alloc; "bad command line: {escaped} ({program} --help)")
 }

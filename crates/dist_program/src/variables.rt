@@ -1,6 +1,7 @@
 //! The words of the command line and the variables of the environment.
 
 use crate::text_error::TextError;
+use crate::word_fault::WordFault;
 use std::alloc::{AllocError, Global};
 use std::env::{self, VarError};
 use std::io::ErrorKind;
@@ -14,7 +15,18 @@ pub fn words_of(rt: &HostRuntime) -> Result<Vec<String>, TextError> {
     }
 }
 
-/// The same words, borrowed.
+/// The same, or the sentence that refuses them.
+pub fn read_words(rt: &HostRuntime, program: &str) -> Result<Vec<String>, WordFault> {
+    match words_of(rt) {
+        Ok(words) => Ok(words),
+        Err(TextError::NoText) => Err(WordFault::Bad(format!(in rt.alloc();
+            "bad command line: a word is no UTF-8 ({program} --help)"
+        )?)),
+        Err(TextError::NoMemory) => Err(WordFault::NoMemory),
+    }
+}
+
+/// The words of `words_of`, borrowed.
 pub fn texts(alloc: Global, words: &[String]) -> Result<Vec<&str>, AllocError> {
     words.iter().map(|word| word.as_str()).collect(alloc)
 }

@@ -39,25 +39,18 @@ pub struct Worked {
     pub faults: Vec<OrderFault>,
 }
 
-// Where a peer listens, and how it is spoken to.
-#[derive(Clone, Copy)]
-struct PeerAddress {
-    port: u16,
-    opening: Opening,
-}
-
-// Asks the port mapper where a peer listens.
-fn find_peer<R: Machine>(site: &Site<'_, R>, to: &NodeName) -> Result<PeerAddress, OrderRefusal> {
+// Asks the port mapper at which port a peer listens, and how it is spoken to.
+fn find_peer<R: Machine>(
+    site: &Site<'_, R>,
+    to: &NodeName,
+) -> Result<(u16, Opening), OrderRefusal> {
     let connection = match connect_to_port(site.rt, site.mapper_port) {
         Ok(connection) => connection,
         Err(error) => return Err(OrderRefusal::of_connect(&error)),
     };
     let mut stream = connection.stream;
     match lookup(site.alloc, &mut stream, to.short(), site.turns) {
-        Ok(peer) => Ok(PeerAddress {
-            port: peer.port,
-            opening: opening_for(&peer),
-        }),
+        Ok(peer) => Ok((peer.port, opening_for(&peer))),
         Err(error) => Err(OrderRefusal::of_lookup(error, site.places.is_short)),
     }
 }
@@ -132,9 +125,9 @@ fn obey<'s, E, R: Machine, G: Gate>(
     let Some(crew) = crews.get_mut(place.unwrap_or(usize::MAX)) else {
         return Ok(());
     };
-    let peer = find_peer(site, &dial.to)?;
-    let end_ = begin(site, crew, &dial.to, peer.opening)?;
-    match connect_to_port(site.rt, peer.port) {
+    let (port, opening) = find_peer(site, &dial.to)?;
+    let end_ = begin(site, crew, &dial.to, opening)?;
+    match connect_to_port(site.rt, port) {
         Ok(connection) => {
             site.note(number, connection.link);
             open_connection(site, post, crew, end_, connection);

@@ -18,10 +18,9 @@ fn order_count<R>(site: &Site<'_, R>) -> u32
     if site.failed.load(Ordering::SeqCst) {
         return 0;
     }
-    match u32::try_from(site.dials.len()) {
-        Ok(count) if count <= MOST_ORDERS => count,
-        _ => MOST_ORDERS,
-    }
+    u32::try_from(site.dials.len())
+        .unwrap_or(MOST_ORDERS)
+        .min(MOST_ORDERS)
 }
 
 // Both workers, until all orders are taken and all their connections have ended.

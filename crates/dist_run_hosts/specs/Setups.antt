@@ -1,10 +1,17 @@
 -- Nodes as a nodes file says that they are set up.
-use Rattle.std.specs.Prelude.{◌≡◌, ⊤, List, [], ◌∷◌}
+use Rattle.std.specs.Prelude.{◌≡◌, ℕ, ⊤, List, [], ◌∷◌}
 use Rattle.dist_names.specs.declared.creation.Creation.{Creation}
 use Rattle.dist_core_setup.specs.declared.setup.Setup.{Setup}
+use Rattle.dist_core_setup.specs.declared.version.Version.{Version}
+use Rattle.dist_core_setup.specs.declared.version.Version.TheVariants as versions
 use Rattle.dist_core_setup.specs.Limits.{usual_limits}
 use Rattle.dist_locked_book.specs.declared.closing.Closed.{Closed}
 use Rattle.dist_run_plan.specs.declared.plan.NodePlan.{NodePlan}
+
+-- the number of the highest version that a node knows
+abbrev pub highest_of : Version → ℕ
+highest_of versions.Five = 5
+highest_of versions.Six = 6
 
 -- WHAT A NODE IS SET UP WITH: all that its plan says, and the creation that the port mapper gave it
 abbrev pub setup_of : NodePlan → Creation → Setup

@@ -11,7 +11,7 @@ use crate::orders::are_obeyed;
 use crate::run_error::RunError;
 use crate::setups::are_of_plans;
 use dist_drive::SocketStream;
-use dist_locked::{Book, Closed, Seat, close};
+use dist_locked::{Closed, Seat, close};
 use dist_run_plan::Plan;
 use std::alloc::Global;
 
@@ -44,14 +44,9 @@ pub struct Ran {
     ghost order: { AreInOrder faults.items },
 }
 
-// The book of a node, which listens no longer.
-fn book_of(host: Host) -> Book {
-    host.node.into_book()
-}
-
 // Closes the next node with its seats.
 fn close_next(all: &mut Vec<Closed>, host: Host, seats: Vec<Seat>) -> Result<(), RunError> {
-    match close(book_of(host), seats) {
+    match close(host.node.into_book(), seats) {
         Ok(closed) => Ok(all.push(closed)?),
         Err((error, _, _)) => Err(RunError::NotClosed(error)),
     }

@@ -3,6 +3,7 @@
 ghost use Rattle.std.specs.Prelude.{◌≡◌, ◌≢◌, [], IfOk};
 ghost use Rattle.dist_names.specs.NodeName.{short_of};
 ghost use Rattle.dist_run_hosts.specs.Setups as setups;
+ghost use Rattle.dist_run_hosts.specs.Setups.{highest_of};
 
 use crate::end_marks::EndMarks;
 use crate::run_error::RunError;
@@ -38,8 +39,7 @@ pub struct Host {
 
 // The number of the highest version that a node knows.
 fn highest(version: Version) -> u16
-    ensures six { version ≡ Version.Six → result ≡ 6 }
-    ensures five { version ≡ Version.Five → result ≡ 5 }
+    ensures { result ≡ highest_of version }
 {
     match version {
         Version::Five => LOWEST,
@@ -49,10 +49,15 @@ fn highest(version: Version) -> u16
 
 // What a node sends to the port mapper to be registered.
 fn registration(alloc: Global, plan: &NodePlan, port: u16) -> Result<AliveReq, AllocError>
-    ensures fields { IfOk result (λ r. r
-        ≡ record { port = port; node_type = 77; protocol = 0; highest = r.highest; lowest = 5; name = short_of plan.now.name; extra = [] }) }
-    ensures six { IfOk result (λ r. plan.now.version ≡ Version.Six → r.highest ≡ 6) }
-    ensures five { IfOk result (λ r. plan.now.version ≡ Version.Five → r.highest ≡ 5) }
+    ensures { IfOk result (λ r. r ≡ record {
+      port = port;
+      node_type = 77;
+      protocol = 0;
+      highest = highest_of plan.now.version;
+      lowest = 5;
+      name = short_of plan.now.name;
+      extra = [];
+    }) }
 {
     let mut request = AliveReq::of_node(alloc, plan.name.short(), port, false)?;
     request.highest = highest(plan.version);

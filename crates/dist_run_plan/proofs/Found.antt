@@ -1,9 +1,8 @@
 -- Lists of values that are read one at a time.
 use Rattle.std.proofs.Common.{◌≡◌, ℕ, suc, ◌+◌, ◌<◌, List, [], ◌∷◌, ◌++◌, length, map, get_or, drop, Option, Some, None, option_map, refl, sym, ap, ◌∙◌}
-use Rattle.std.proofs.lemmas.List.{append_assoc, drop_more}
-use Rattle.toml.specs.Data.{Data}
-use Rattle.toml.specs.View.{view, items_view}
-use Rattle.toml.specs.declared.value.Value.{Value}
+use Rattle.std.proofs.Common.{append_assoc}
+use Rattle.std.proofs.lemmas.List.{drop_more}
+use Rattle.toml.specs.{Data.Data, View.view, View.items_view, declared.value.Value.Value}
 use Rattle.dist_run_plan.specs.Values.{all_some, list_of}
 
 -- the items of values that are seen

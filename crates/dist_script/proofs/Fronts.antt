@@ -1,10 +1,9 @@
 -- A beginning of a text that was put somewhere.
-use Rattle.std.proofs.Common.{◌≡◌, ◌∙◌, ℕ, List, [], ◌++◌, Option, Result, Ok, Err, IsOk, OnOk, OnErr, length, take, drop, refl, sym, ap, subst, append_assoc, append-nil, take-append-drop}
-use Rattle.std.specs.Io.{StartsWith}
-use Rattle.std.specs.Io.KnownBytes.{Appends, Keeps}
-use Rattle.std.proofs.KnownBytes.{Appends-nil, Appends-trans, Appends-kept, starts_with_rest}
+use Rattle.std.proofs.Common.{◌≡◌, ◌∙◌, ℕ, List, [], ◌++◌, Option, Result, Ok, Err, IsOk, OnOk, OnErr, length, take, drop, refl, sym, ap, subst, append_assoc}
+use Rattle.std.proofs.Common.{append-nil, take-append-drop}
+use Rattle.std.proofs.{KnownBytes.Appends-nil, KnownBytes.Appends-trans, KnownBytes.Appends-kept, KnownBytes.starts_with_rest, Math.Seq.take-append_seam}
 use Rattle.std.proofs.Transfers.{starts_with_trans}
-use Rattle.std.proofs.Math.Seq.{take-append_seam}
+use Rattle.std.specs.{Io.StartsWith, Io.KnownBytes.Appends, Io.KnownBytes.Keeps}
 use Rattle.dist_script.specs.Texts.{PutsFront}
 
 -- a text in two parts begins with the first of them

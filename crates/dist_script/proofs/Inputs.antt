@@ -1,10 +1,9 @@
 -- What was read of an input until a fault.
 use Rattle.std.proofs.Common.{◌≡◌, ◌<◌, ◌⊎◌, inl, inr, ℕ, List, [], ◌++◌, Option, length, refl}
-use Rattle.std.specs.Io.KnownBytes.{Consumes, Keeps}
 use Rattle.std.proofs.KnownBytes.{Consumes-nil, Consumes-trans, Consumes-kept}
-use Rattle.dist_script.specs.declared.fault.ScriptFault.{ScriptFault}
+use Rattle.std.specs.Io.KnownBytes.{Consumes, Keeps}
+use Rattle.dist_script.specs.{Fault.StopsReading, declared.fault.ScriptFault.ScriptFault}
 use Rattle.dist_script.specs.declared.fault.ScriptFault.TheVariants.{TooLong, ReadFailed, NoMemory}
-use Rattle.dist_script.specs.Fault.{StopsReading}
 
 -- a read that failed reads nothing
 pub none_read : (a b : Option (List ℕ)) → Keeps a b → (piece : List ℕ) × Consumes a b piece

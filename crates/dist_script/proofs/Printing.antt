@@ -1,10 +1,9 @@
 -- What is written in pieces.
-use Rattle.std.proofs.Common.{◌≡◌, ℕ, ◌+◌, ◌/◌, ◌%◌, ◌<◌, ◌≤◌, List, [], ◌∷◌, ◌++◌, Option, length, take, drop, get_or, slice_index, refl, sym, ap, ◌∙◌, arith, take-append-drop}
+use Rattle.std.proofs.{Common.◌/◌, Common.◌%◌, Common.take, Common.get_or, Common.slice_index, lemmas.List.at_drop_more}
 use Rattle.std.specs.Io.KnownBytes.{Appends}
-use Rattle.std.proofs.lemmas.List.{at_drop_more, at_drop_all}
-use Rattle.hex.specs.Hex.{encode_with, encode_lower, lower_digits}
-use Rattle.dist_script.specs.declared.pieces.Piece.{Piece}
-use Rattle.dist_script.specs.Texts.{text_of, texts_of, PutsFront}
+use Rattle.hex.specs.Hex.{encode_lower, lower_digits, encode_with}
+use Rattle.dist_core.proofs.Words.{take-append-drop, at_drop_all, ◌≡◌, ℕ, ◌+◌, ◌<◌, ◌≤◌, List, [], ◌∷◌, ◌++◌, length, drop, Option, sym, refl, ap, ◌∙◌, arith}
+use Rattle.dist_script.specs.{Texts.text_of, Texts.texts_of, Texts.PutsFront, declared.pieces.Piece.Piece}
 use Rattle.dist_script.proofs.Fronts.{PutSoFar, more_put, part_put, all_put}
 
 module _ (a b c : Option (List ℕ)) (text : List ℕ) (ps : List Piece) (i : ℕ) (so : PutSoFar text a b (texts_of (drop i ps))) where

@@ -1,19 +1,13 @@
 -- What single words say.
-use Rattle.std.proofs.Common.{◌≡◌, ℕ, ◌<◌, true, false, ◌&&◌, nat_lt, List, [], ◌∷◌, length, Option, Some, None, refl, sym, ap, subst, arith}
-use Rattle.std.specs.Prelude.{SomeIff, IfSome, if◌then◌else◌}
-use Rattle.std.specs.Result.{result_ok}
-use Rattle.std.specs.Str.Parse.{IsNumeral, digits_value}
-use Rattle.std.proofs.lemmas.Bool.{and_parts}
+use Rattle.std.proofs.Common.{◌&&◌, nat_lt, SomeIff, if◌then◌else◌}
+use Rattle.std.specs.{Result.result_ok, Str.Parse.IsNumeral, Str.Parse.digits_value}
 use Rattle.hex.specs.Hex.{decode_of}
-use Rattle.dist_core_ends.specs.declared.why.Why.{Why}
-use Rattle.dist_core_ends.specs.Words.{why_word, why_of}
+use Rattle.dist_names.specs.{Digits.is_numeral, Order.same_name}
+use Rattle.dist_names.proofs.{Digits.below, Digits.is_below, Digits.both, Digits.numeral, Digits.a_numeral, Digits.by_test, Orders.one_lem, Orders.itself_lem}
+use Rattle.dist_messages.proofs.Words.{◌≡◌, ℕ, ◌<◌, true, false, List, [], ◌∷◌, length, IfSome, Some, None, Option, sym, refl, ap, subst, arith, and_parts}
+use Rattle.dist_core_ends.specs.{Words.why_word, Words.why_of, declared.why.Why.Why}
 use Rattle.dist_core_ends.proofs.Naming as naming
-use Rattle.dist_names.specs.Digits.{is_numeral}
-use Rattle.dist_names.specs.Order.{same_name}
-use Rattle.dist_names.proofs.Digits.{below, is_below, both, numeral, a_numeral, by_test}
-use Rattle.dist_names.proofs.Orders.{one_lem, itself_lem}
-use Rattle.dist_script.specs.Fields.{if_done, bytes_in}
-use Rattle.dist_script.specs.Nodes.{begins}
+use Rattle.dist_script.specs.{Fields.if_done, Fields.bytes_in, Nodes.begins}
 
 pub number_read : (most : ℕ) (word : List ℕ) (r : Option ℕ) → SomeIff r (IsNumeral 10 word × (digits_value 10 word < most)) (digits_value 10 word) → r ≡ (if is_numeral 10 word && nat_lt (digits_value 10 word) most then Some (digits_value 10 word) else None)
 number_read most word =

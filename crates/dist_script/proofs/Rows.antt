@@ -1,9 +1,7 @@
 -- Words that stand in a line as often as there are cookies, or names.
-use Rattle.std.proofs.Common.{◌≡◌, ℕ, false, cond, List, [], ◌∷◌, ◌++◌, drop, Option, Some, None, option_map, refl, sym, ap, ◌∙◌}
-use Rattle.std.proofs.lemmas.List.{append-nil, append_assoc}
-use Rattle.std.specs.Prelude.{codes, option_and_then}
-use Rattle.dist_names.specs.Order.{Name}
+use Rattle.std.proofs.Common.{append-nil, append_assoc, codes, option_and_then}
 use Rattle.dist_secret.specs.Cookies.{CookieTable}
+use Rattle.dist_core.proofs.Words.{◌≡◌, ℕ, false, cond, List, [], ◌∷◌, ◌++◌, drop, Some, None, Option, option_map, sym, refl, ap, ◌∙◌, Name}
 use Rattle.dist_script.specs.Fields.{◌>>=◌, Read, first_in, give, name_in}
 use Rattle.dist_script.specs.Nodes.{begins, further_in, cookies_in, names_in}
 use Rattle.dist_script.proofs.Reading.{not_begun}

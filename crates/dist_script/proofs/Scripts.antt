@@ -1,19 +1,13 @@
 -- The lines of a script, one after the other.
-use Rattle.std.proofs.Common.{◌≡◌, ℕ, suc, ◌+◌, ◌<◌, ◌≤◌, Bool, true, false, cond, List, [], ◌∷◌, ◌++◌, length, drop, Option, Some, None, Result, Ok, Err, refl, sym, ap, subst, ◌∙◌, arith, length-append, ◌⊎◌, inl, inr}
-use Rattle.std.specs.Prelude.{codes, is_some, ◌||◌, MatchResult, IsErrAnd}
-use Rattle.dist_core_setup.specs.declared.setup.Setup.{Setup}
-use Rattle.dist_script.specs.Words.{words_of, lines_of, parts_in, is_skipped}
-use Rattle.dist_script.specs.declared.fault.ScriptFault.{ScriptFault}
-use Rattle.dist_script.specs.declared.fault.ScriptFault.TheVariants.{BadLine, NoNode, NoMemory}
-use Rattle.std.proofs.lemmas.Bool.{cond-true, cond-false}
-use Rattle.dist_script.specs.declared.words.LineFault.{LineFault}
-use Rattle.dist_script.specs.declared.words.LineFault.TheVariants.{Bad}
-use Rattle.dist_script.specs.Fields.{Makes}
-use Rattle.dist_script.specs.Events.{line_in}
-use Rattle.dist_script.specs.Happenings.{happening_line}
+use Rattle.std.proofs.{Common.codes, Common.MatchResult, Common.IsErrAnd, Common.is_some, lemmas.Bool.cond-true, lemmas.Bool.cond-false}
+use Rattle.dist_core.proofs.Words.{◌≡◌, ℕ, suc, ◌+◌, ◌<◌, ◌≤◌, Bool, true, false, cond, ◌||◌, ◌⊎◌, List, [], ◌∷◌, ◌++◌, length, drop, Some, None, Ok, Err}
+use Rattle.dist_core.proofs.Words.{Option, Result, sym, refl, ap, ◌∙◌, subst, inl, inr, arith, length-append, Setup}
 use Rattle.dist_world_model.specs.declared.happening.Happening.{Happening}
-use Rattle.dist_script.specs.declared.script.ScriptLine.{ScriptLine}
-use Rattle.dist_script.specs.Scripts.{SoFar, nothing, with_node, with_event, with_happening, is_either, with_reported, with_words, with_line, unless_bad, with_lines, Events, Happenings, whole, all_good, script_in}
+use Rattle.dist_script.specs.{Events.line_in, Fields.Makes, Happenings.happening_line, Words.lines_of, Words.parts_in}
+use Rattle.dist_script.specs.Scripts.{SoFar, nothing, with_node, with_event, with_happening, is_either, with_reported, with_words, with_line, unless_bad}
+use Rattle.dist_script.specs.Scripts.{with_lines, Events, Happenings, whole, all_good, script_in}
+use Rattle.dist_script.specs.declared.{fault.ScriptFault.ScriptFault, script.ScriptLine.ScriptLine, words.LineFault.LineFault, words.LineFault.TheVariants.Bad}
+use Rattle.dist_script.specs.declared.fault.ScriptFault.TheVariants.{BadLine, NoNode, NoMemory}
 use Rattle.dist_script.proofs.Reading.{begun, not_begun}
 
 -- ---- one line
@@ -74,9 +68,6 @@ pub no_event : {A : Type 0} (r : Result A LineFault) (words : List (List ℕ)) �
     → MatchResult r (λ _. is_some (happening_line words) ≡ true) (λ fault. fault ≡ Bad → happening_line words ≡ None) → MatchResult r (λ _. is_either words ≡ true) (λ fault. fault ≡ Bad → is_either words ≡ false)
 no_event (Ok u) words none h = ap (λ o. is_some o || is_some (happening_line words)) none ∙ h
 no_event (Err fault) words none h = λ bad. ap (λ o. is_some o || is_some (happening_line words)) none ∙ ap is_some (h bad)
-
-pub skipped : (s : SoFar) (line : List ℕ) → is_skipped line ≡ true → with_line s line ≡ Some s
-skipped s line e = ap (λ b. cond b (Some s) (with_words s (words_of line))) e
 
 -- ---- the whole script
 

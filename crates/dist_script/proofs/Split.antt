@@ -1,8 +1,6 @@
 -- A text is its first part and the parts behind it, and so is a line its first word and the words behind it.
-use Rattle.std.proofs.Common.{◌≡◌, ◌∙◌, ℕ, zero, suc, ◌+◌, ◌-◌, ◌<◌, true, false, cond, List, [], ◌∷◌, length, take, drop, refl, sym, ap, arith}
-use Rattle.std.specs.Prelude.{◌==◌}
-use Rattle.std.proofs.lemmas.List.{take_rest}
-use Rattle.std.proofs.lemmas.Bool.{cond-true, cond-false, false_from_ne_true}
+use Rattle.std.proofs.Common.{◌≡◌, ◌∙◌, ℕ, zero, suc, ◌+◌, ◌-◌, ◌<◌, true, false, cond, List, [], ◌∷◌, length, take, drop, refl, sym, ap, arith, ◌==◌}
+use Rattle.std.proofs.lemmas.{Bool.cond-true, Bool.cond-false, Bool.false_from_ne_true, List.take_rest}
 use Rattle.memchr.specs.Find.{Nowhere, NoneBefore, Passes, is_byte}
 use Rattle.dist_script.specs.Words.{words_of, parts_of, before_first}
 

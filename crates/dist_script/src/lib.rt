@@ -17,5 +17,5 @@ mod words;
 
 pub use fault::{ScriptFault, or_write_failed};
 pub use input::read_text;
-pub use pieces::{Piece, put, put_bytes};
+pub use pieces::{Piece, put, put_bytes, put_piece};
 pub use script::{Script, ScriptLine, script_of};

@@ -1,12 +1,14 @@
 //! Pieces of printed lines: words, numbers and digits.
 
-ghost use Rattle.std.specs.Prelude.{◌≤◌, ◌≡◌, ◌*◌, length, take, drop, decimal, OnOk, OnErr, IfOk};
+ghost use Rattle.std.specs.Prelude.{◌≤◌, ◌≡◌, ◌*◌, length, take, drop, decimal, OnOk, OnErr, IfOk, IfErr};
 ghost use Rattle.std.specs.Io.KnownBytes.{Appends, Keeps};
 ghost use Rattle.hex.specs.Hex.{encode_lower};
 ghost use Rattle.dist_script.specs.Texts.{text_of, texts_of, PutsFront};
+ghost use Rattle.dist_script.specs.declared.fault.ScriptFault.TheVariants.{WriteFailed};
 
+use crate::fault::ScriptFault;
 use dist_names::Flags;
-use std::io::{self, ErrorKind, Write};
+use std::io::{ErrorKind, Write};
 
 /// The most bytes whose digits are written at once.
 const MOST_BYTES: usize = 32;
@@ -29,7 +31,7 @@ pub enum Piece<'a> {
 
 /// Writes these pieces, one behind the other. Where a write fails, what was written is a beginning of them.
 #[tactic(auto, using(crate::proofs::Fronts::none_put, crate::proofs::Printing::put_more, crate::proofs::Printing::put_all))]
-pub fn put<W: Write>(out: &mut W, pieces: &[Piece<'_>]) -> io::Result<()>
+pub fn put<W: Write>(out: &mut W, pieces: &[Piece<'_>]) -> Result<(), ScriptFault>
     ensures text { OnOk result (Appends (W.contents out.old) (W.contents out.new) (texts_of pieces.now)) }
     ensures cut { OnErr result (PutsFront (texts_of pieces.now) (W.contents out.old) (W.contents out.new)) }
 {
@@ -39,7 +41,9 @@ pub fn put<W: Write>(out: &mut W, pieces: &[Piece<'_>]) -> io::Result<()>
     Ok(())
 }
 
-fn put_piece<W: Write>(out: &mut W, piece: Piece<'_>) -> io::Result<()>
+/// Writes a piece. A caller that knows of which kind it is has only the code of that kind.
+#[inline(always)]
+pub fn put_piece<W: Write>(out: &mut W, piece: Piece<'_>) -> Result<(), ScriptFault>
     ensures text { OnOk result (Appends (W.contents out.old) (W.contents out.new) (text_of piece.entry)) }
     ensures cut { OnErr result (PutsFront (text_of piece.entry) (W.contents out.old) (W.contents out.new)) }
 {
@@ -51,7 +55,7 @@ fn put_piece<W: Write>(out: &mut W, piece: Piece<'_>) -> io::Result<()>
     }
 }
 
-fn put_number<W: Write>(out: &mut W, number: u64) -> io::Result<()>
+fn put_number<W: Write>(out: &mut W, number: u64) -> Result<(), ScriptFault>
     ensures text { OnOk result (Appends (W.contents out.old) (W.contents out.new) (decimal number)) }
     ensures cut { OnErr result (PutsFront (decimal number) (W.contents out.old) (W.contents out.new)) }
 {
@@ -70,7 +74,7 @@ fn write_decimals(number: u64, room: &mut [u8]) -> usize
 }
 
 #[tactic(auto, using(crate::proofs::Fronts::none_put))]
-fn put_digits<W: Write>(out: &mut W, bytes: &[u8]) -> io::Result<()>
+fn put_digits<W: Write>(out: &mut W, bytes: &[u8]) -> Result<(), ScriptFault>
     ensures text { OnOk result (Appends (W.contents out.old) (W.contents out.new) (encode_lower bytes.now)) }
     ensures cut { OnErr result (PutsFront (encode_lower bytes.now) (W.contents out.old) (W.contents out.new)) }
 {
@@ -91,7 +95,7 @@ fn write_digits(bytes: &[u8], room: &mut [u8])
     let _ = hex::encode_to_slice(bytes, room);
 }
 
-fn short_hex<W: Write>(out: &mut W, bytes: &[u8]) -> io::Result<()>
+fn short_hex<W: Write>(out: &mut W, bytes: &[u8]) -> Result<(), ScriptFault>
     requires { length bytes.now ≤ 32 }
     ensures text { OnOk result (Appends (W.contents out.old) (W.contents out.new) (encode_lower bytes.now)) }
     ensures cut { OnErr result (PutsFront (encode_lower bytes.now) (W.contents out.old) (W.contents out.new)) }
@@ -104,9 +108,10 @@ fn short_hex<W: Write>(out: &mut W, bytes: &[u8]) -> io::Result<()>
 
 /// Writes these bytes. Where a write fails, what was written is a beginning of them, which `write_all` doesn't say.
 #[tactic(auto, using(crate::proofs::Fronts::none_put))]
-pub fn put_bytes<W: Write>(out: &mut W, bytes: &[u8]) -> io::Result<()>
+pub fn put_bytes<W: Write>(out: &mut W, bytes: &[u8]) -> Result<(), ScriptFault>
     ensures text { OnOk result (Appends (W.contents out.old) (W.contents out.new) bytes.now) }
     ensures cut { OnErr result (PutsFront bytes.now (W.contents out.old) (W.contents out.new)) }
+    ensures fault { IfErr result (λ fault. fault ≡ WriteFailed) }
 {
     let mut rest = bytes;
     'writes: for _ in 0..u64::MAX {
@@ -116,20 +121,21 @@ pub fn put_bytes<W: Write>(out: &mut W, bytes: &[u8]) -> io::Result<()>
         let (_, behind) = rest.split_at(put_some(out, rest)?);
         rest = behind;
     }
-    Err(io::Error::from(ErrorKind::Interrupted))
+    Err(ScriptFault::WriteFailed)
 }
 
 // One write of these bytes, of which there are some. Returns how many of them were written: none where it was interrupted.
 #[tactic(auto, using(crate::proofs::Fronts::interrupted))]
-fn put_some<W: Write>(out: &mut W, bytes: &[u8]) -> io::Result<usize>
+fn put_some<W: Write>(out: &mut W, bytes: &[u8]) -> Result<usize, ScriptFault>
     ensures few { IfOk result (λ count. count ≤ length bytes.now) }
     ensures text { IfOk result (λ count. Appends (W.contents out.old) (W.contents out.new) (take count bytes.now)) }
     ensures kept { OnErr result (Keeps (W.contents out.old) (W.contents out.new)) }
+    ensures fault { IfErr result (λ fault. fault ≡ WriteFailed) }
 {
     match out.write(bytes) {
-        Ok(0) => Err(io::Error::from(ErrorKind::WriteZero)),
+        Ok(0) => Err(ScriptFault::WriteFailed),
         Ok(count) => Ok(count),
         Err(error) if error.kind() == ErrorKind::Interrupted => Ok(0),
-        Err(error) => Err(error),
+        Err(_) => Err(ScriptFault::WriteFailed),
     }
 }

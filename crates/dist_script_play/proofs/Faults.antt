@@ -1,25 +1,12 @@
 -- The faults that stop the playing of a script.
-use Rattle.std.proofs.Common.{◌≡◌, ◌∙◌, ◌≤◌, ◌⊎◌, inl, inr, ⊎_elim, ℕ, ◌+◌, true, false, cond, List, [], ◌∷◌, length, Option, Some, None, Result, Ok, Err, OnOk, IfErr, refl, sym, ap, subst, arith}
-use Rattle.std.specs.Io.{StartsWith}
-use Rattle.std.specs.Io.KnownBytes.{Consumes, IsAtEnd}
-use Rattle.std.proofs.KnownBytes.{Keeps-refl}
-use Rattle.std.proofs.lemmas.Bool.{lt-ltb}
-use Rattle.dist_core_setup.specs.declared.setup.Setup.{Setup}
-use Rattle.dist_world.specs.Setups.{names_repeat}
+use Rattle.dist_script_play.proofs.Words.{◌≡◌, ℕ, ◌+◌, ◌≤◌, true, false, cond, ◌⊎◌, List, [], ◌∷◌, length, IfErr, OnOk, Some, None, Ok, Err, Option, Result}
+use Rattle.dist_script_play.proofs.Words.{sym, refl, ap, ◌∙◌, subst, inl, inr, ⊎_elim, arith, lt-ltb, Keeps-refl, StartsWith, Consumes, IsAtEnd, Setup, World}
+use Rattle.dist_script_play.proofs.Words.{empty, Happening, names_repeat, Happenings, PutsFront, lines_of, ScriptFault, NoMemory, SameName, TooLong}
+use Rattle.dist_script_play.proofs.Words.{WriteFailed, BreaksOff, IsOfSystem, IsFront, IsPrinted, IsPrintedFrom, fault_said, happenings_text, steps_text}
+use Rattle.dist_script_play.proofs.Words.{BreaksOne, IsBad, IsCut, PutsOneOn, PutsOnePart, Stops, StopsWorld}
 use Rattle.dist_script.specs.Fault.{status_of, fault_line, StopsReading}
-use Rattle.dist_script.specs.Texts.{PutsFront}
-use Rattle.dist_script.specs.declared.fault.ScriptFault.{ScriptFault}
-use Rattle.dist_script.specs.declared.fault.ScriptFault.TheVariants.{TooLong, SameName, WriteFailed, NoMemory}
-use Rattle.dist_script.specs.Words.{lines_of}
 use Rattle.dist_script.specs.Scripts.{SoFar, nothing, with_line, unless_bad, with_lines, whole, all_good, Says, script_in}
-use Rattle.dist_script.specs.Scripts.Says.{Happenings}
-use Rattle.dist_world_model.specs.declared.happening.Happening.{Happening}
-use Rattle.dist_world_model.specs.World.{World, empty}
-use Rattle.dist_script_play.specs.Played.{happenings_text, steps_text, IsPrintedFrom, IsPrinted, IsFront, fault_said}
-use Rattle.dist_script_play.specs.Pages.{IsOfSystem, BreaksOff}
-use Rattle.dist_script_play.specs.Scenes.{PutsOneOn, PutsOnePart, BreaksOne, IsBad, IsCut, Stops, StopsWorld}
-use Rattle.dist_script_play.proofs.Lines.{not_long}
-use Rattle.dist_script_play.proofs.Worlds.{breaks_world}
+use Rattle.dist_script_play.proofs.{Lines.not_long, Worlds.breaks_world}
 
 -- ---- a text that says nothing has a fault of status 2
 

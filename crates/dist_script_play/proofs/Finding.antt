@@ -1,31 +1,13 @@
 -- Who can be up with a node stands in its table.
-use Rattle.std.proofs.Common.{◌≡◌, ℕ, zero, suc, ◌<◌, Bool, true, false, cond, List, [], ◌∷◌, Option, Some, None, Result, Ok, Err, IfOk, slice_get, length, refl, sym, ap, ◌∙◌, arith}
-use Rattle.std.specs.declared.alloc.AllocError.{AllocError}
-use Rattle.std.specs.Option.{option_map, option_and_then}
-use Rattle.std.specs.Ordering.{nat_cmp, is_eq}
-use Rattle.std.specs.List.{list_any}
+use Rattle.dist_script_play.proofs.Words.{◌≡◌, ℕ, zero, suc, ◌<◌, Bool, true, false, cond, List, [], ◌∷◌, length, IfOk, slice_get, Some, None, Ok, Err, Option}
+use Rattle.dist_script_play.proofs.Words.{Result, option_map, option_and_then, nat_cmp, is_eq, BTreeMap, BTreeSet, sym, refl, ap, ◌∙◌, arith, lt-ltb}
+use Rattle.dist_script_play.proofs.Words.{slice_get_within, get, contains, find, list_any, AllocError, Name, name_cmp, same_name, itself_lem, one_lem, Entry}
+use Rattle.dist_script_play.proofs.Words.{end_id, entry_from, entry_in, first_of, holds, table_of, End, UpRecord, get-table, NodeState, Counts, Life, World}
+use Rattle.dist_script_play.proofs.Words.{node_of, AreLater, ArePlaces, HasAllFrom, later_at, place_behind, place_of}
 use Rattle.std.specs.FinMap as map
-use Rattle.std.specs.FinMap.{get-entries, len-entries}
-use Rattle.std.specs.FinMap.Entries.{find}
-use Rattle.std.specs.BTreeMap.{BTreeMap, get}
-use Rattle.std.specs.BTreeSet.{BTreeSet, contains}
-use Rattle.std.proofs.lemmas.Option.{slice_get_within}
-use Rattle.std.proofs.lemmas.Bool.{lt-ltb}
-use Rattle.dist_names.specs.Order.{Name, name_cmp, same_name}
-use Rattle.dist_peers.specs.declared.entry.Entry.{Entry}
 use Rattle.dist_peers.specs.declared.entry.Entry.TheVariants as entry
-use Rattle.dist_core_ends.specs.declared.phase.Kind.TheVariants.{Out, In, Up}
-use Rattle.dist_core_ends.specs.declared.known.UpRecord.{UpRecord}
-use Rattle.dist_core_ends.specs.declared.known.End.{End}
 use Rattle.dist_core_ends.specs.declared.known.End.TheVariants as ends
-use Rattle.dist_core_ends.specs.Ends.{entry_in, entry_from, end_id, first_of, holds, table_of}
-use Rattle.dist_core_ends.proofs.Tables.{get-table}
-use Rattle.dist_names.proofs.Orders.{one_lem, itself_lem}
-use Rattle.dist_core.specs.Node.{NodeState}
-use Rattle.dist_world_model.specs.World.{World, Life}
-use Rattle.dist_world_model.specs.Agreement.{Counts}
-use Rattle.dist_world.specs.Asking.{node_of}
-use Rattle.dist_script_play.specs.Later.{ArePlaces, place_of, place_behind, later_at, AreLater, HasAllFrom}
+use Rattle.dist_core.proofs.Words.{get-entries, len-entries, In, Out, Up}
 
 -- ---- the end that is up makes an entry
 
@@ -100,10 +82,3 @@ module _ (w : World) (a : ℕ) (n : NodeState) (places : BTreeMap Name ℕ) (the
 -- nobody is in an empty set
 pub none_in : (later : BTreeSet ℕ) (b : ℕ) → later.keys ≡ [] → contains nat_cmp later b ≡ false
 none_in later b empty = ap (λ ks. list_any (λ k. is_eq (nat_cmp b k)) ks) empty
-
--- where no node runs there is nobody
-pub has_none : (w : World) (a : ℕ) (later : BTreeSet ℕ) → node_of w a ≡ None → later.keys ≡ [] → HasAllFrom later w a (suc a)
-has_none w a later none empty = record {
-  all = λ b l u. let both : Some u.life.node ≡ None = sym (counting w a b u) ∙ none in absurd cc;
-  within = λ b here. let nobody = none_in later b empty in absurd cc;
-}

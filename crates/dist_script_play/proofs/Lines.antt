@@ -1,20 +1,10 @@
 -- What the lines of a script for one node print, in turn.
-use Rattle.std.proofs.Common.{◌≡◌, ◌∙◌, ◌⊎◌, ℕ, ◌+◌, ◌<◌, ◌≤◌, cond, List, [], ◌++◌, length, drop, get_or, Option, Some, None, Result, Ok, Err, OnOk, IfErr, refl, sym, ap, subst, append_assoc, append-nil}
-use Rattle.std.specs.Io.KnownBytes.{Consumes, IsAtEnd}
-use Rattle.std.proofs.lemmas.Bool.{le-ltb}
-use Rattle.std.proofs.lemmas.List.{at_drop_more, at_drop_all}
-use Rattle.dist_script.specs.declared.script.ScriptLine.{ScriptLine}
-use Rattle.dist_script_play.specs.Lines.{table_text}
-use Rattle.dist_core_setup.specs.declared.setup.Setup.{Setup}
-use Rattle.dist_script_play.specs.Played.{Standing, line_text, after_line, lines_text, at_first, IsPrinted, fault_said, fault_in}
-use Rattle.dist_script.specs.Fault.{status_of}
-use Rattle.dist_script.specs.declared.fault.ScriptFault.{ScriptFault}
-use Rattle.dist_script.specs.declared.fault.ScriptFault.TheVariants.{TooLong, SameName, WriteFailed}
+use Rattle.dist_script_play.proofs.Words.{◌≡◌, ℕ, ◌+◌, ◌<◌, ◌≤◌, cond, ◌⊎◌, List, [], ◌++◌, length, get_or, drop, IfErr, OnOk, Some, None, Ok, Err, Option}
+use Rattle.dist_script_play.proofs.Words.{Result, sym, refl, ap, ◌∙◌, subst, append_assoc, append-nil, le-ltb, at_drop_all, at_drop_more, Consumes, IsAtEnd}
+use Rattle.dist_script_play.proofs.Words.{Setup, PutsFront, ScriptFault, SameName, TooLong, WriteFailed, table_text, BreaksOff, Puts, PutsPart, IsPrinted}
+use Rattle.dist_script_play.proofs.Words.{Standing, after_line, at_first, fault_in, fault_said, line_text, lines_text, Plays, PutsOne}
+use Rattle.dist_script.specs.{Fault.status_of, Scripts.Says, Scripts.script_in, declared.script.ScriptLine.ScriptLine}
 use Rattle.dist_script.specs.declared.fault.ScriptFault.TheVariants as fault
-use Rattle.dist_script.specs.Scripts.{Says, script_in}
-use Rattle.dist_script_play.specs.Scenes.{PutsOne, Plays}
-use Rattle.dist_script.specs.Texts.{PutsFront}
-use Rattle.dist_script_play.specs.Pages.{Puts, PutsPart, BreaksOff}
 use Rattle.dist_script_play.proofs.Pages.{puts_none, puts_more, part_more, breaks_off}
 
 -- what is not too long has the fault that its lines have

@@ -1,14 +1,8 @@
 -- What stands on a page, and what was written of it.
-use Rattle.std.proofs.Common.{◌≡◌, ◌∙◌, ◌⊎◌, inl, inr, ⊎_elim, ℕ, List, [], ◌++◌, length, drop, Option, Some, Result, Ok, Err, OnOk, IfErr, IsOk, refl, sym, ap, subst, append_assoc, append-nil}
-use Rattle.std.specs.Result.{IsErrAnd}
-use Rattle.std.specs.Io.{StartsWith}
-use Rattle.std.specs.Io.KnownBytes.{Appends, Keeps}
-use Rattle.std.proofs.KnownBytes.{Keeps-refl, Appends-nil, Appends-trans, Appends-kept, starts_with_rest}
-use Rattle.dist_script.specs.Texts.{PutsFront}
-use Rattle.dist_script.specs.declared.fault.ScriptFault.{ScriptFault}
-use Rattle.dist_script.specs.declared.fault.ScriptFault.TheVariants.{WriteFailed, NoMemory}
-use Rattle.dist_script.proofs.Fronts.{there, starts, front_of_front}
-use Rattle.dist_script_play.specs.Pages.{Puts, IsOfSystem, PutsPart, BreaksOff}
+use Rattle.dist_script_play.proofs.Words.{◌≡◌, ℕ, ◌⊎◌, List, [], ◌++◌, length, drop, IsErrAnd, IfErr, OnOk, IsOk, Some, Ok, Err, Option, Result, sym, refl, ap}
+use Rattle.dist_script_play.proofs.Words.{◌∙◌, subst, inl, inr, ⊎_elim, append_assoc, append-nil, Appends-kept, Appends-nil, Appends-trans, Keeps-refl}
+use Rattle.dist_script_play.proofs.Words.{starts_with_rest, StartsWith, Appends, Keeps, PutsFront, ScriptFault, NoMemory, WriteFailed, front_of_front, starts}
+use Rattle.dist_script_play.proofs.Words.{there, BreaksOff, IsOfSystem, Puts, PutsPart}
 
 -- what holds of the fault of a call holds of what `?` returns
 pub at_err : {X : Type 0} (P : ScriptFault → Type 0) (r : Result X ScriptFault) (f : ScriptFault) → IsErrAnd r (λ g. g ≡ f) → P f → IfErr r P

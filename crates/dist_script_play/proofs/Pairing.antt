@@ -1,18 +1,10 @@
 -- What is printed of pairs, one behind the other.
-use Rattle.std.proofs.Common.{◌≡◌, ℕ, zero, suc, ◌+◌, ◌-◌, ◌<◌, true, false, cond, List, [], ◌∷◌, ◌++◌, Option, Some, None, IsSome, ◌↔◌, ◌≢◌, length, refl, sym, ap, ◌∙◌, subst, arith, append-nil, append_assoc}
-use Rattle.std.specs.Io.KnownBytes.{Appends}
-use Rattle.std.proofs.KnownBytes.{Appends-nil, Appends-trans}
-use Rattle.std.specs.Ordering.{nat_cmp, is_eq, is_gt}
-use Rattle.std.specs.BTreeSet.{BTreeSet, contains, Updates, IsLowerBound}
-use Rattle.std.proofs.lemmas.List.{nil_from_length}
-use Rattle.std.proofs.lemmas.Bool.Decides.{nat_tests}
-use Rattle.dist_world_model.specs.World.{World}
-use Rattle.dist_world_model.specs.Agreement.{Counts}
-use Rattle.dist_world.specs.declared.agreement.Agreement.{Agreement}
-use Rattle.dist_script_play.specs.Worlds.{IsReported, reported_line, AreLinesOf, places_from, with_each, pairs, PutsAgreements}
-use Rattle.dist_script_play.specs.Later.{HasAllFrom, IsRowFrom}
-use Rattle.dist_script_play.proofs.Finding.{none_in}
+use Rattle.dist_script_play.proofs.Words.{◌≡◌, ℕ, zero, suc, ◌+◌, ◌-◌, ◌<◌, true, false, cond, ◌≢◌, ◌↔◌, List, [], ◌∷◌, ◌++◌, length, IsSome, Some, None}
+use Rattle.dist_script_play.proofs.Words.{Option, nat_cmp, is_eq, is_gt, BTreeSet, sym, refl, ap, ◌∙◌, subst, append_assoc, append-nil, arith, Appends-nil}
+use Rattle.dist_script_play.proofs.Words.{Appends-trans, nat_tests, nil_from_length, IsLowerBound, Updates, contains, Appends, Counts, World, Agreement}
+use Rattle.dist_script_play.proofs.Words.{HasAllFrom, IsRowFrom, AreLinesOf, IsReported, PutsAgreements, pairs, places_from, reported_line, with_each}
 use Rattle.dist_world.specs.Ups as Ups
+use Rattle.dist_script_play.proofs.Finding.{none_in}
 
 lines_behind : (w : World) (ps qs : List (ℕ × ℕ)) (s t : List ℕ) → AreLinesOf w ps s → AreLinesOf w qs t → AreLinesOf w (ps ++ qs) (s ++ t)
 lines_behind w [] qs s t e k = subst (λ x. AreLinesOf w qs (x ++ t)) (sym e) k
@@ -106,9 +98,6 @@ pub record PairsSoFar (w : World) (k : ℕ) (old new : Option (List ℕ)) : Type
   pub done : List ℕ
   pub put : Appends old new done
   pub rest : (t : List ℕ) → ArePairsFrom w k t → ArePairsFrom w 0 (done ++ t)
-
-pub pairs_begin : (w : World) (o : Option (List ℕ)) → PairsSoFar w 0 o o
-pairs_begin w o = record { done = []; put = Appends-nil o; rest = λ t p. p }
 
 pub pairs_go_on : (w : World) (k : ℕ) (o m n : Option (List ℕ)) (row : List ℕ) → PairsSoFar w k o m → IsRowFrom w k (suc k) row → Appends m n row → PairsSoFar w (k + 1) o n
 pairs_go_on w k o m n row so r put =

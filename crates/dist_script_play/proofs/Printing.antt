@@ -1,17 +1,7 @@
 -- What is printed in parts.
-use Rattle.std.proofs.Common.{◌≡◌, ◌∙◌, ℕ, zero, suc, ◌+◌, ◌<◌, ◌≤◌, List, [], ◌∷◌, ◌++◌, codes, Option, slice_get, get_or, length, drop, refl, sym, ap, subst, arith}
-use Rattle.std.specs.Io.KnownBytes.{Appends}
-use Rattle.std.proofs.KnownBytes.{Appends-nil, Appends-trans}
-use Rattle.std.proofs.lemmas.List.{at_drop_more, at_drop_all}
-use Rattle.dist_names.specs.Order.{Name}
-use Rattle.dist_peers.specs.declared.entry.Entry.{Entry}
-use Rattle.dist_core.specs.Node.{NodeState}
-use Rattle.dist_core_setup.specs.declared.setup.Setup.{Setup}
-use Rattle.dist_world_model.specs.World.{World}
-use Rattle.dist_world.specs.Asking.{node_of}
-use Rattle.dist_script.proofs.Fronts.{PutSoFar, more_put, all_put}
-use Rattle.dist_script_play.specs.Lines.{found_text, rows_text, table_lines, node_text}
-use Rattle.dist_script_play.specs.Worlds.{nodes_from, nodes_text}
+use Rattle.dist_script_play.proofs.Words.{◌≡◌, ℕ, zero, suc, ◌+◌, ◌<◌, ◌≤◌, List, [], ◌∷◌, ◌++◌, length, get_or, drop, slice_get, codes, Option, sym, refl, ap}
+use Rattle.dist_script_play.proofs.Words.{◌∙◌, subst, arith, Appends-nil, Appends-trans, at_drop_all, at_drop_more, Appends, Name, Entry, Setup, NodeState}
+use Rattle.dist_script_play.proofs.Words.{append-nil, concat, World, node_of, PutSoFar, all_put, more_put, found_text, node_text, rows_text, table_lines, nodes_from, nodes_text}
 
 -- nothing more
 pub nothing : (a : Option (List ℕ)) → Appends a a []
@@ -24,6 +14,11 @@ in_two a b c x y p q = Appends-trans a b c x y p q
 -- three parts
 pub in_three : (a b c d : Option (List ℕ)) (x y z : List ℕ) → Appends a b x → Appends b c y → Appends c d z → Appends a d (x ++ y ++ z)
 in_three a b c d x y z p q r = Appends-trans a c d (x ++ y) z (Appends-trans a b c x y p q) r
+
+-- four parts, as they are joined
+pub in_four : (a b c d e : Option (List ℕ)) (x y z w : List ℕ) → Appends a b x → Appends b c y → Appends c d z → Appends d e w → Appends a e (concat (x ∷ y ∷ z ∷ w ∷ []))
+in_four a b c d e x y z w p q r s =
+    Appends-trans a b e x _ p (Appends-trans b c e y _ q (Appends-trans c d e z _ r (subst (Appends d e) (sym (append-nil w)) s)))
 
 -- ---- the rows of a table
 

@@ -1,17 +1,9 @@
 -- What readers have to give.
-use Rattle.std.proofs.Common.{◌≡◌, ◌∙◌, ◌+◌, ◌-◌, ◌≤◌, ◌<◌, ℕ, zero, suc, Bool, true, false, cond, [], ◌∷◌, ◌++◌, length, get_or, set, replicate, Option, Some, None, Result, Ok, Err, refl, sym, ap, arith, append_assoc, append-nil}
-use Rattle.std.specs.Prelude.{is_some}
-use Rattle.std.proofs.lemmas.List.{length_push, get_or_past}
-use Rattle.std.specs.Int.{w16}
-use Rattle.dist_frames.specs.Reader.{Reader, next_body, to_come, without_next, as_linked}
-use Rattle.dist_frames.specs.Reader.Reader.{Short, Linked}
-use Rattle.dist_frames.specs.Stream.{has_first, front, behind, bodies_up_to}
-use Rattle.dist_peers.specs.declared.entry.EndId.{EndId}
-use Rattle.dist_core_ends.specs.declared.why.Why.{Why}
-use Rattle.dist_core.specs.declared.reply.Reply.{Reply}
-use Rattle.dist_core.specs.declared.step_error.StepError.{StepError}
-use Rattle.dist_core.specs.Node.{NodeState}
-use Rattle.dist_script_play.specs.Played.{Readers, reader_of, with_reader, readers_to, open_readers, Standing, after_frame}
+use Rattle.dist_script_play.proofs.Words.{◌≡◌, ℕ, zero, suc, ◌+◌, ◌-◌, ◌<◌, ◌≤◌, Bool, true, false, cond, [], ◌∷◌, ◌++◌, length, get_or, set, replicate}
+use Rattle.dist_script_play.proofs.Words.{is_some, Some, None, Ok, Err, Option, Result, sym, refl, ap, ◌∙◌, append_assoc, append-nil, arith, w16, get_or_past}
+use Rattle.dist_script_play.proofs.Words.{length_push, Reader, as_linked, next_body, to_come, without_next, EndId, Why, NodeState, Reply, StepError, Readers}
+use Rattle.dist_script_play.proofs.Words.{Standing, after_frame, open_readers, reader_of, readers_to, with_reader}
+use Rattle.dist_frames.specs.{Reader.Reader.Linked, Reader.Reader.Short, Stream.has_first, Stream.front, Stream.behind, Stream.bodies_up_to}
 
 -- where no body is next, none is dropped
 pub no_next : (r : Reader) → None ≡ next_body r → without_next r ≡ r

@@ -1,18 +1,11 @@
 -- What frames print, in turn.
-use Rattle.std.proofs.Common.{◌≡◌, ◌∙◌, ◌<◌, ◌≤◌, ℕ, zero, suc, Bool, true, false, List, [], ◌∷◌, ◌++◌, length, Option, Some, None, Result, Ok, Err, refl, sym, ap, subst, arith, append_assoc, append-nil}
-use Rattle.std.proofs.lemmas.List.{set-get_or}
-use Rattle.std.specs.Io.KnownBytes.{Appends}
-use Rattle.std.proofs.KnownBytes.{Appends-nil, Appends-trans}
-use Rattle.dist_frames.specs.Reader.{next_body, to_come, without_next, unreported, without_count}
+use Rattle.dist_script_play.proofs.Words.{◌≡◌, ℕ, zero, suc, ◌<◌, ◌≤◌, Bool, true, false, List, [], ◌∷◌, ◌++◌, length, Some, None, Ok, Err, Option, Result, sym}
+use Rattle.dist_script_play.proofs.Words.{refl, ap, ◌∙◌, subst, append_assoc, append-nil, arith, Appends-nil, Appends-trans, set-get_or, Appends, next_body}
+use Rattle.dist_script_play.proofs.Words.{to_come, unreported, without_count, without_next, EndId, NodeState, step, Reply, StepError, Readers, Received}
+use Rattle.dist_script_play.proofs.Words.{Standing, after_frame, after_received, behind_text, frame_received, is_said, packets_text, reader_of, received}
+use Rattle.dist_script_play.proofs.Words.{received_frames, received_text, step_text, with_reader, with_received, without_frame, Receives}
 use Rattle.dist_frames.specs.Reader.Reader.{Short}
-use Rattle.dist_peers.specs.declared.entry.EndId.{EndId}
 use Rattle.dist_core.specs.declared.event.Event.TheVariants as event
-use Rattle.dist_core.specs.declared.reply.Reply.{Reply}
-use Rattle.dist_core.specs.declared.step_error.StepError.{StepError}
-use Rattle.dist_core.specs.Node.{NodeState}
-use Rattle.dist_core.specs.Step.{step}
-use Rattle.dist_script_play.specs.Played.{Readers, reader_of, with_reader, with_received, Standing, Received, step_text, without_frame, after_frame, behind_text, frame_received, received_frames, received, received_text, after_received, is_said, packets_text}
-use Rattle.dist_script_play.specs.Scenes.{Receives}
 use Rattle.dist_script_play.proofs.Reading.{no_next, fewer}
 
 both_behind : (a b : List ℕ) (h : Received) → behind_text (a ++ b) h ≡ behind_text a (behind_text b h)

@@ -1,13 +1,8 @@
 -- What happenings print, in turn.
-use Rattle.std.proofs.Common.{◌≡◌, ◌∙◌, ℕ, suc, ◌+◌, ◌<◌, ◌≤◌, List, [], ◌∷◌, ◌++◌, length, take, drop, Option, Some, None, refl, sym, ap, subst, arith, append_assoc, append-nil}
-use Rattle.dist_world_model.specs.declared.happening.Happening.{Happening}
-use Rattle.dist_world_model.specs.World.{World}
+use Rattle.dist_script_play.proofs.Words.{◌≡◌, ℕ, suc, ◌+◌, ◌<◌, ◌≤◌, List, [], ◌∷◌, ◌++◌, length, take, drop, Some, None, Option, sym, refl, ap, ◌∙◌, subst}
+use Rattle.dist_script_play.proofs.Words.{append_assoc, append-nil, arith, count_applied, one_where, run, World, Happening, ScriptFault, Puts, PutsPart}
+use Rattle.dist_script_play.proofs.Words.{closed_by, closed_now, happenings_text, closed_after}
 use Rattle.dist_world_model.specs.Happenings.{applied_at, happens, ticked_on}
-use Rattle.dist_world_model.specs.Run.{run, one_where, count_applied}
-use Rattle.dist_script_play.specs.Played.{closed_now, closed_by, happenings_text}
-use Rattle.dist_script.specs.declared.fault.ScriptFault.{ScriptFault}
-use Rattle.dist_script_play.specs.Pages.{Puts, PutsPart}
-use Rattle.dist_script_play.specs.Scenes.{closed_after}
 use Rattle.dist_script_play.proofs.Pages.{puts_none, puts_more, part_more}
 
 -- of one happening the line is that of the end that it closed

@@ -7,7 +7,7 @@ use Rattle.dist_core.specs.declared.step_error.StepError.TheVariants as error
 use Rattle.dist_core.specs.Node.{NodeState}
 use Rattle.dist_core.specs.Answers.{Refuses}
 use Rattle.dist_script_play.specs.Lines.{refused_line}
-use Rattle.dist_script_play.specs.Played.{Standing, step_text, reply_in, after_step}
+use Rattle.dist_script_play.specs.Played.{Standing, step_text, up_in, after_step}
 
 -- where memory suffices, a refusal is the definition's
 refused : (e : StepError) (s : Result (Reply × NodeState) StepError) → Refuses e s → (e ≡ error.NoMemory → ⊥) → s ≡ Err e
@@ -25,6 +25,6 @@ refused_text a b e s r n p = subst (λ x. Appends a b (step_text x)) (sym (refus
 pub refused_after : (x y : Standing) (e : StepError) (s : Result (Reply × NodeState) StepError) → Refuses e s → (e ≡ error.NoMemory → ⊥) → y ≡ x → y ≡ after_step x s
 refused_after x y e s r n p = p ∙ ap (after_step x) (sym (refused e s r n))
 
--- it returns no reply
-pub refused_reply : (e : StepError) (s : Result (Reply × NodeState) StepError) → Refuses e s → (e ≡ error.NoMemory → ⊥) → None ≡ reply_in s
-refused_reply e s r n = ap reply_in (sym (refused e s r n))
+-- it brought no end up
+pub refused_up : (e : StepError) (s : Result (Reply × NodeState) StepError) → Refuses e s → (e ≡ error.NoMemory → ⊥) → None ≡ up_in s
+refused_up e s r n = ap up_in (sym (refused e s r n))

@@ -1,20 +1,8 @@
 -- What is printed of a world.
-use Rattle.std.proofs.Common.{◌≡◌, ◌⊎◌, inl, inr, ⊎_elim, ℕ, List, [], ◌++◌, length, Option, Some, Result, Ok, Err, OnOk, IfErr, IsOk, refl, ap, subst, append-nil}
-use Rattle.std.specs.Io.KnownBytes.{Appends}
-use Rattle.std.proofs.KnownBytes.{Appends-trans}
-use Rattle.dist_core_setup.specs.declared.setup.Setup.{Setup}
-use Rattle.dist_world_model.specs.declared.happening.Happening.{Happening}
-use Rattle.dist_world_model.specs.World.{World, empty}
-use Rattle.dist_world_model.specs.Run.{run, count_applied}
-use Rattle.dist_script_play.specs.Lines.{applied_line}
-use Rattle.dist_script_play.specs.Worlds.{nodes_text, PutsAgreements}
-use Rattle.dist_script.specs.Texts.{PutsFront}
-use Rattle.dist_script.specs.declared.fault.ScriptFault.{ScriptFault}
-use Rattle.dist_script.specs.declared.fault.ScriptFault.TheVariants.{WriteFailed, NoMemory}
-use Rattle.dist_script_play.specs.Played.{happenings_text, IsEnd, IsPrintedFrom}
-use Rattle.dist_script_play.specs.Pages.{Puts, PutsPart}
-use Rattle.dist_script_play.specs.Scenes.{PutsOne, PutsOneOn, PutsOnePart, BreaksOne}
-use Rattle.dist_script.proofs.Fronts.{there}
+use Rattle.dist_script_play.proofs.Words.{◌≡◌, ℕ, ◌⊎◌, List, [], ◌++◌, length, IfErr, OnOk, IsOk, Some, Ok, Err, Option, Result, refl, ap, subst, inl, inr}
+use Rattle.dist_script_play.proofs.Words.{⊎_elim, append-nil, Appends-trans, Appends, Setup, count_applied, run, World, empty, Happening, PutsFront}
+use Rattle.dist_script_play.proofs.Words.{ScriptFault, NoMemory, WriteFailed, there, applied_line, Puts, PutsPart, IsEnd, IsPrintedFrom, happenings_text}
+use Rattle.dist_script_play.proofs.Words.{BreaksOne, PutsOne, PutsOneOn, PutsOnePart, PutsAgreements, nodes_text}
 use Rattle.dist_script_play.proofs.Pages.{line_lost, put_on_page, broken_on_page, puts_more, part_more, whole, breaks_off}
 
 -- its end

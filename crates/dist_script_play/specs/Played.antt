@@ -70,10 +70,10 @@ abbrev pub step_text : Result (Reply × NodeState) StepError → List ℕ
 step_text (Ok x) = reply_line x.0
 step_text (Err e) = refused_line e
 
--- the reply, if the step was not refused
-abbrev pub reply_in : Result (Reply × NodeState) StepError → Option Reply
-reply_in (Ok x) = Some x.0
-reply_in (Err e) = None
+-- whether it brought its end up, if the step was not refused
+abbrev pub up_in : Result (Reply × NodeState) StepError → Option Bool
+up_in (Ok x) = Some (let r = x.0 in is_some r.up)
+up_in (Err e) = None
 
 -- the state after it; a refusal changes nothing
 abbrev pub after_step : Standing → Result (Reply × NodeState) StepError → Standing
@@ -87,13 +87,13 @@ abbrev pub without_frame : Standing → EndId → Standing
 without_frame s x = record s { readers = with_reader s.readers x (without_next (reader_of s.readers x)) }
 
 -- the readers after that frame was given to the node: what follows it is packets if it brought the end up, and dropped if it was refused
-abbrev pub readers_on : Readers → EndId → Option Reply → Readers
+abbrev pub readers_on : Readers → EndId → Option Bool → Readers
 readers_on readers x None = with_reader readers x (Short [])
-readers_on readers x (Some r) = if is_some r.up then with_reader readers x (as_linked (reader_of readers x)) else readers
+readers_on readers x (Some up) = if up then with_reader readers x (as_linked (reader_of readers x)) else readers
 
 -- the state after that
 abbrev pub after_frame : Standing → EndId → Result (Reply × NodeState) StepError → Standing
-after_frame s x made = let after = after_step s made in record { node = after.node; readers = readers_on after.readers x (reply_in made) }
+after_frame s x made = let after = after_step s made in record { node = after.node; readers = readers_on after.readers x (up_in made) }
 
 -- what frames print, and the state after them
 pub record Received : Type 0 where

@@ -15,11 +15,10 @@ ghost use Rattle.dist_script_play.specs.Later.{ArePlaces, later_at, is_this, Are
 use crate::print;
 use dist_core::{Node, Setup};
 use dist_names::{NodeName, order_of_names};
-use dist_script::{ScriptFault, or_write_failed};
+use dist_script::ScriptFault;
 use dist_world::{Agreement, World};
 use std::alloc::{AllocError, Global};
 use std::collections::{BTreeMap, BTreeSet};
-use std::io;
 use std::io::Write;
 
 // Puts the place of a name, and returns whether it had none.
@@ -112,7 +111,7 @@ fn print_found<W: Write>(
     a: Option<&Setup>,
     b: Option<&Setup>,
     found: &Agreement,
-) -> io::Result<()>
+) -> Result<(), ScriptFault>
     ensures { OnOk result (Appends (W.contents out.old) (W.contents out.new) (pair_line (Some found.now) (option_copied a.entry) (option_copied b.entry))) }
 {
     match (a, b) {
@@ -122,7 +121,12 @@ fn print_found<W: Write>(
 }
 
 // What two nodes have in common, where they are up with one another.
-fn print_agreement<W: Write>(world: &World, a: usize, b: usize, out: &mut W) -> io::Result<()>
+fn print_agreement<W: Write>(
+    world: &World,
+    a: usize,
+    b: usize,
+    out: &mut W,
+) -> Result<(), ScriptFault>
     requires { a < b }
     ensures { OnOk result ((noted : Option Found) × IsReported world.now a b noted
         × Appends (W.contents out.old) (W.contents out.new) (reported_line world.now a b noted)) }
@@ -140,7 +144,7 @@ fn print_later<W: Write>(
     place: usize,
     later: BTreeSet<usize>,
     out: &mut W,
-) -> io::Result<()>
+) -> Result<(), ScriptFault>
     requires place { place < length world.now.setups }
     requires later { HasAllFrom later world.now place (suc place) }
     ensures { OnOk result ((text : List ℕ) × IsRowFrom world.now place (suc place) text × Appends (W.contents out.old) (W.contents out.new) text) }
@@ -165,7 +169,7 @@ fn print_agreements_from<W: Write>(
     ensures { OnOk result ((text : List ℕ) × IsRowFrom world.now place (suc place) text × Appends (W.contents out.old) (W.contents out.new) text) }
 {
     let later = later_ones(alloc, world, place, places)?;
-    or_write_failed(print_later(world, place, later, out))
+    print_later(world, place, later, out)
 }
 
 /// What each two nodes have in common that are up with one another, the lesser place first, in order. Only who stands in a

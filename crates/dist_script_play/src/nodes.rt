@@ -5,7 +5,7 @@ ghost use Rattle.std.specs.Io.KnownBytes.{Appends};
 ghost use Rattle.dist_script_play.specs.Worlds.{nodes_text};
 
 use crate::print;
-use dist_script::{ScriptFault, or_write_failed};
+use dist_script::ScriptFault;
 use dist_world::World;
 use std::io::Write;
 
@@ -17,7 +17,7 @@ pub fn print_nodes<W: Write>(world: &World, out: &mut W) -> Result<(), ScriptFau
     let setups = world.setups();
     for place in 0..setups.len() {
         let incarnation = world.node(place);
-        or_write_failed(print::node(out, &setups[place].name, incarnation))?;
+        print::node(out, &setups[place].name, incarnation)?;
     }
     Ok(())
 }

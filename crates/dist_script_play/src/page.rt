@@ -52,7 +52,7 @@ impl Printout {
         ensures page { self.new.text.items ≡ [] }
         ensures fault { IfErr result (λ fault. fault ≡ WriteFailed) }
     {
-        let put = or_write_failed(put_bytes(out, self.text.as_slice()));
+        let put = put_bytes(out, self.text.as_slice());
         self.text.clear();
         put?;
         Ok(())

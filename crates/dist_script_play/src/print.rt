@@ -13,9 +13,8 @@ ghost use Rattle.dist_script_play.specs.Lines.{node_text, closed_line, applied_l
 use dist_core::{Node, Reply, StepError, UpRecord, Why};
 use dist_names::{Creation, NodeName};
 use dist_peers::{EndId, Entry};
-use dist_script::{Piece, put, put_bytes};
+use dist_script::{Piece, ScriptFault, put, put_bytes, put_piece};
 use dist_world::Agreement;
-use std::io;
 use std::io::Write;
 
 const NOTHING: Piece<'static> = Piece::Text(b"");
@@ -31,18 +30,18 @@ fn creation(creation: Option<Creation>) -> Piece<'static>
 }
 
 // What is sent, or that nothing is.
-fn said_piece(say: &[u8]) -> Piece<'_>
-    ensures { text_of result ≡ said_text say.now }
+fn put_said<W: Write>(out: &mut W, say: &[u8]) -> Result<(), ScriptFault>
+    ensures { OnOk result (Appends (W.contents out.old) (W.contents out.new) (said_text say.now)) }
 {
     if say.is_empty() {
-        Piece::Text(b"-")
+        put_bytes(out, b"-")
     } else {
-        Piece::Digits(say)
+        put_piece(out, Piece::Digits(say))
     }
 }
 
 // The end that a step closed, and why.
-fn write_closed<W: Write>(out: &mut W, closed: Option<(EndId, Why)>) -> io::Result<()>
+fn write_closed<W: Write>(out: &mut W, closed: Option<(EndId, Why)>) -> Result<(), ScriptFault>
     ensures { OnOk result (Appends (W.contents out.old) (W.contents out.new) (closed_text closed)) }
 {
     match closed {
@@ -60,7 +59,7 @@ fn write_closed<W: Write>(out: &mut W, closed: Option<(EndId, Why)>) -> io::Resu
 }
 
 // The record of the end that came up, if one did, and the end of the line.
-fn came_up<W: Write>(out: &mut W, up: Option<&UpRecord>) -> io::Result<()>
+fn came_up<W: Write>(out: &mut W, up: Option<&UpRecord>) -> Result<(), ScriptFault>
     ensures { OnOk result (Appends (W.contents out.old) (W.contents out.new) (up_text (option_copied up.entry))) }
 {
     match up {
@@ -81,23 +80,19 @@ fn came_up<W: Write>(out: &mut W, up: Option<&UpRecord>) -> io::Result<()>
 }
 
 // The end of a reply, and what it says.
-fn put_saying<W: Write>(out: &mut W, id: EndId, say: &[u8]) -> io::Result<()>
+#[tactic(auto, using(crate::proofs::Printing::in_four))]
+fn put_saying<W: Write>(out: &mut W, id: EndId, say: &[u8]) -> Result<(), ScriptFault>
     ensures { OnOk result (Appends (W.contents out.old) (W.contents out.new) (saying_text id say.now)) }
 {
-    put(
-        out,
-        &[
-            Piece::Text(b"end "),
-            Piece::Number(id.0 as u64),
-            Piece::Text(b" say "),
-            said_piece(say),
-        ],
-    )
+    put_bytes(out, b"end ")?;
+    put_piece(out, Piece::Number(id.0 as u64))?;
+    put_bytes(out, b" say ")?;
+    put_said(out, say)
 }
 
 /// What a step returned.
 #[tactic(auto, using(crate::proofs::Printing::in_three))]
-pub fn reply<W: Write>(out: &mut W, reply: &Reply) -> io::Result<()>
+pub fn reply<W: Write>(out: &mut W, reply: &Reply) -> Result<(), ScriptFault>
     ensures { OnOk result (Appends (W.contents out.old) (W.contents out.new) (reply_line reply.now)) }
 {
     put_saying(out, reply.end_, reply.say.as_slice())?;
@@ -159,7 +154,7 @@ fn detail(error: StepError) -> [Piece<'static>; 4]
 
 /// Why a step was refused.
 #[tactic(auto, using(crate::proofs::Printing::in_three))]
-pub fn write_refused<W: Write>(out: &mut W, error: StepError) -> io::Result<()>
+pub fn write_refused<W: Write>(out: &mut W, error: StepError) -> Result<(), ScriptFault>
     ensures { OnOk result (Appends (W.contents out.old) (W.contents out.new) (refused_line error)) }
 {
     put(
@@ -174,7 +169,7 @@ pub fn write_refused<W: Write>(out: &mut W, error: StepError) -> io::Result<()>
 }
 
 /// How many packets of a linked stream ended.
-pub fn write_skipped<W: Write>(out: &mut W, count: usize) -> io::Result<()>
+pub fn write_skipped<W: Write>(out: &mut W, count: usize) -> Result<(), ScriptFault>
     ensures { OnOk result (Appends (W.contents out.old) (W.contents out.new) (skipped_line count)) }
 {
     put(
@@ -220,7 +215,7 @@ fn standing(entry: Entry) -> [Piece<'static>; 4]
 }
 
 // The record of an end that is up, if the peer has one, and the end of the line.
-fn record<W: Write>(out: &mut W, kept: Option<&UpRecord>) -> io::Result<()>
+fn record<W: Write>(out: &mut W, kept: Option<&UpRecord>) -> Result<(), ScriptFault>
     ensures { OnOk result (Appends (W.contents out.old) (W.contents out.new) (record_text (option_copied kept.entry))) }
 {
     match kept {
@@ -247,7 +242,12 @@ fn up_record(node: &Node, entry: Entry) -> Option<&UpRecord>
 
 // A row of the table.
 #[tactic(auto, using(crate::proofs::Printing::in_three))]
-fn write_row<W: Write>(out: &mut W, node: &Node, peer: &NodeName, entry: Entry) -> io::Result<()>
+fn write_row<W: Write>(
+    out: &mut W,
+    node: &Node,
+    peer: &NodeName,
+    entry: Entry,
+) -> Result<(), ScriptFault>
     ensures { OnOk result (Appends (W.contents out.old) (W.contents out.new) (row_text node.now (peer.now, entry))) }
 {
     put_bytes(out, peer.bytes())?;
@@ -257,7 +257,7 @@ fn write_row<W: Write>(out: &mut W, node: &Node, peer: &NodeName, entry: Entry) 
 
 // The row at this place of the table, where there is one.
 #[tactic(auto, using(crate::proofs::Printing::nothing))]
-fn write_nth_row<W: Write>(out: &mut W, node: &Node, place: usize) -> io::Result<()>
+fn write_nth_row<W: Write>(out: &mut W, node: &Node, place: usize) -> Result<(), ScriptFault>
     ensures { OnOk result (Appends (W.contents out.old) (W.contents out.new) (found_text node.now (slice_get (map.entries (table_of node.now.ends)) place))) }
 {
     match node.entry_at(place) {
@@ -268,7 +268,7 @@ fn write_nth_row<W: Write>(out: &mut W, node: &Node, place: usize) -> io::Result
 
 /// The table of the node's peers in name order, or that it has none.
 #[tactic(auto, using(crate::proofs::Printing::nothing))]
-pub fn table<W: Write>(out: &mut W, node: &Node) -> io::Result<()>
+pub fn table<W: Write>(out: &mut W, node: &Node) -> Result<(), ScriptFault>
     ensures { OnOk result (Appends (W.contents out.old) (W.contents out.new) (table_text node.now)) }
 {
     if node.entries() == 0 {
@@ -281,7 +281,12 @@ pub fn table<W: Write>(out: &mut W, node: &Node) -> io::Result<()>
 }
 
 /// The end of a node that a happening closed, and why.
-pub fn closed_end<W: Write>(out: &mut W, node: usize, id: EndId, why: Why) -> io::Result<()>
+pub fn closed_end<W: Write>(
+    out: &mut W,
+    node: usize,
+    id: EndId,
+    why: Why,
+) -> Result<(), ScriptFault>
     ensures { OnOk result (Appends (W.contents out.old) (W.contents out.new) (closed_line node id why)) }
 {
     put(
@@ -299,7 +304,7 @@ pub fn closed_end<W: Write>(out: &mut W, node: usize, id: EndId, why: Why) -> io
 }
 
 /// How many happenings of a script applied.
-pub fn write_applied<W: Write>(out: &mut W, applied: usize, all: usize) -> io::Result<()>
+pub fn write_applied<W: Write>(out: &mut W, applied: usize, all: usize) -> Result<(), ScriptFault>
     ensures { OnOk result (Appends (W.contents out.old) (W.contents out.new) (applied_line applied all)) }
 {
     put(
@@ -316,7 +321,11 @@ pub fn write_applied<W: Write>(out: &mut W, applied: usize, all: usize) -> io::R
 
 /// How a node of a world stands: the creation and the table of its running incarnation, or that it is halted.
 #[tactic(auto, using(crate::proofs::Printing::in_two))]
-pub fn node<W: Write>(out: &mut W, name: &NodeName, incarnation: Option<&Node>) -> io::Result<()>
+pub fn node<W: Write>(
+    out: &mut W,
+    name: &NodeName,
+    incarnation: Option<&Node>,
+) -> Result<(), ScriptFault>
     ensures { OnOk result (Appends (W.contents out.old) (W.contents out.new) (node_text name.now (option_copied incarnation.entry))) }
 {
     match incarnation {
@@ -350,7 +359,7 @@ pub fn agreement<'n, W: Write>(
     a: &'n NodeName,
     b: &'n NodeName,
     found: &Agreement,
-) -> io::Result<()>
+) -> Result<(), ScriptFault>
     ensures { OnOk result (Appends (W.contents out.old) (W.contents out.new) (agree_line a.now b.now found.now)) }
 {
     put(

@@ -5,7 +5,7 @@ ghost use Rattle.std.specs.Io.KnownBytes.{Appends};
 ghost use Rattle.dist_frames.specs.Reader.{to_come};
 ghost use Rattle.dist_core.specs.Step.{step};
 ghost use Rattle.dist_script_play.specs.Lines.{refused_line, reply_line, table_text};
-ghost use Rattle.dist_script_play.specs.Played.{at_first, step_text, reply_in, after_step, open_readers, reader_of, after_frame};
+ghost use Rattle.dist_script_play.specs.Played.{at_first, step_text, up_in, after_step, open_readers, reader_of, after_frame};
 ghost use Rattle.dist_script_play.specs.Played.{received_frames, received, received_text, after_received, packets_text, line_text, after_line};
 ghost use Rattle.dist_script_play.specs.Scenes.{Receives};
 
@@ -14,7 +14,7 @@ use crate::readers::Readers;
 use dist_core::{Event, Node, Reply, Setup, StepError, Still};
 use dist_names::ByteString;
 use dist_peers::EndId;
-use dist_script::{ScriptFault, ScriptLine, or_write_failed};
+use dist_script::{ScriptFault, ScriptLine, put_bytes};
 use std::alloc::Global;
 use std::io::Write;
 use std::marker::Model;
@@ -41,7 +41,7 @@ fn print_refusal<W: Write>(error: StepError, out: &mut W) -> Result<(), ScriptFa
 {
     match error {
         StepError::NoMemory => Err(ScriptFault::NoMemory),
-        _ => or_write_failed(print::write_refused(out, error)),
+        _ => print::write_refused(out, error),
     }
 }
 
@@ -50,11 +50,11 @@ fn print_packets<W: Write>(any: bool, skipped: usize, out: &mut W) -> Result<(),
     ensures { OnOk result (Appends (W.contents out.old) (W.contents out.new) (packets_text any skipped)) }
 {
     if skipped > 0 {
-        or_write_failed(print::write_skipped(out, skipped))
+        print::write_skipped(out, skipped)
     } else if any {
         Ok(())
     } else {
-        or_write_failed(out.write_all(b"waiting\n"))
+        put_bytes(out, b"waiting\n")
     }
 }
 
@@ -96,41 +96,44 @@ impl NodeScene {
     pub fn print_table<W: Write>(&self, out: &mut W) -> Result<(), ScriptFault>
         ensures { OnOk result (Appends (W.contents out.old) (W.contents out.new) (table_text self.now.node)) }
     {
-        or_write_failed(print::table(out, &self.node))
+        print::table(out, &self.node)
     }
 
-    // Makes a step and prints the result. Returns the reply, if the step was not refused.
-    #[tactic(auto, using(crate::proofs::Steps::refused_text, crate::proofs::Steps::refused_after, crate::proofs::Steps::refused_reply))]
+    // Makes a step and prints the result. Returns whether it brought its end up, if it was not refused.
+    #[tactic(auto, using(crate::proofs::Steps::refused_text, crate::proofs::Steps::refused_after, crate::proofs::Steps::refused_up))]
     fn step<W: Write>(
         &mut self,
         alloc: Global,
         event: &Event,
         fresh: u32,
         out: &mut W,
-    ) -> Result<Option<Reply>, ScriptFault>
+    ) -> Result<Option<bool>, ScriptFault>
         ensures text { OnOk result (Appends (W.contents out.old) (W.contents out.new) (step_text (step self.old.node event.now fresh))) }
         ensures after { OnOk result (self.new ≡ after_step self.old (step self.old.node event.now fresh)) }
-        ensures reply { IfOk result (λ reply. reply ≡ reply_in (step self.old.node event.now fresh)) }
+        ensures up { IfOk result (λ up. up ≡ up_in (step self.old.node event.now fresh)) }
     {
-        match self.node.step(alloc, event, fresh) {
+        let made = self.node.step(alloc, event, fresh);
+        match &made {
             Ok(reply) => {
-                self.print_reply(&reply, out)?;
-                Ok(Some(reply))
+                self.print_reply(reply, out)?;
+                Ok(Some(reply.up.is_some()))
             }
             Err(error) => {
-                print_refusal(error, out)?;
+                print_refusal(*error, out)?;
                 Ok(None)
             }
         }
     }
 
-    // Prints a reply, and drops the reader of the end that its step closed.
+    // Prints a reply, and drops the reader of the end that its step closed. It stays a call of its own, so that the reply, which is long,
+    // stays in one place.
+    #[inline(never)]
     fn print_reply<W: Write>(&mut self, reply: &Reply, out: &mut W) -> Result<(), ScriptFault>
         ensures text { OnOk result (Appends (W.contents out.old) (W.contents out.new) (reply_line reply.now)) }
         ensures node { self.new.node ≡ self.old.node }
         ensures readers { OnOk result (self.new.readers ≡ open_readers self.old.readers reply.now.closed) }
     {
-        or_write_failed(print::reply(out, reply))?;
+        print::reply(out, reply)?;
         if let Some((closed, _)) = reply.closed {
             self.readers.forget(closed);
         }
@@ -189,8 +192,8 @@ impl NodeScene {
     {
         let body = ByteString::from_vec(body);
         match self.step(alloc, &Event::Frame { end_, body }, fresh, out)? {
-            Some(reply) if reply.up.is_none() => {}
-            Some(_) => self.readers.to_linked(end_),
+            Some(true) => self.readers.to_linked(end_),
+            Some(false) => {}
             None => self.readers.forget(end_),
         }
         Ok(())

@@ -12,7 +12,7 @@ ghost use Rattle.dist_script_play.specs.Scenes.{closed_after, PutsOne, PutsOneOn
 use crate::page::{Printout, on_page};
 use crate::{print, print_agreements, print_nodes};
 use dist_core::Setup;
-use dist_script::{ScriptFault, or_write_failed};
+use dist_script::ScriptFault;
 use dist_world::{Happening, World, WorldError};
 use std::alloc::Global;
 use std::io::Write;
@@ -50,7 +50,7 @@ fn put_closed<W: Write>(
         return Ok(());
     };
     page.line.clear();
-    on_page(or_write_failed(print::closed_end(&mut page.line, node, end_, why)))?;
+    on_page(print::closed_end(&mut page.line, node, end_, why))?;
     page.put_line(out)?;
     Ok(())
 }
@@ -117,7 +117,7 @@ fn print_end<W: Write>(
 ) -> Result<(), ScriptFault>
     ensures { OnOk result (PutsOne (IsEnd world.now applied all) (W.contents out.old) (W.contents out.new)) }
 {
-    or_write_failed(print::write_applied(out, applied, all))?;
+    print::write_applied(out, applied, all)?;
     print_nodes(world, out)?;
     print_agreements(alloc, world, out)?;
     Ok(())

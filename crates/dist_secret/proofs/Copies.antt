@@ -1,14 +1,9 @@
 -- Rows that are inserted one after the other, in order, stand in order.
 use Rattle.std.proofs.Common.{◌≡◌, ℕ, List, [], ◌∷◌, ◌++◌, refl, sym, ap, ◌∙◌, subst, append_assoc}
-use Rattle.std.specs.List.{AllByRecursion}
-use Rattle.std.specs.List.Sorted.{IsStrictlySortedBy}
-use Rattle.std.specs.declared.cmp.Ordering.TheVariants.{Less, Greater}
-use Rattle.std.specs.Ordering.{match_ordering, ordering_reverse}
-use Rattle.std.specs.Cmp.{IsTotalOrder}
-use Rattle.std.specs.Cmp.Lexicographic.{nat_list_cmp_total}
-use Rattle.std.specs.BTreeMap.{insert_entry}
-use Rattle.std.specs.Map.{keys_of}
 use Rattle.std.proofs.lemmas.Map.Keys.{sorted_head, sorted_tail}
+use Rattle.std.specs.{BTreeMap.insert_entry, Cmp.IsTotalOrder, Cmp.Lexicographic.nat_list_cmp_total, List.AllByRecursion, List.Sorted.IsStrictlySortedBy}
+use Rattle.std.specs.{Map.keys_of, Ordering.match_ordering, Ordering.ordering_reverse}
+use Rattle.std.specs.declared.cmp.Ordering.TheVariants.{Less, Greater}
 use Rattle.dist_names.specs.Order.{Name, name_cmp}
 
 abbrev Row : Type 0

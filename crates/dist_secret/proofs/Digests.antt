@@ -1,7 +1,6 @@
 -- The length of a digest.
-use Rattle.std.proofs.Common.{◌≡◌, ℕ, ◌/◌, List, [], ◌++◌, length, arith, length-append}
-use Rattle.std.specs.Prelude.{decimal, slice_index}
-use Rattle.std.specs.Int.{w32, to_le_bytes}
+use Rattle.std.proofs.Common.{◌≡◌, ℕ, ◌/◌, List, [], ◌++◌, length, arith, length-append, decimal, slice_index, w32}
+use Rattle.std.specs.Int.{to_le_bytes}
 use Rattle.md5.specs.Md5.{md5, digest_bytes, hash_after, padded_message}
 use Rattle.dist_secret.specs.Digest.{digest_of}
 

@@ -1,9 +1,7 @@
 -- Turns that follow one another.
-use Rattle.std.proofs.Common.{◌≡◌, ℕ, ◌+◌, ◌-◌, ◌≤◌, ◌||◌, List, [], ◌++◌, Option, None, Some, refl, sym, ap, ◌∙◌, arith, append_assoc}
-use Rattle.std.proofs.lemmas.List.{append-nil}
+use Rattle.std.proofs.Common.{◌≡◌, ℕ, ◌+◌, ◌-◌, ◌≤◌, ◌||◌, List, [], ◌++◌, Option, None, Some, refl, sym, ap, ◌∙◌, arith, append_assoc, append-nil}
 use Rattle.std.specs.Io.KnownBytes.{prepend_known, append_known}
-use Rattle.dist_stream.specs.declared.turn_error.TurnError.{TurnError}
-use Rattle.dist_stream.specs.Stream.{StreamState, one_more}
+use Rattle.dist_stream.specs.{Stream.StreamState, declared.turn_error.TurnError.TurnError}
 use Rattle.dist_stream.specs.Turns.{reports_end, reports_failed_read, reports_failed_write, Rises, Spends, Says, Hears}
 
 pub append_known-append : (known : Option (List ℕ)) (a b : List ℕ) → append_known (append_known known a) b ≡ append_known known (a ++ b)
@@ -17,10 +15,6 @@ prepend_known-append (Some x) a b = ap Some (sym (append_assoc a b x))
 pub append_known-none : (known : Option (List ℕ)) → append_known known [] ≡ known
 append_known-none None = refl
 append_known-none (Some x) = ap Some (append-nil x)
-
-pub prepend_known-none : (known : Option (List ℕ)) → prepend_known [] known ≡ known
-prepend_known-none None = refl
-prepend_known-none (Some x) = refl
 
 pub Rises-none : (n : ℕ) → Rises 0 n n
 Rises-none n = record { most = omega arith; exact = λ h. omega arith }
@@ -36,9 +30,6 @@ Rises-trans a b total x y z e p q =
           let first : y ≡ x + a = p.exact (omega arith) in
           omega arith;
     }
-
-pub Rises-one : (x y : ℕ) → y ≡ one_more x → Rises 1 x y
-Rises-one x y e = record { most = omega arith; exact = λ h. omega arith }
 
 pub Spends-none : (s : StreamState) (turns : ℕ) → Spends s s turns turns None
 Spends-none s turns = record {
@@ -73,9 +64,6 @@ Says-trans {old = old} {a = a} {b = b} p q = record {
   spends = Spends-trans p.spends q.spends;
   fault_is = q.fault_is;
 }
-
-pub Hears-none : (s : StreamState) (turns : ℕ) → Hears s s turns turns None []
-Hears-none s turns = record { unread = sym (prepend_known-none s.unread); written = refl; spends = Spends-none s turns; fault_is = tt }
 
 pub Hears-trans : {old mid new : StreamState} {turns between left : ℕ} {error : Option TurnError} {a b : List ℕ} → Hears old mid turns between None a → Hears mid new between left error b → Hears old new turns left error (a ++ b)
 Hears-trans {new = new} {a = a} {b = b} p q = record {

@@ -1,12 +1,10 @@
 -- What is returned of two nodes that each count the other as up is what they agree on.
-use Rattle.std.proofs.Common.{◌≡◌, ◌≢◌, ℕ, ◌<◌, List, length, take, Option, Some, None, Result, Ok, Err, OnOk, IfErr, sym, ap, ◌∙◌, subst}
-use Rattle.dist_world_model.proofs.Words.{Setup, run, World, empty}
-use Rattle.dist_world_model.specs.Laws.{Decided, AllLives}
-use Rattle.dist_world_model.specs.declared.happening.Happening.{Happening}
-use Rattle.dist_world.specs.declared.run.Stopped.{Stopped}
-use Rattle.dist_world_model.specs.Agreement.{Agreement as NodesAgree, IsReached, AllFit, IsUp, Counts}
+use Rattle.std.proofs.Common.{OnOk, IfErr, ◌≢◌, ◌≡◌, ℕ, ◌<◌, List, length, take, Some, None, Ok, Err, Option, Result, sym, ap, ◌∙◌, subst}
+use Rattle.dist_core_setup.specs.declared.setup.Setup.{Setup}
+use Rattle.dist_world_model.specs.{Agreement.Agreement as NodesAgree, Agreement.AllFit, Agreement.Counts, Agreement.IsReached, Agreement.IsUp, Run.run}
+use Rattle.dist_world_model.specs.{Laws.AllLives, Laws.Decided, World.World, World.empty, declared.happening.Happening.Happening}
 use Rattle.dist_world.specs.Ups.{FindsBoth, FindsAgreed, IsReported, agreement_on}
-use Rattle.dist_world.specs.declared.agreement.Agreement.{Agreement}
+use Rattle.dist_world.specs.declared.{agreement.Agreement.Agreement, run.Stopped.Stopped}
 
 pub finds_agreed : (w : World) (a b : ℕ) → NodesAgree w → (o : Option Agreement) → FindsBoth w a b o → FindsAgreed w a b o
 finds_agreed w a b all None k = tt

@@ -1,13 +1,12 @@
 -- An event that a node gets while a connection changes too: what is said and what changes there do not meet.
-use Rattle.std.proofs.Common.{◌≡◌, ℕ, zero, suc, Bool, true, false, cond, not, List, [], ◌∷◌, Option, Some, None, is_some, is_none, Ok, slice_get, refl, ap, sym, ◌∙◌}
-use Rattle.dist_world_model.proofs.Words.{option_map, w16, first_body, Side, Dialler, Acceptor, EndId, Event, Reply, NodeState, step, at_place, EndRow}
-use Rattle.dist_world_model.proofs.Words.{rows_after, World, Life, Conn, runs, running, row_of_life, says, conns_after_saying, text_to, change_to, body_taken}
-use Rattle.dist_world_model.specs.Happenings.{notify, accept, take_frame, life_after, without_closing, accepted_by, next_end}
 use Rattle.dist_core.specs.declared.event.Event.TheVariants as event
+use Rattle.dist_world_model.specs.Happenings.{accept, take_frame}
 use Rattle.dist_world_model.proofs.Conditions.{there, holds, succeeds}
-use Rattle.dist_world_lives.specs.Stepping.{wire_of, conns_after}
-use Rattle.dist_world_lives.specs.Notifying.{event_wire, HasNotified}
-use Rattle.dist_world_lives.specs.Wires.{unaccepted_target, front_at}
+use Rattle.dist_world_model.proofs.Words.{is_some, is_none, w16, first_body, Event, Reply, not, Side, Acceptor, Dialler, ◌≡◌, ℕ, zero, suc, Bool, true, false}
+use Rattle.dist_world_model.proofs.Words.{cond, List, [], ◌∷◌, slice_get, Some, None, Ok, Option, option_map, sym, refl, ap, ◌∙◌, EndId, NodeState, step}
+use Rattle.dist_world_model.proofs.Words.{body_taken, change_to, conns_after_saying, says, text_to, accepted_by, life_after, next_end, notify, without_closing}
+use Rattle.dist_world_model.proofs.Words.{at_place, EndRow, rows_after, Conn, Life, World, row_of_life, running, runs}
+use Rattle.dist_world_lives.specs.{Notifying.event_wire, Notifying.HasNotified, Stepping.wire_of, Stepping.conns_after, Wires.unaccepted_target, Wires.front_at}
 use Rattle.dist_world_lives.specs.declared.stepping.LifeStep.{LifeStep}
 use Rattle.dist_world_lives.proofs.Wired.{AreOwn, as_wired}
 

@@ -1,10 +1,9 @@
 -- A run, one happening on.
-use Rattle.std.proofs.Common.{◌≤◌, Bool, true, false, ◌≡◌, ℕ, ◌+◌, ◌<◌, List, [], ◌∷◌, ◌++◌, length, get_or, take, Option, Some, None, is_some, refl, ap, sym, subst, ◌∙◌, add_assoc, arith}
-use Rattle.dist_world_model.proofs.Words.{World, happens, applied_at, AllFit, Fits}
-use Rattle.std.proofs.lemmas.List.{take_more}
-use Rattle.dist_world_model.specs.Run.{count_applied, one_where, run}
-use Rattle.dist_world_model.specs.declared.happening.Happening.{Happening}
-use Rattle.dist_core_ends.specs.Change.{one_if}
+use Rattle.std.proofs.{Common.add_assoc, lemmas.List.take_more}
+use Rattle.dist_core_ends.proofs.Words.{◌≡◌, ℕ, ◌+◌, ◌<◌, ◌≤◌, Bool, true, false, List, [], ◌∷◌, ◌++◌, length, get_or, take, is_some, Some, None, Option, sym}
+use Rattle.dist_core_ends.proofs.Words.{refl, ap, ◌∙◌, subst, arith, one_if}
+use Rattle.dist_world_model.specs.{Agreement.AllFit, Agreement.Fits, Happenings.happens, Happenings.applied_at, Run.count_applied, Run.one_where, Run.run}
+use Rattle.dist_world_model.specs.{World.World, declared.happening.Happening.Happening}
 
 run_last : (hs : List Happening) (h : Happening) (w : World) → run (hs ++ h ∷ []) w ≡ happens (run hs w) h
 run_last [] h w = refl

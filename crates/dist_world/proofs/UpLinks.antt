@@ -1,7 +1,7 @@
 -- What is found of two nodes that count each other as up.
-use Rattle.std.proofs.Common.{◌≡◌, ◌≢◌, ℕ, Option, Some, None, slice_get, refl, ap, sym, ◌∙◌}
-use Rattle.dist_world_model.proofs.Words.{UpRecord, Setup, EndRow, World, Life, running, conn_of, IsUp}
 use Rattle.dist_core_ends.specs.declared.known.End.TheVariants as ends
+use Rattle.dist_core.proofs.Words.{UpRecord, ◌≡◌, ℕ, ◌≢◌, slice_get, Some, None, Option, sym, refl, ap, ◌∙◌, Setup}
+use Rattle.dist_world_model.specs.{Agreement.IsUp, Happenings.conn_of, Rows.EndRow, World.Life, World.World, World.running}
 use Rattle.dist_world_lives.specs.Links.{up_on, FindsLink}
 use Rattle.dist_world.specs.Ups.{FindsPeer, FindsBoth, agreement_on, both_agreement}
 

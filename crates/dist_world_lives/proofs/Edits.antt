@@ -1,9 +1,7 @@
 -- A list that is changed at places.
-use Rattle.std.proofs.Common.{◌≡◌, ℕ, zero, suc, ◌+◌, ◌<◌, ◌≤◌, ◌==◌, Bool, true, false, List, [], ◌∷◌, length, get_or, Option, Some, None, slice_get, refl, ap, ◌∙◌, arith}
-use Rattle.std.proofs.Common.{◌++◌, take, drop}
-use Rattle.dist_world_model.proofs.Words.{nat_tests, option_map, EndRow, shut_row, shut_all}
-use Rattle.std.proofs.Math.ListN.{set}
-use Rattle.dist_world_model.specs.Lists.{at_each, at_place}
+use Rattle.dist_core_ends.proofs.Words.{◌≡◌, ℕ, zero, suc, ◌+◌, ◌<◌, ◌≤◌, Bool, true, false, List, [], ◌∷◌, ◌++◌, length, get_or, take, drop, set, ◌==◌}
+use Rattle.dist_core_ends.proofs.Words.{slice_get, Some, None, Option, option_map, refl, ap, ◌∙◌, arith, nat_tests}
+use Rattle.dist_world_model.specs.{Happenings.shut_row, Happenings.shut_all, Lists.at_each, Lists.at_place, Rows.EndRow}
 
 apart_first : (j : ℕ) → false ≡ (0 == suc j)
 apart_first j = grind (arith, nat_tests)

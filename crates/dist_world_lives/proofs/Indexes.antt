@@ -1,13 +1,12 @@
 -- The index of the running incarnations, when an incarnation begins, changes or ends.
-use Rattle.std.proofs.Common.{◌≡◌, ℕ, zero, suc, ◌<◌, ◌==◌, ◌⊎◌, inl, inr, Bool, true, false, cond, not, ◌&&◌, List, [], ◌∷◌, ◌++◌, length, Option, Some, None, is_some, slice_get, refl, ap, sym, ◌∙◌, subst, eq-eqb, arith}
-use Rattle.std.proofs.Common.{Result, Ok, Err, IfOk, OnErr, MatchOption}
-use Rattle.dist_world_model.proofs.Words.{eqb-true, Event, option_map, at_place, first_where, Life, Conn, runs_for, life_after_end, life_after, and_right}
-use Rattle.dist_world_model.proofs.Words.{and_parts}
+use mathlib.Core.Bool.{and-true}
+use Rattle.std.proofs.{Common.◌==◌, Common.IfOk, Common.OnErr, Common.MatchOption, lemmas.Option.slice_get-get_or}
 use Rattle.std.specs.declared.alloc.AllocError.{AllocError}
-use Rattle.std.proofs.lemmas.Option.{slice_get-get_or}
+use Rattle.dist_world_model.proofs.Words.{is_some, and_parts, and_right, Event, not, ◌≡◌, ℕ, zero, suc, ◌<◌, Bool, true, false, cond, ◌&&◌, ◌⊎◌, List, [], ◌∷◌}
+use Rattle.dist_world_model.proofs.Words.{◌++◌, length, slice_get, Some, None, Ok, Err, Option, Result, option_map, sym, refl, ap, ◌∙◌, subst, inl, inr, arith}
+use Rattle.dist_world_model.proofs.Words.{eq-eqb, eqb-true, life_after, life_after_end, at_place, first_where, Conn, Life, runs_for}
+use Rattle.dist_world_lives.specs.{Index.flat, Index.index_at, Index.passes, Index.IsIndexed, Notifying.HasNotified, Notifying.Declines}
 use Rattle.dist_world_lives.specs.declared.stepping.LifeStep.{LifeStep}
-use Rattle.dist_world_lives.specs.Notifying.{HasNotified, Declines}
-use Rattle.dist_world_lives.specs.Index.{flat, index_at, passes, IsIndexed}
 use Rattle.dist_world_lives.proofs.Edits.{changed_if, get_at}
 
 -- ---- the first that passes
@@ -114,11 +113,7 @@ pushed lives index node l idle few whose runs k = record {
 }
   where
     new : (i : ℕ) → runs_for i l ≡ (node == i)
-    new i = (λ j. (whose j == i) && not (is_some (runs j))) ∙ and_true (node == i)
-      where
-        and_true : (b : Bool) → (b && true) ≡ b
-        and_true true = refl
-        and_true false = refl
+    new i = (λ j. (whose j == i) && not (is_some (runs j))) ∙ and-true (node == i)
 
     found : (i : ℕ) (b : Bool) → (node == i) ≡ b → index_at (at_place node (λ _. Some (length lives)) index) i ≡ first_where (runs_for i) (lives ++ l ∷ [])
     found i true e =
@@ -196,12 +191,6 @@ finished lives index node p t is k = record {
         ∙ first_by (runs_for i) lives (at_place p (life_after_end t) lives) (λ q. sym (after i q ∙ same_pass i q (p == q) _ e refl refl))))
 
 -- ---- for the code
-
-pub one_wider : (index : List (Option ℕ)) (i : ℕ) → index_at (index ++ None ∷ []) i ≡ index_at index i
-one_wider [] zero = refl
-one_wider [] (suc i) = refl
-one_wider (x ∷ index) zero = refl
-one_wider (x ∷ index) (suc i) = one_wider index i
 
 pub as_wide : (lives : List Life) (index wide : List (Option ℕ)) → ((i : ℕ) → index_at wide i ≡ index_at index i) → IsIndexed lives index → IsIndexed lives wide
 as_wide lives index wide same k = record { found = λ i. same i ∙ k.found i; alone = k.alone }

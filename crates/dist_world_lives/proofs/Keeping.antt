@@ -1,7 +1,6 @@
 -- A number that is kept beside whether it was written.
-use Rattle.std.proofs.Common.{◌≡◌, ℕ, Bool, true, false, Option, Some, None, refl}
+use Rattle.dist_world_model.proofs.Words.{◌≡◌, ℕ, Bool, true, false, Some, None, Option, refl, once}
 use Rattle.dist_world_lives.specs.Keeping.{number_if}
-use Rattle.dist_world_model.specs.Rows.{once}
 
 abbrev some : ℕ → Option ℕ
 some n = Some n

@@ -1,7 +1,6 @@
 -- The connection of an end that is up.
-use Rattle.std.proofs.Common.{◌≡◌, ℕ, Option, Some, None, slice_get, refl}
-use Rattle.dist_world_model.proofs.Words.{option_map, Name, EndId, UpRecord, Life, conn_of}
 use Rattle.dist_core_ends.specs.Ends.{FindsUp}
+use Rattle.dist_world_model.proofs.Words.{UpRecord, ◌≡◌, ℕ, slice_get, Some, None, Option, option_map, refl, Name, EndId, conn_of, Life}
 use Rattle.dist_world_lives.specs.Links.{link_of_record, FindsLink}
 
 pub link_found : (l : Life) (p : Name) (o : Option (EndId × UpRecord)) → FindsUp l.node.ends p o → FindsLink l p (link_of_record l.rows o)

@@ -1,17 +1,13 @@
 -- What an event that an incarnation gets does to the lists.
-use Rattle.std.proofs.Common.{◌≡◌, ℕ, ◌<◌, true, false, List, length, get_or, Option, Some, Result, Ok, Err, slice_get, ap, sym, ◌∙◌}
-use Rattle.dist_world_model.proofs.Words.{Side, Event, Reply, StepError, NodeState, step, World, Life, Conn, runs, life_after}
-use Rattle.std.proofs.Math.ListN.{set}
-use Rattle.std.proofs.lemmas.List.{set-get_or}
-use Rattle.std.proofs.lemmas.Option.{slice_get-get_or}
-use Rattle.dist_core.specs.declared.step_error.StepError.TheVariants as error
+use Rattle.std.proofs.{Common.get_or, Common.set, lemmas.List.set-get_or, lemmas.Option.slice_get-get_or}
 use Rattle.dist_core.specs.Answers.{Refuses}
+use Rattle.dist_core.specs.declared.step_error.StepError.TheVariants as error
 use Rattle.dist_world_model.proofs.Conditions.{there, not_held, is_refused, nothing_behind}
-use Rattle.dist_world_lives.specs.Stepping.{IsLifeStep, conns_after}
+use Rattle.dist_world_model.proofs.Words.{Event, Reply, StepError, Side, ◌≡◌, ℕ, ◌<◌, true, false, List, length, slice_get, Some, Ok, Err, Option, Result, sym}
+use Rattle.dist_world_model.proofs.Words.{ap, ◌∙◌, NodeState, step, life_after, Conn, Life, World, runs}
 use Rattle.dist_world_lives.specs.Notifying.{event_wire, HasNotified, Declines, is_out_of_memory}
-use Rattle.dist_world_lives.specs.declared.stepping.LifeStep.{LifeStep}
-use Rattle.dist_world_lives.proofs.Edits.{at_set}
-use Rattle.dist_world_lives.proofs.Wired.{AreOwn, as_wired}
+use Rattle.dist_world_lives.specs.{Stepping.IsLifeStep, Stepping.conns_after, declared.stepping.LifeStep.LifeStep}
+use Rattle.dist_world_lives.proofs.{Edits.at_set, Wired.AreOwn, Wired.as_wired}
 
 pub refused : (e : StepError) (s : Result (Reply × NodeState) StepError) → is_out_of_memory e ≡ false → Refuses e s → s ≡ Err e
 refused error.NoMemory s h r = absurd cc

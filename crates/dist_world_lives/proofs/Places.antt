@@ -1,8 +1,7 @@
 -- A connection that is changed among all.
-use Rattle.std.proofs.Common.{◌≡◌, ℕ, zero, suc, List, [], ◌∷◌, ◌++◌, slice_get, Option, Some, None, refl, ap}
-use Rattle.dist_world_model.proofs.Words.{Side, Dialler, Acceptor, at_place, Conn, says}
-use Rattle.dist_world_lives.specs.Wires.{undelivered_by, with_undelivered}
-use Rattle.dist_world_lives.specs.Stepping.{conns_after, conns_with, undelivered_on}
+use Rattle.dist_core.proofs.Words.{Side, Acceptor, Dialler, ◌≡◌, ℕ, zero, suc, List, [], ◌∷◌, ◌++◌, slice_get, Some, None, Option, refl, ap}
+use Rattle.dist_world_model.specs.{Delivery.says, Lists.at_place, World.Conn}
+use Rattle.dist_world_lives.specs.{Stepping.conns_after, Stepping.conns_with, Stepping.undelivered_on, Wires.undelivered_by, Wires.with_undelivered}
 
 -- what this side sends comes behind what is undelivered
 joined : (side : Side) (cs : List Conn) (i : ℕ) (s : List ℕ) → at_place i (with_undelivered side (undelivered_by side (slice_get cs i) ++ s)) cs ≡ at_place i (says side s) cs

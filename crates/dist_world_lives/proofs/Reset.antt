@@ -1,19 +1,13 @@
 -- What a change of an incarnation's setup does to the list.
-use Rattle.std.proofs.Common.{◌≡◌, ℕ, ◌<◌, ◌≤◌, Bool, true, false, List, length, get_or, slice_get, Option, Some, None, Result, Ok, Err, refl, ap, sym, ◌∙◌, subst}
-use Rattle.dist_world_model.proofs.Words.{Change, NodeState, Life, running, with_node}
-use Rattle.std.proofs.Math.ListN.{set}
-use Rattle.std.proofs.lemmas.Option.{slice_get_past}
 use Rattle.std.specs.declared.alloc.AllocError.{AllocError}
-use Rattle.dist_core.specs.Changing.{IsChange, change}
-use Rattle.dist_core.specs.declared.changing.ChangeError.{ChangeError}
+use Rattle.dist_core_ends.proofs.Words.{◌≡◌, ℕ, ◌<◌, ◌≤◌, Bool, true, false, List, length, get_or, set, slice_get, Some, None, Ok, Err, Option, Result, sym}
+use Rattle.dist_core_ends.proofs.Words.{refl, ap, ◌∙◌, subst, slice_get_past}
+use Rattle.dist_core.specs.{Changing.IsChange, Changing.change, Node.NodeState, declared.changing.Change.Change, declared.changing.ChangeError.ChangeError}
 use Rattle.dist_core.specs.declared.changing.ChangeError.TheVariants as error
-use Rattle.dist_world_model.specs.Happenings.{◌>>=◌}
+use Rattle.dist_world_model.specs.{Happenings.with_node, Happenings.◌>>=◌, World.Life, World.running}
 use Rattle.dist_world_model.proofs.Conditions.{there, is_refused}
-use Rattle.dist_world_lives.specs.Index.{IsIndexed}
-use Rattle.dist_world_lives.specs.Resetting.{Forbids, HasReset, Resets, is_reset_memory_error}
-use Rattle.dist_world_lives.proofs.Edits.{at_set}
-use Rattle.dist_world_lives.proofs.Indexes.{changed}
-use Rattle.dist_world_lives.proofs.Notified.{of_world, put_back, stands}
+use Rattle.dist_world_lives.specs.{Index.IsIndexed, Resetting.Forbids, Resetting.HasReset, Resetting.Resets, Resetting.is_reset_memory_error}
+use Rattle.dist_world_lives.proofs.{Edits.at_set, Indexes.changed, Notified.of_world, Notified.put_back, Notified.stands}
 
 -- ---- what a refusal says
 

@@ -1,9 +1,7 @@
 -- A text under delivery: what is undelivered, and the reader that it goes to.
-use Rattle.std.proofs.Common.{◌≡◌, ℕ, min, List, ◌++◌, length, take, drop, refl, ap, ◌∙◌}
-use Rattle.dist_world_model.proofs.Words.{w16, Text, after_delivery, body_taken}
-use Rattle.std.proofs.lemmas.List.{take_min}
-use Rattle.dist_frames.specs.Stream.{after_first, first_body}
-use Rattle.dist_frames.specs.Reader.{Reader, Short, Linked, with_bytes, next_body, without_next}
+use Rattle.std.proofs.{Common.min, lemmas.List.take_min}
+use Rattle.dist_frames.specs.{Reader.Reader, Reader.Short, Reader.Linked, Reader.with_bytes, Reader.next_body, Reader.without_next, Stream.after_first}
+use Rattle.dist_world_model.proofs.Words.{take, w16, first_body, ◌≡◌, ℕ, List, ◌++◌, length, drop, refl, ap, ◌∙◌, after_delivery, body_taken, Text}
 use Rattle.dist_world_lives.specs.Reading.{come_of, IsShort}
 
 -- ---- the reader
@@ -29,9 +27,6 @@ come_taken (Short pending) k = refl
 come_taken (Linked ended rest) k = absurd k
 
 -- ---- the text
-
-text_of : List ℕ → Reader → Text
-text_of said r = record { said = said; come = come_of r }
 
 pub as_delivered : (said : List ℕ) (r : Reader) (count n : ℕ) → n ≡ min count (length said) → IsShort r → (let t : Text = record { said = drop count said; come = come_of (with_bytes r (take n said)) } in t) ≡ after_delivery count (record { said = said; come = come_of r })
 as_delivered said r count n is k =

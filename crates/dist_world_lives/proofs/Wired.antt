@@ -1,11 +1,10 @@
 -- The bytes of a reply go to the connection of the event's end.
-use Rattle.std.proofs.Common.{◌≡◌, ℕ, zero, suc, ◌+◌, List, [], ◌∷◌, Option, Some, None, Ok, slice_get, refl, ap, sym, ◌∙◌}
-use Rattle.dist_world_model.proofs.Words.{append-nil, option_map, Side, Dialler, Acceptor, EndId, Event, Reply, NodeState, step, at_place, EndRow, rows_after}
-use Rattle.dist_world_model.proofs.Words.{mark, Conn, says, conns_after_saying, spoken_on}
 use Rattle.dist_core.specs.declared.event.Event.TheVariants as event
 use Rattle.dist_core_laws.specs.Laws.{IsOfItsEnd}
-use Rattle.dist_world_lives.specs.Stepping.{wire_of, conns_after}
-use Rattle.dist_world_lives.specs.Notifying.{event_wire}
+use Rattle.dist_world_model.proofs.Words.{append-nil, Event, Reply, Side, Acceptor, Dialler, ◌≡◌, ℕ, zero, suc, ◌+◌, List, [], ◌∷◌, slice_get, Some, None, Ok}
+use Rattle.dist_world_model.proofs.Words.{Option, option_map, sym, refl, ap, ◌∙◌, EndId, NodeState, step, conns_after_saying, says, spoken_on, at_place, EndRow}
+use Rattle.dist_world_model.proofs.Words.{mark, rows_after, Conn}
+use Rattle.dist_world_lives.specs.{Notifying.event_wire, Stepping.wire_of, Stepping.conns_after}
 use Rattle.dist_world_lives.proofs.Edits.{get_each}
 
 -- each reply is of the end that its event names (a_reply_is_of_its_end)

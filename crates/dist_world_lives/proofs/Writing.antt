@@ -1,11 +1,11 @@
 -- What a reply writes into the rows, row by row.
-use Rattle.std.proofs.Common.{◌≡◌, ℕ, ◌+◌, ◌==◌, Bool, true, false, ◌&&◌, if◌then◌else◌, List, Option, Some, None, slice_get, [], ◌∷◌, length, take, refl, ap, sym, ◌∙◌, arith}
-use Rattle.dist_world_model.proofs.Words.{option_map, Name, EndId, Reply, Why, shut_row}
-use Rattle.dist_world_model.specs.Lists.{at_each, add_some, at_place}
-use Rattle.dist_world_model.specs.Rows.{is_end, EndRow, once, takes_name, says_reply, peer_by, rises, dooms, shuts_end, row_after, mark}
-use Rattle.std.proofs.lemmas.List.{take_all, take_at}
-use Rattle.dist_core.specs.declared.reply.Note.{Note}
+use Rattle.std.proofs.Common.{◌==◌, if◌then◌else◌, take, take_all, take_at}
+use Rattle.dist_core.specs.declared.reply.{Note.Note, Reply.Reply}
 use Rattle.dist_core.specs.declared.reply.Note.TheVariants as note
+use Rattle.dist_core.proofs.Words.{Why, ◌≡◌, ℕ, ◌+◌, Bool, true, false, ◌&&◌, List, [], ◌∷◌, length, slice_get, Some, None, Option, option_map, sym, refl, ap}
+use Rattle.dist_core.proofs.Words.{◌∙◌, arith, Name, EndId}
+use Rattle.dist_world_model.specs.{Happenings.shut_row, Lists.at_each, Lists.add_some, Lists.at_place}
+use Rattle.dist_world_model.specs.Rows.{is_end, EndRow, once, takes_name, says_reply, peer_by, rises, dooms, shuts_end, row_after, mark}
 use Rattle.dist_world_lives.specs.Stepping.{own_row, doomed_row, rows_shut, rows_doomed, doomed_end}
 use Rattle.dist_world_lives.proofs.Edits.{changed_if, get_at, get_each, unchanged, same_places}
 

@@ -1,22 +1,15 @@
 -- THE AGREEMENT OF EVERY WORLD.
-use Rattle.std.specs.Prelude.{◌≡◌, ◌≢◌, ◌⊎◌}
-use Rattle.dist_world_model.proofs.Words.{ℕ, true, List, Option, Some, refl, sym, ap, ◌∙◌, subst, slice_get, common, Side, Setup, End, announced_by}
-use Rattle.dist_world_model.proofs.Words.{EndRow, NodeLaws, inl, inr, Life, Conn, row_of_life, UpRecord, own_digest, Happening, World, runs, empty}
-use Rattle.dist_world_model.proofs.Words.{run, AllLives, OwnDigests, bare, IsUp, Agreement, AreSetups, AllFit}
-use Rattle.dist_world_model.specs.Agreement.{AreAgreed, IsAgreed, Joins}
+use Rattle.dist_world_model.proofs.Words.{◌≡◌, ℕ, true, ◌≢◌, ◌⊎◌, List, slice_get, Some, Option, sym, refl, ap, ◌∙◌, subst, inl, inr, same_text, common, Side}
+use Rattle.dist_world_model.proofs.Words.{End, UpRecord, announced_by, own_digest, Setup, Agreement, AllFit, AreAgreed, AreSetups, IsAgreed, IsUp, Joins, bare}
+use Rattle.dist_world_model.proofs.Words.{AllLives, OwnDigests, NodeLaws, EndRow, run, Conn, Life, World, empty, row_of_life, runs, Happening}
 use Rattle.std.proofs.lemmas.Nat.{and_comm}
-use Rattle.std.specs.Cmp.Lexicographic.{same_text}
 use Rattle.dist_core_ends.specs.declared.known.End.TheVariants as ends
-use Rattle.dist_world_model.proofs.Digests.{digest_lives}
-use Rattle.dist_world_model.proofs.EndPairs.{IsOpen, Seat}
+use Rattle.dist_world_model.proofs.{Digests.digest_lives, EndPairs.IsOpen, EndPairs.Seat, PastMoments.past-some, WholeFrames.joined}
 use Rattle.dist_world_model.proofs.Lookups.{decide, end_in, far, row_in, voice_in, voice_of}
-use Rattle.dist_world_model.proofs.OneConnection.{both-dialled, each-accepted, each-dialled}
-use Rattle.dist_world_model.proofs.PastMoments.{past-some}
+use Rattle.dist_world_model.proofs.{OneConnection.both-dialled, OneConnection.each-accepted, OneConnection.each-dialled, WorldFacts.IsKept, WorldFacts.kept}
 use Rattle.dist_world_model.proofs.UpEnds.{LineOf, On_accepted, On_dialled, Sits, Stands_on, announced-is, conn-is, end-is, is-open, peer-is, rose-is}
 use Rattle.dist_world_model.proofs.UpEnds.{running-is, setup-is, sits-life, sits-row, stands-on}
-use Rattle.dist_world_model.proofs.WholeFrames.{joined}
 use Rattle.dist_world_model.proofs.Wires.{Noted, NotedAt, Voice, marks_of, voice}
-use Rattle.dist_world_model.proofs.WorldFacts.{IsKept, kept}
 
 module _ (laws : NodeLaws) where
   module _ (w : World) (h : IsKept w) where

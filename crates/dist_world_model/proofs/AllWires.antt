@@ -1,11 +1,9 @@
 -- All connections are wires, and what keeps them so: rows and ends that are quiet, connections that stay.
-use Rattle.std.specs.Prelude.{◌≡◌, ◌⊎◌}
-use Rattle.dist_world_model.proofs.Words.{ℕ, List, Option, Some, None, refl, sym, ap, ◌∙◌, subst, slice_get, Side, Dialler, Acceptor, End, EndRow}
-use Rattle.dist_world_model.proofs.Words.{inl, inr, at_place, Life, Conn, text_to, same_Some}
+use Rattle.dist_world_model.proofs.Words.{◌≡◌, ℕ, ◌⊎◌, List, slice_get, Some, None, Option, sym, refl, ap, ◌∙◌, subst, inl, inr, same_Some, Side, Acceptor}
+use Rattle.dist_world_model.proofs.Words.{Dialler, End, text_to, at_place, EndRow, Conn, Life}
 use Rattle.dist_world_model.proofs.ConnectionRows.{Linked, SameEnds, Stays, VoiceStays, Was, end_of, life_of, linked-keeps, row_of}
 use Rattle.dist_world_model.proofs.Lookups.{at-other, decide, end_in, far, life-there, placed, row_in, unplaced, voice_in, voice_of}
-use Rattle.dist_world_model.proofs.WholeFrames.{on_way}
-use Rattle.dist_world_model.proofs.Wires.{Hushed, IsEnd, Quiet, Voice, end-quiet, quiet-refl}
+use Rattle.dist_world_model.proofs.{WholeFrames.on_way, Wires.Hushed, Wires.IsEnd, Wires.Quiet, Wires.Voice, Wires.end-quiet, Wires.quiet-refl}
 
 -- one side of the connection k, and the far side
 abbrev pub EndAt : List Life → Side → Side → Conn → Type 0

@@ -1,17 +1,12 @@
 -- What is taken from a connection was spelled by a node of the world.
-use Rattle.std.specs.Prelude.{◌≡◌}
-use Rattle.dist_world_model.proofs.Words.{ℕ, List, Option, Some, ap, ◌∙◌, subst, slice_get, low_half, Creation, Side, Dialler, Acceptor, Message, Setup}
-use Rattle.dist_world_model.proofs.Words.{NodeLaws, Life, Conn, Happening, World, empty, run, bare, AreSetups, AllFit, w16, first_body, text_to, IsCanonical}
-use Rattle.dist_core_setup.specs.Rules.{announced_by}
-use Rattle.dist_world_model.specs.Frames.{Announces, AreCanonical}
+use Rattle.dist_world_model.proofs.Words.{◌≡◌, ℕ, List, slice_get, Some, Option, ap, ◌∙◌, subst, w16, low_half, Creation, first_body, Message, Side, Acceptor}
+use Rattle.dist_world_model.proofs.Words.{Dialler, Setup, AllFit, AreSetups, bare, text_to, NodeLaws, run, Conn, Life, World, empty, Happening}
 use Rattle.dist_messages.specs.declared.message.Message.TheVariants as message
-use Rattle.dist_world_model.proofs.AllWires.{EndAt}
-use Rattle.dist_world_model.proofs.ConnectionRows.{life_of, row_of}
-use Rattle.dist_world_model.proofs.Lookups.{far, life-there, voice-there, voice_of}
-use Rattle.dist_world_model.proofs.OwnSetups.{run-setups}
-use Rattle.dist_world_model.proofs.WholeFrames.{way-taken}
+use Rattle.dist_core_setup.specs.Rules.{announced_by}
+use Rattle.dist_world_model.specs.Frames.{IsCanonical, Announces, AreCanonical}
+use Rattle.dist_world_model.proofs.{AllWires.EndAt, ConnectionRows.life_of, ConnectionRows.row_of, OwnSetups.run-setups, WholeFrames.way-taken}
+use Rattle.dist_world_model.proofs.{Lookups.far, Lookups.life-there, Lookups.voice-there, Lookups.voice_of, WorldFacts.IsKept, WorldFacts.kept}
 use Rattle.dist_world_model.proofs.Wires.{Marks, May, MayAnswer, MaySay, Said, Voice, canonical-map, marks_of, voice}
-use Rattle.dist_world_model.proofs.WorldFacts.{IsKept, kept}
 
 -- what a node may say has the flags of its setup
 say-flags : (s r : Setup) (replied : Option ℕ) (m : Message) → announced_by s ≡ announced_by r → MaySay (voice s) replied m → Announces r m

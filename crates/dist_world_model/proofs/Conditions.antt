@@ -1,8 +1,5 @@
 -- What follows from the conditions of a happening, one at a time.
-use Rattle.std.specs.Prelude.{◌≡◌}
-use Rattle.dist_world_model.proofs.Words.{Bool, true, false, Option, Some, None, Ok, refl, ap, Result, Err, IfSome}
-use Rattle.dist_world_model.specs.Happenings.{◌>>=◌, ◌>>◌}
-use Rattle.std.specs.Result.{result_ok}
+use Rattle.dist_world_model.proofs.Words.{◌≡◌, Bool, true, false, IfSome, Some, None, Ok, Err, Option, Result, refl, ap, result_ok, ◌>>=◌, ◌>>◌}
 
 -- of what follows a thing, where that is there
 pub if_there : {A B : Type 0} (P : B → Type 0) (o : Option A) (f : A → Option B) → ((x : A) → o ≡ Some x → IfSome (f x) P) → IfSome (o >>= f) P

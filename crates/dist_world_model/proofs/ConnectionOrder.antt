@@ -1,15 +1,9 @@
 -- The order of numbers on a connection, and of incarnations, in the words of the definitions.
-use Rattle.std.specs.Prelude.{◌≡◌, ◌<◌, ◌+◌, ◌≤◌}
-use Rattle.dist_world_model.proofs.Words.{ℕ, true, List, Option, Some, None, refl, sym, ap, ◌∙◌, arith, is_some, slice_get, Dialler, Acceptor, Setup}
-use Rattle.dist_world_model.proofs.Words.{EndRow, past, NodeLaws, Life, Conn, row_of_life, Happening, World, empty, run, AreSetups, AllFit, not}
-use Rattle.dist_world_model.proofs.Words.{false≢true, Numbers, OnlyLastRuns}
-use Rattle.dist_world_model.specs.Order.{Accepted, AreAbove, AreInOrder, InOrder}
-use Rattle.dist_world_model.proofs.ConnectionRows.{end_of, row_of}
-use Rattle.dist_world_model.proofs.EndStates.{Below}
-use Rattle.dist_world_model.proofs.Lookups.{far, row_in, voice_of}
-use Rattle.dist_world_model.proofs.PastMoments.{past-is, past-some}
-use Rattle.dist_world_model.proofs.WholeFrames.{on_way}
-use Rattle.dist_world_model.proofs.Wires.{IsEnd, marks_of, peer_of, voice}
+use Rattle.dist_world_model.proofs.Words.{◌≡◌, ℕ, ◌+◌, ◌<◌, ◌≤◌, true, not, List, is_some, slice_get, Some, None, Option, sym, refl, ap, ◌∙◌, arith, false≢true}
+use Rattle.dist_world_model.proofs.Words.{Acceptor, Dialler, Setup, AllFit, AreSetups, NodeLaws, Accepted, AreAbove, AreInOrder, InOrder, Numbers, OnlyLastRuns}
+use Rattle.dist_world_model.proofs.Words.{EndRow, past, run, Conn, Life, World, empty, row_of_life, Happening}
+use Rattle.dist_world_model.proofs.{ConnectionRows.end_of, ConnectionRows.row_of, EndStates.Below, Lookups.far, Lookups.row_in, Lookups.voice_of}
+use Rattle.dist_world_model.proofs.{PastMoments.past-is, PastMoments.past-some, WholeFrames.on_way, Wires.IsEnd, Wires.marks_of, Wires.peer_of, Wires.voice}
 use Rattle.dist_world_model.proofs.WorldFacts.{IsKept, IsTimely, kept, timely}
 
 -- ---- connections

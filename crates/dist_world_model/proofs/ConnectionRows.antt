@@ -1,9 +1,7 @@
 -- Each connection has one dialled row and at most one accepted row, and each row with a connection is one of these.
-use Rattle.std.specs.Prelude.{◌≡◌, ◌⊎◌}
-use Rattle.dist_world_model.proofs.Words.{ℕ, List, Option, Some, None, refl, sym, ap, ◌∙◌, subst, slice_get, Side, Dialler, Acceptor, End, EndRow}
-use Rattle.dist_world_model.proofs.Words.{inl, inr, Life, Conn}
-use Rattle.dist_world_model.proofs.Lookups.{end_in, far, row_in, voice_in}
-use Rattle.dist_world_model.proofs.Wires.{Voice}
+use Rattle.dist_world_model.proofs.Words.{◌≡◌, ℕ, ◌⊎◌, List, slice_get, Some, None, Option, sym, refl, ap, ◌∙◌, subst, inl, inr, Side, Acceptor, Dialler, End}
+use Rattle.dist_world_model.proofs.Words.{EndRow, Conn, Life}
+use Rattle.dist_world_model.proofs.{Lookups.end_in, Lookups.far, Lookups.row_in, Lookups.voice_in, Wires.Voice}
 
 -- the row of this end, which has this side and belongs to this connection
 pub record RowOf (ls : List Life) (side : Side) (i p c : ℕ) : Type 0 where

@@ -1,18 +1,15 @@
 -- All connections are wires still, where a dialled end gets its connection.
-use Rattle.std.specs.Prelude.{◌≡◌, ◌++◌, ◌⊎◌, ◌∷◌}
-use Rattle.dist_world_model.proofs.Words.{ℕ, true, false, cond, List, [], Option, Some, None, refl, sym, ap, ◌∙◌, subst, arith, is_some, slice_get, Side}
-use Rattle.dist_world_model.proofs.Words.{Dialler, Acceptor, Phase, End, EndRow, length, inl, inr, at_place, Life, Conn, row_of_life, end_of_life}
-use Rattle.dist_world_model.proofs.Words.{false≢true, option_map, slice_get_within, reached_life, reached_row, new_conn, conn_of, is_dialing}
-use Rattle.dist_core_ends.specs.Ends.{waits_in}
+use Rattle.dist_world_model.proofs.Words.{◌≡◌, ℕ, true, false, cond, ◌⊎◌, List, [], ◌∷◌, ◌++◌, length, is_some, slice_get, Some, None, Option, option_map, sym}
+use Rattle.dist_world_model.proofs.Words.{refl, ap, ◌∙◌, subst, inl, inr, arith, ne_eqb, false≢true, slice_get_within, Side, Acceptor, Dialler, is_dialing}
+use Rattle.dist_world_model.proofs.Words.{waits_in, End, Phase, conn_of, new_conn, reached_life, reached_row, at_place, EndRow, Conn, Life, end_of_life}
+use Rattle.dist_world_model.proofs.Words.{row_of_life}
 use Rattle.dist_core_ends.specs.declared.known.End.TheVariants as ends
 use Rattle.dist_core_ends.specs.declared.phase.Phase.TheVariants as phase
 use Rattle.dist_world_model.proofs.AllWires.{AreWired, Loc, WireAt, alike-refl, ends-refl, hush-refl, same-conn, voice-refl, wire-alike}
 use Rattle.dist_world_model.proofs.ConnectionRows.{ConnOf, Linked, NewConn, RowOf, Stays, VoiceStays, WasConn, linked-keeps}
-use Rattle.dist_world_model.proofs.EndStates.{AreBeside, Beside, Stand, open-row, stand_in}
-use Rattle.dist_world_model.proofs.EventEnds.{none-of}
-use Rattle.dist_world_model.proofs.Lookups.{changed-at, decide, end_in, eqb-not, placed, row_in, unplaced, voice_in, voice_of}
-use Rattle.dist_world_model.proofs.Places.{eqb-self, get-more}
-use Rattle.dist_world_model.proofs.SentFrames.{nothing-said}
+use Rattle.dist_world_model.proofs.{EndStates.AreBeside, EndStates.Beside, EndStates.Stand, EndStates.open-row, EndStates.stand_in, EventEnds.none-of}
+use Rattle.dist_world_model.proofs.Lookups.{changed-at, decide, end_in, placed, row_in, unplaced, voice_in, voice_of}
+use Rattle.dist_world_model.proofs.{Places.eqb-self, Places.get-more, SentFrames.nothing-said}
 use Rattle.dist_world_model.proofs.Wires.{Hushed, NotedAt, NotedIn, Quiet, Voice, marks_of, quiet-refl, voice}
 use Rattle.dist_world_model.proofs.WithoutEvent.{get-reached, reach, reach-any}
 
@@ -66,7 +63,7 @@ module _ (i id j : ℕ) (ls : List Life) (cs : List Conn) (old away : Life) (at 
   reach-voices k = changed-at voice_of VoiceStays voice-refl i (reached_life id c) ls old at k (λ e s h. h)
 
   get-new : (d : ℕ) (k : Conn) → slice_get cs d ≡ Some k → slice_get cs' d ≡ Some k
-  get-new d k h = get-more cs (new_conn i id j) d ∙ ap (λ b. cond b (Some (new_conn i id j)) (slice_get cs d)) (eqb-not c d (λ e. let w = slice_get_within cs d k h in absurd (omega (arith, w, e)))) ∙ h
+  get-new d k h = get-more cs (new_conn i id j) d ∙ ap (λ b. cond b (Some (new_conn i id j)) (slice_get cs d)) (ne_eqb c d (λ e. let w = slice_get_within cs d k h in absurd (omega (arith, w, e)))) ∙ h
 
   get-last : slice_get cs' c ≡ Some (new_conn i id j)
   get-last = get-more cs (new_conn i id j) c ∙ ap (λ b. cond b (Some (new_conn i id j)) (slice_get cs c)) (eqb-self c)
@@ -74,7 +71,7 @@ module _ (i id j : ℕ) (ls : List Life) (cs : List Conn) (old away : Life) (at 
   split : (P : Type 0) (d : ℕ) (h : Conn) → slice_get cs' d ≡ Some h → (c ≡ d → new_conn i id j ≡ h → P) → (slice_get cs d ≡ Some h → P) → P
   split P d h e new same = decide P c d
       (λ q. new q (let z : Some (new_conn i id j) ≡ Some h = sym get-last ∙ ap (slice_get cs') q ∙ e in cc))
-      (λ n. same (ap (λ b. cond b (Some (new_conn i id j)) (slice_get cs d)) (sym (eqb-not c d n)) ∙ sym (get-more cs (new_conn i id j) d) ∙ e))
+      (λ n. same (ap (λ b. cond b (Some (new_conn i id j)) (slice_get cs d)) (sym (ne_eqb c d n)) ∙ sym (get-more cs (new_conn i id j) d) ∙ e))
 
   reach-stays : (p : ℕ) → Stays (slice_get old.rows p) (slice_get (at_place id (reached_row c) old.rows) p)
   reach-stays p d x e h = decide ((y : EndRow) × (slice_get (at_place id (reached_row c) old.rows) p ≡ Some y) × (y.side ≡ x.side) × (y.conn ≡ Some d)) id p

@@ -1,13 +1,7 @@
 -- Each end that is up holds the digest of the own cookie and its own challenge.
-use Rattle.std.specs.Prelude.{◌≡◌, ◌&&◌, ◌∷◌}
-use Rattle.dist_world_model.proofs.Words.{ℕ, true, List, [], refl, ap, ◌∙◌, subst, Setup, NodeLaws, Life, own_digest, Happening, empty, run}
-use Rattle.dist_world_model.proofs.Words.{AllLives, OwnDigests, node_after, step_result, same_bytes}
-use Rattle.dist_core.specs.Acts.{changed_or}
-use Rattle.dist_core_laws.specs.Records.{AreRight}
-use Rattle.dist_world_model.proofs.IncarnationEffects.{Keeps, always}
-use Rattle.dist_world_model.proofs.IncarnationFacts.{IsLife}
-use Rattle.dist_world_model.proofs.LastingFacts.{life_keeps}
-use Rattle.dist_world_model.proofs.Places.{eqb-self}
+use Rattle.dist_world_model.proofs.Words.{◌≡◌, ℕ, true, ◌&&◌, List, [], ◌∷◌, refl, ap, ◌∙◌, subst, own_digest, same_bytes, Setup, changed_or, node_after}
+use Rattle.dist_world_model.proofs.Words.{step_result, AreRight, AllLives, OwnDigests, NodeLaws, run, Life, empty, Happening}
+use Rattle.dist_world_model.proofs.{IncarnationEffects.Keeps, IncarnationEffects.always, IncarnationFacts.IsLife, LastingFacts.life_keeps, Places.eqb-self}
 
 pub record IsRight (t : ℕ) (l : Life) : Type 0 where
   pub life : IsLife t l

@@ -1,20 +1,14 @@
 -- Each end of a running incarnation that is past waiting for its connection has one.
-use Rattle.std.specs.Prelude.{◌≡◌, ◌+◌}
-use Rattle.dist_world_model.proofs.Words.{ℕ, Bool, true, false, cond, List, Option, Some, None, Ok, refl, sym, ap, ◌∙◌, subst, slice_get, Acceptor, EndId}
-use Rattle.dist_world_model.proofs.Words.{Setup, End, Event, Effect, EndRow, NodeLaws, length, given_by, new_row, Life, row_of_life, Happening, World, runs}
-use Rattle.dist_world_model.proofs.Words.{empty, run, AllLives, false≢true, eqb, eqb-true, option_map, rows_after, effect_of, reached_life, conn_of}
-use Rattle.dist_world_model.proofs.Words.{after_change, ends_after, with_node, UpsAreLinked, other_view}
+use Rattle.dist_world_model.proofs.Words.{◌≡◌, ℕ, ◌+◌, Bool, true, false, cond, eqb, List, length, slice_get, Some, None, Ok, Option, option_map, sym, refl, ap}
+use Rattle.dist_world_model.proofs.Words.{◌∙◌, subst, eqb-true, false≢true, Acceptor, EndId, other_view, End, Setup, after_change, ends_after, effect_of}
+use Rattle.dist_world_model.proofs.Words.{Effect, Event, conn_of, reached_life, with_node, AllLives, UpsAreLinked, NodeLaws, EndRow, given_by, new_row}
+use Rattle.dist_world_model.proofs.Words.{rows_after, run, Life, World, empty, row_of_life, runs, Happening}
 use Rattle.dist_core.specs.declared.event.Event.TheVariants as event
-use Rattle.dist_world_model.proofs.EndStates.{needs}
+use Rattle.dist_world_model.proofs.{EndStates.needs, IncarnationFacts.IsLife, LastingFacts.life_keeps, OtherRows.end-after, Places.at-more, Places.at-one}
 use Rattle.dist_world_model.proofs.EventEnds.{Came_in, Had, Notified, Served, gives, other-spent, served}
 use Rattle.dist_world_model.proofs.HappeningEffects.{Accepts, Act, Begins, Comes, Ends, Plain, Reaches, Ready, Reports, Resets, Takes}
 use Rattle.dist_world_model.proofs.IncarnationEffects.{alike, all-free, kept-by-all, one-step}
-use Rattle.dist_world_model.proofs.IncarnationFacts.{IsLife}
-use Rattle.dist_world_model.proofs.LastingFacts.{life_keeps}
-use Rattle.dist_world_model.proofs.OtherRows.{end-after}
-use Rattle.dist_world_model.proofs.Places.{at-more, at-one}
-use Rattle.dist_world_model.proofs.StepEffects.{deed_of, is_given}
-use Rattle.dist_world_model.proofs.UnchangedRows.{row-new, row-then, same-length}
+use Rattle.dist_world_model.proofs.{StepEffects.deed_of, StepEffects.is_given, UnchangedRows.row-new, UnchangedRows.row-then, UnchangedRows.same-length}
 use Rattle.dist_world_model.proofs.WithoutEvent.{get-reached, reach, reach-any}
 
 -- each end that is past waiting for its connection has one

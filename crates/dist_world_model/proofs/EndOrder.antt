@@ -1,15 +1,9 @@
 -- THE LAWS OF EVERY INCARNATION: who holds a peer, who comes up, and after whom.
-use Rattle.std.specs.Prelude.{◌≡◌, ◌<◌, ◌⊎◌, ◌+◌, ◌||◌}
-use Rattle.dist_world_model.proofs.Words.{ℕ, true, false, List, Option, Some, None, sym, ap, ◌∙◌, arith, slice_get, Setup, EndRow, past, NodeLaws}
-use Rattle.dist_world_model.proofs.Words.{inl, inr, Life, Happening, empty, run, AllLives, false≢true, nat_tests, AreApart, left_before}
-use Rattle.dist_world_model.proofs.Words.{true_from_ne_false}
-use Rattle.dist_world_model.specs.Laws.{Alone, Apart, Decided, InTurn}
-use Rattle.dist_world_model.specs.Stones.{Replaces, RisesFirst, TakesOver}
-use Rattle.dist_world_model.proofs.IncarnationEffects.{always}
-use Rattle.dist_world_model.proofs.LastingFacts.{IsWhole, whole_keeps}
+use Rattle.dist_world_model.proofs.Words.{◌≡◌, ℕ, ◌+◌, ◌<◌, true, false, ◌||◌, ◌⊎◌, List, slice_get, Some, None, Option, sym, ap, ◌∙◌, inl, inr, arith}
+use Rattle.dist_world_model.proofs.Words.{false≢true, true_from_ne_false, nat_tests, Setup, AreApart, AllLives, Alone, Apart, Decided, InTurn, NodeLaws, EndRow}
+use Rattle.dist_world_model.proofs.Words.{past, run, Replaces, RisesFirst, TakesOver, left_before, Life, empty, Happening}
+use Rattle.dist_world_model.proofs.{IncarnationEffects.always, LastingFacts.IsWhole, LastingFacts.whole_keeps, Places.flip, RowChanges.Lasts, RowChanges.Timed}
 use Rattle.dist_world_model.proofs.PastMoments.{contra, dialled-entered, entered-later, is-past, left-sooner, not-above, not-past, past-is, past-sooner}
-use Rattle.dist_world_model.proofs.Places.{flip}
-use Rattle.dist_world_model.proofs.RowChanges.{Lasts, Timed}
 use Rattle.dist_world_model.proofs.SoleHolders.{in-alone, out-alone, up-alone}
 
 module _ (laws : NodeLaws) (t : ℕ) (l : Life) (w : IsWhole t l) where

@@ -1,16 +1,10 @@
 -- The two ends of a connection at their nodes, with their rows.
-use Rattle.std.specs.Prelude.{◌≡◌, ◌<◌, ◌≢◌, ◌⊎◌, ◌+◌, ◌||◌}
-use Rattle.dist_world_model.proofs.Words.{ℕ, true, false, Option, Some, None, sym, ap, ◌∙◌, arith, is_some, slice_get, Name, Side, Dialler, Acceptor}
-use Rattle.dist_world_model.proofs.Words.{EndRow, past, NodeLaws, inl, inr, Life, World, runs, Numbers, AreApart, left_before}
-use Rattle.dist_world_model.proofs.Words.{entered_before}
-use Rattle.std.proofs.lemmas.Bool.{cases_order}
-use Rattle.dist_world_model.proofs.EndStates.{Below}
-use Rattle.dist_world_model.proofs.LastingFacts.{IsWhole}
+use Rattle.dist_world_model.proofs.Words.{◌≡◌, ℕ, ◌+◌, ◌<◌, true, false, ◌||◌, ◌≢◌, ◌⊎◌, is_some, slice_get, Some, None, Option, sym, ap, ◌∙◌, inl, inr, arith}
+use Rattle.dist_world_model.proofs.Words.{cases_order, Name, Side, Acceptor, Dialler, AreApart, NodeLaws, Numbers, EndRow, past, entered_before, left_before}
+use Rattle.dist_world_model.proofs.Words.{Life, World, runs}
+use Rattle.dist_world_model.proofs.{EndStates.Below, LastingFacts.IsWhole, RowChanges.IsRow, RowChanges.Lasts, RowChanges.Timed, WithoutEvent.not-over}
 use Rattle.dist_world_model.proofs.PastMoments.{contra, entered-later, is-past, past-is, past-later}
-use Rattle.dist_world_model.proofs.RowChanges.{IsRow, Lasts, Timed}
-use Rattle.dist_world_model.proofs.SoleHolders.{in-alone, out-alone, up-alone}
-use Rattle.dist_world_model.proofs.WithoutEvent.{not-over}
-use Rattle.dist_world_model.proofs.WorldFacts.{IsKept}
+use Rattle.dist_world_model.proofs.{SoleHolders.in-alone, SoleHolders.out-alone, SoleHolders.up-alone, WorldFacts.IsKept}
 
 -- ---- the two ends of a connection
 

@@ -1,8 +1,7 @@
 -- How an end stands, read off the end and read off its row.
-use Rattle.dist_world_model.proofs.Words.{ℕ, Bool, true, false, List, Option, Some, None, refl, is_some, slice_get, Name, Side, Dialler, Acceptor}
-use Rattle.dist_world_model.proofs.Words.{Phase, End, EndRow, past, rises, takes_name, peer_by, not, claim_when, holds_peer, says_reply, Reply}
-use Rattle.dist_core_ends.specs.Ends.{Claim}
-use Rattle.std.specs.Prelude.{if◌then◌else◌, ◌≡◌, ◌&&◌, ◌||◌}
+use Rattle.dist_world_model.proofs.Words.{◌≡◌, ℕ, Bool, true, false, not, ◌&&◌, ◌||◌, List, is_some, if◌then◌else◌, slice_get, Some, None, Option, refl, Name}
+use Rattle.dist_world_model.proofs.Words.{Side, Acceptor, Dialler, Claim, End, Phase, Reply, EndRow, claim_when, holds_peer, past, peer_by, rises, says_reply}
+use Rattle.dist_world_model.proofs.Words.{takes_name}
 use Rattle.dist_core_ends.specs.declared.known.End.TheVariants as ends
 use Rattle.dist_core_ends.specs.declared.phase.Phase.TheVariants as phase
 

@@ -1,29 +1,20 @@
 -- What a deed says of its reply: which end it is of, and what happens to another.
-use Rattle.std.specs.Prelude.{◌≡◌, ◌⊎◌}
-use Rattle.dist_world_model.proofs.Words.{ℕ, Bool, true, false, List, [], Option, Some, None, refl, sym, ap, ◌∙◌, subst, is_some, slice_get, Name, Side}
-use Rattle.dist_world_model.proofs.Words.{EndId, Phase, Attempt, End, Event, Effect, Why, NodeState, rises, takes_name, length, inl, inr, UpRecord}
-use Rattle.dist_world_model.proofs.Words.{false≢true, eqb-true, option_map, entry_in, dooms, says_reply, replaced_by, Opening, same_Some}
-use Rattle.std.proofs.lemmas.Option.{some_pair_parts}
+use Rattle.dist_world_model.proofs.Words.{◌≡◌, ℕ, true, false, ◌⊎◌, List, [], length, is_some, slice_get, Some, None, Option, option_map, sym, refl, ap, ◌∙◌}
+use Rattle.dist_world_model.proofs.Words.{subst, inl, inr, eqb-true, both_ways, false≢true, same_Some, some_pair_parts, Name, Side, Opening, replaced_by, EndId}
+use Rattle.dist_world_model.proofs.Words.{entry_in, Attempt, End, UpRecord, Phase, Why, NodeState, Effect, Event, dooms, rises, says_reply, takes_name}
 use Rattle.dist_core_ends.specs.declared.known.End.TheVariants as ends
-use Rattle.dist_core.specs.declared.event.Event.TheVariants as event
-use Rattle.dist_core.specs.declared.reply.Note.TheVariants as note
 use Rattle.dist_core_ends.specs.declared.phase.Phase.TheVariants as phase
 use Rattle.dist_core_ends.specs.declared.why.Why.TheVariants as why
+use Rattle.dist_core.specs.declared.event.Event.TheVariants as event
+use Rattle.dist_core.specs.declared.reply.Note.TheVariants as note
 use Rattle.dist_world_model.proofs.EndStates.{Stand, dialled_stand, needs, ready_stand, stand_in}
 use Rattle.dist_world_model.proofs.StepEffects.{Comes_in, Deed, Dials, Dooms, Drops, Refuses, Rises, Says, Shuts, Takes, Takes_over, Work, Works, is_given}
 use Rattle.dist_world_model.proofs.StepEffects.{own-not-given, own_id}
 use Rattle.dist_world_model.proofs.Wires.{Noted, NotedIn, Voice}
 
-pub false-by : (b : Bool) → (b ≡ true → ⊥) → b ≡ false
-false-by true h = absurd (h refl)
-false-by false h = refl
-
 pub none-of : (o : Option ℕ) → is_some o ≡ false → o ≡ None
 none-of None h = refl
 none-of (Some n) h = absurd (false≢true (sym h))
-
-pub given-not : (b : Bool) → b ≡ false → b ≡ true → ⊥
-given-not b h g = false≢true (sym h ∙ g)
 
 -- nothing is noted in it
 abbrev pub IsHush : End → Type 0
@@ -66,11 +57,11 @@ module _ (n : NodeState) (v : Event) where
   pub gives : (f : Effect) → Deed n v f → is_given v ≡ true → Gives n f
   gives f (Dials p o is idle) g = record { note = refl; up = refl; closed = refl; say = refl; id = refl; hush = λ a b. tt }
   gives f (Comes_in link is) g = record { note = refl; up = refl; closed = refl; say = refl; id = refl; hush = λ a b. tt }
-  gives f (Works id e g own at s w) h = absurd (given-not (is_given v) (own-not-given v id own) h)
+  gives f (Works id e g own at s w) h = absurd (both_ways (is_given v) (own-not-given v id own) h)
 
   pub own-end : (f : Effect) → Deed n v f → is_given v ≡ false → (e : End) × (slice_get n.ends f.reply.end_.0 ≡ Some e)
-  own-end f (Dials p o is idle) g = absurd (given-not (is_given v) g (ap is_given is))
-  own-end f (Comes_in link is) g = absurd (given-not (is_given v) g (ap is_given is))
+  own-end f (Dials p o is idle) g = absurd (both_ways (is_given v) g (ap is_given is))
+  own-end f (Comes_in link is) g = absurd (both_ways (is_given v) g (ap is_given is))
   own-end f (Works id e g own at s w) h = (e, ap (λ (y : EndId). slice_get n.ends y.0) (end-of n id e g w) ∙ at)
 
   -- a frame is taken by the event's own end

@@ -1,7 +1,6 @@
 -- What an end may send grows.
-use Rattle.std.specs.Prelude.{◌≡◌}
-use Rattle.dist_world_model.proofs.Words.{ℕ, Bool, true, List, Option, Some, None, refl, ap, is_some, Side, Dialler, Acceptor, Message, EndRow, once, Conn}
-use Rattle.dist_world_model.proofs.Words.{conns_after_saying, false≢true, conn_of, spoken_on}
+use Rattle.dist_world_model.proofs.Words.{◌≡◌, ℕ, Bool, true, List, is_some, Some, None, Option, refl, ap, false≢true, Message, Side, Acceptor, Dialler}
+use Rattle.dist_world_model.proofs.Words.{conns_after_saying, spoken_on, conn_of, EndRow, once, Conn}
 use Rattle.dist_messages.specs.declared.message.Message.TheVariants as message
 use Rattle.dist_world_model.proofs.Wires.{Marks, May, MayAnswer, MaySay, Voice}
 

@@ -1,19 +1,16 @@
 -- What one happening does to the world: the incarnations and the connections after it.
-use Rattle.std.specs.Prelude.{◌≡◌, ◌^◌, ◌<◌, ◌&&◌, ◌++◌, ◌∷◌}
-use Rattle.dist_world_model.proofs.Words.{ℕ, Bool, true, false, cond, List, [], Option, Some, None, Ok, refl, sym, ap, ◌∙◌, arith}
-use Rattle.dist_world_model.proofs.Words.{slice_get, Creation, Side, EndId, Setup, Event, Effect, NodeState, EndRow, length, at_place, Life, Conn}
-use Rattle.dist_world_model.proofs.Words.{conns_after_saying, accepted_by, next_end, Happening, World, runs, w16, first_body, text_to, Result, Err, IfSome, not}
-use Rattle.dist_world_model.proofs.Words.{ltb, eqb-true, rows_after, effect_of, after, life_after, reached_life, new_conn, conn_of, is_dialing}
-use Rattle.dist_world_model.proofs.Words.{step_result, after_change, with_node, Reply, is_none, Change, change, finds_no_room, is_in_use, StepError, step}
-use Rattle.dist_world_model.proofs.Words.{runs_for, running, row_at, after_delivery, body_taken, change_to, most_begins, new_life, life_after_end, world_after}
-use Rattle.dist_world_model.proofs.Words.{Fits, without_closing, most_applied, applied_at, and_parts, same_Some}
+use Rattle.dist_world_model.proofs.Words.{◌≡◌, ℕ, ◌^◌, ◌<◌, Bool, true, false, cond, not, ◌&&◌, ltb, List, [], ◌∷◌, ◌++◌, length, is_none, IfSome, slice_get}
+use Rattle.dist_world_model.proofs.Words.{Some, None, Ok, Err, Option, Result, sym, refl, ap, ◌∙◌, arith, w16, eqb-true, and_parts, same_Some, AllByRecursion}
+use Rattle.dist_world_model.proofs.Words.{Creation, first_body, Side, EndId, is_dialing, Setup, after_change, change, finds_no_room, is_in_use, NodeState}
+use Rattle.dist_world_model.proofs.Words.{after, effect_of, step, step_result, Change, Effect, Event, Reply, StepError, Fits, after_delivery, body_taken}
+use Rattle.dist_world_model.proofs.Words.{change_to, conns_after_saying, text_to, accepted_by, applied_at, conn_of, happens, is_nonempty, is_open_end}
+use Rattle.dist_world_model.proofs.Words.{life_after, life_after_end, most_applied, most_begins, most_connections, new_conn, new_life, next_end, notify}
+use Rattle.dist_world_model.proofs.Words.{notify_node, reached_life, with_node, without_closing, world_after, at_place, EndRow, rows_after, run, Conn, Life}
+use Rattle.dist_world_model.proofs.Words.{World, end_at, row_at, running, runs, runs_for, Happening}
 use Rattle.dist_core.specs.declared.changing.ChangeError.TheVariants.{Full, InUse}
-use Rattle.dist_world_model.specs.Happenings.{is_nonempty, is_open_end, most_connections, notify, notify_node}
-use Rattle.dist_world_model.specs.World.{end_at}
 use Rattle.dist_core.specs.declared.event.Event.TheVariants as event
 use Rattle.dist_world_model.specs.declared.happening.Happening.TheVariants as happening
-use Rattle.dist_world_model.proofs.Conditions.{if_holds, if_ok, if_there}
-use Rattle.dist_world_model.proofs.Places.{first-at}
+use Rattle.dist_world_model.proofs.{Conditions.if_holds, Conditions.if_ok, Conditions.if_there, Places.first-at}
 
 -- an event that takes no body and accepts no connection
 abbrev pub IsPlain : Event → Type 0
@@ -167,3 +164,13 @@ where-applied Q w h q = by (ltb w.clock most_applied)
     by : (b : Bool) → IfSome (cond b (world_after (without_closing w) h) None) Q
     by true = q
     by false = tt
+
+-- ---- happenings one after another
+
+pub run-append : (hs gs : List Happening) (w : World) → run (hs ++ gs) w ≡ run gs (run hs w)
+run-append [] gs w = refl
+run-append (h ∷ hs) gs w = run-append hs gs (happens w h)
+
+pub fit-append : (hs gs : List Happening) → AllByRecursion Fits hs → AllByRecursion Fits gs → AllByRecursion Fits (hs ++ gs)
+fit-append [] gs a b = b
+fit-append (h ∷ hs) gs a b = (a.0, fit-append hs gs a.1 b)

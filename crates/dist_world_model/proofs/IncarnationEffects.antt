@@ -1,12 +1,10 @@
 -- What one happening does to each incarnation.
-use Rattle.std.specs.Prelude.{◌≡◌, ◌+◌, ◌∷◌}
-use Rattle.dist_world_model.proofs.Words.{ℕ, true, List, [], Option, Some, None, Ok, refl, sym, ap, ◌∙◌, subst, slice_get, Creation, Setup, Event, Effect}
-use Rattle.dist_world_model.proofs.Words.{length, Life, Conn, Happening, World, runs, empty, run, AllLives, IfSome, effect_of, after, life_after}
-use Rattle.dist_world_model.proofs.Words.{reached_life, after_change, with_node, Change, change, step, new_life, life_after_end, without_closing, ticked_on}
-use Rattle.dist_world_model.proofs.Words.{applied_at, happens}
+use Rattle.dist_world_model.proofs.Words.{◌≡◌, ℕ, ◌+◌, true, List, [], ◌∷◌, length, IfSome, slice_get, Some, None, Ok, Option, sym, refl, ap, ◌∙◌, subst}
+use Rattle.dist_world_model.proofs.Words.{Creation, Setup, after_change, change, after, effect_of, step, Change, Effect, Event, applied_at, happens, life_after}
+use Rattle.dist_world_model.proofs.Words.{life_after_end, new_life, reached_life, ticked_on, with_node, without_closing, AllLives, run, Conn, Life, World}
+use Rattle.dist_world_model.proofs.Words.{empty, runs, Happening}
 use Rattle.dist_world_model.proofs.HappeningEffects.{Act, Acted, Begins, Comes, Ends, Reaches, Reports, Resets, acts, where-applied}
-use Rattle.dist_world_model.proofs.Lookups.{far}
-use Rattle.dist_world_model.proofs.Places.{at-more, at-one}
+use Rattle.dist_world_model.proofs.{Lookups.far, Places.at-more, Places.at-one}
 
 -- WHAT HAPPENS TO AN INCARNATION at number t: l is what place i has afterwards
 pub data Turn (ls : List Life) (t i : ℕ) (l : Life) : Type 0 where

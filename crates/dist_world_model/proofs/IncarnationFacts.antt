@@ -1,14 +1,10 @@
 -- What is true of each incarnation, at every moment.
-use Rattle.std.specs.Prelude.{◌≡◌, ◌<◌, ◌≢◌, ◌⊎◌, ◌+◌, ◌≤◌, ◌||◌}
-use Rattle.dist_world_model.proofs.Words.{ℕ, true, false, List, Option, Some, None, refl, sym, ap, ◌∙◌, subst, arith, is_some, slice_get, Name, Side}
-use Rattle.dist_world_model.proofs.Words.{Dialler, Acceptor, End, EndRow, past, inl, inr, new_row, Life, runs, ltb, eqb-true, Entry}
-use Rattle.dist_world_model.proofs.Words.{Out, names, holds_at, is_held, entry_in, is_claim, claim_before, claim_when, claim_in, lesser, Kind, In, Up}
-use Rattle.dist_world_model.proofs.Words.{held_before, cases_lt, AreApart, left_before, AreLegal, get_along}
-use Rattle.dist_world_model.specs.Crossing.{Crosses}
-use Rattle.std.proofs.lemmas.Bool.{le-ltb}
+use Rattle.dist_world_model.proofs.Words.{◌≡◌, ℕ, ◌+◌, ◌<◌, ◌≤◌, true, false, ◌||◌, ltb, ◌≢◌, ◌⊎◌, List, is_some, slice_get, Some, None, Option, sym, refl, ap}
+use Rattle.dist_world_model.proofs.Words.{◌∙◌, subst, inl, inr, arith, le-ltb, eqb-true, cases_lt, Name, Side, Acceptor, Dialler, Entry, AreLegal, entry_in}
+use Rattle.dist_world_model.proofs.Words.{holds_at, is_claim, is_held, names, End, Kind, In, Out, Up, Crosses, lesser, AreApart, claim_in, get_along}
+use Rattle.dist_world_model.proofs.Words.{held_before, EndRow, claim_before, claim_when, new_row, past, left_before, Life, runs}
 use Rattle.dist_peers.specs.declared.entry.Entry.TheVariants as entry
-use Rattle.dist_world_model.proofs.EndStates.{AreBeside, Below, Beside}
-use Rattle.dist_world_model.proofs.RowChanges.{Writes, writes-below, writes-claim}
+use Rattle.dist_world_model.proofs.{EndStates.AreBeside, EndStates.Below, EndStates.Beside, RowChanges.Writes, RowChanges.writes-below, RowChanges.writes-claim}
 use Rattle.dist_world_model.proofs.RowMarks.{fits-claim, later-below, new-below}
 
 -- ---- two ends that an entry names get along

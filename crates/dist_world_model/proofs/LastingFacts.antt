@@ -1,17 +1,11 @@
 -- Each incarnation keeps what is true of it, whatever happens.
-use Rattle.std.specs.Prelude.{◌≡◌, ◌<◌, ◌≢◌, ◌⊎◌, ◌+◌, ◌≤◌, ◌||◌}
-use Rattle.dist_world_model.proofs.Words.{ℕ, Bool, true, false, cond, List, Option, Some, None, refl, sym, ap, ◌∙◌, subst, arith, is_some, slice_get}
-use Rattle.dist_world_model.proofs.Words.{Name, Creation, Dialler, Acceptor, Setup, EndRow, past, once, NodeLaws, inl, inr, Life}
-use Rattle.dist_world_model.proofs.Words.{false≢true, is_greater, Out, is_claim, claim_before, claim_in, lesser, after, life_after, held_before}
-use Rattle.dist_world_model.proofs.Words.{reached_life, after_change, with_node, left_before, new_life, life_after_end, or_right}
-use Rattle.dist_world_model.specs.Stones.{DialsIdle}
-use Rattle.dist_world_model.proofs.EndStates.{Below}
-use Rattle.dist_world_model.proofs.EventEnds.{false-by}
-use Rattle.dist_world_model.proofs.IncarnationEffects.{Keeps}
+use Rattle.dist_world_model.proofs.Words.{◌≡◌, ℕ, ◌+◌, ◌<◌, ◌≤◌, Bool, true, false, cond, ◌||◌, ◌≢◌, ◌⊎◌, List, is_some, slice_get, Some, None, Option, sym}
+use Rattle.dist_world_model.proofs.Words.{refl, ap, ◌∙◌, subst, inl, inr, arith, false_from_ne_true, false≢true, or_right, Name, Creation, Acceptor, Dialler}
+use Rattle.dist_world_model.proofs.Words.{is_greater, is_claim, Out, Setup, after_change, after, lesser, life_after, life_after_end, new_life, reached_life}
+use Rattle.dist_world_model.proofs.Words.{with_node, claim_in, held_before, NodeLaws, EndRow, claim_before, once, past, DialsIdle, left_before, Life}
+use Rattle.dist_world_model.proofs.{EndStates.Below, IncarnationEffects.Keeps, RowMarks.below-of, RowMarks.written, WithEvent.lives-grown, WithEvent.lives-life}
 use Rattle.dist_world_model.proofs.IncarnationFacts.{AllRows, AreGone, Grown, IsDone, IsGone, IsLife, NamedNow, New, OldAgree, Origin, Was, grows-agree}
 use Rattle.dist_world_model.proofs.RowChanges.{IsRow, Writes, left-stays, name-stays, new-is-row, peer-stays, rose-stays, writes-claim, writes-row}
-use Rattle.dist_world_model.proofs.RowMarks.{below-of, written}
-use Rattle.dist_world_model.proofs.WithEvent.{lives-grown, lives-life}
 use Rattle.dist_world_model.proofs.WithoutEvent.{ends-grown, ends-life, kept-grown, kept-life, reaches-grown, reaches-life, setup-name}
 
 module _ (laws : NodeLaws) where
@@ -129,7 +123,7 @@ module _ (t : ℕ) (l m : Life) (old : IsLife t l) (new : IsLife (t + 1) m) (g :
   )
     where
       unrisen : w.rises_now ≡ false
-      unrisen = false-by w.rises_now (λ b. let r = w.at_rise b in false≢true ((λ i. is_some (sym r.1 i) || is_some (sym r.2 i)) ∙ q.1))
+      unrisen = false_from_ne_true w.rises_now (λ b. let r = w.at_rise b in false≢true ((λ i. is_some (sym r.1 i) || is_some (sym r.2 i)) ∙ q.1))
 
       by : (d c : Option ℕ) → (is_some d || is_some c) ≡ true → (is_some (once w.dooms_now t d) || is_some (once w.shuts_now t c)) ≡ true
       by (Some a) c e = refl

@@ -1,10 +1,8 @@
 -- What stands at a place of the world.
-use Rattle.std.specs.Prelude.{◌≡◌, ◌≢◌, ◌++◌, ◌∷◌}
-use Rattle.dist_world_model.proofs.Words.{ℕ, true, false, cond, List, [], Option, Some, None, refl, sym, ap, ◌∙◌, subst, arith, slice_get, End, EndRow}
-use Rattle.dist_world_model.proofs.Words.{length, slice_get_past, at_place, Life, row_of_life, end_of_life, false≢true, eqb, eqb-true, option_map}
-use Rattle.dist_world_model.proofs.Words.{suc, zero}
-use Rattle.dist_world_model.proofs.Places.{eqb-self, get-more, get-place}
-use Rattle.dist_world_model.proofs.Wires.{Voice, voice}
+use Rattle.dist_world_model.proofs.Words.{◌≡◌, ℕ, zero, suc, true, false, cond, eqb, ◌≢◌, List, [], ◌∷◌, ◌++◌, length, slice_get, Some, None, Option}
+use Rattle.dist_world_model.proofs.Words.{option_map, sym, refl, ap, ◌∙◌, subst, arith, ne_eqb, eqb-true, false≢true, slice_get_past, End, at_place, EndRow}
+use Rattle.dist_world_model.proofs.Words.{Life, end_of_life, row_of_life}
+use Rattle.dist_world_model.proofs.{Places.eqb-self, Places.get-more, Places.get-place, Wires.Voice, Wires.voice}
 
 -- the row and the end of this number in incarnation i, and what its node says of itself
 abbrev pub row_in : List Life → ℕ → ℕ → Option EndRow
@@ -24,9 +22,6 @@ voice_in ls i = voice_of (slice_get ls i)
 abbrev pub far : {A : Type 0} → (ℕ → Option A) → Option ℕ → Option A
 far f None = None
 far f (Some y) = f y
-
-pub eqb-not : (i j : ℕ) → i ≢ j → eqb i j ≡ false
-eqb-not i j h = elim (eqb i j) as (λ b. eqb i j ≡ b → b ≡ false) [ true ↦ λ b. absurd (h (eqb-true i j b)) | false ↦ λ b. refl ] refl
 
 -- equal or not
 pub decide : (P : Type 0) (i j : ℕ) → (i ≡ j → P) → (i ≢ j → P) → P
@@ -60,7 +55,7 @@ pub at-other : {A : Type 0} (P : ℕ → A → Type 0) (i : ℕ) (f : A → A) (
 at-other P i f xs new old j y h =
     decide (P j y) i j
     (λ e. by (slice_get xs i) refl e (ap (λ b. cond b (option_map f (slice_get xs j)) (slice_get xs j)) (sym (ap (eqb i) (sym e) ∙ eqb-self i)) ∙ sym (get-place i f xs j) ∙ h))
-    (λ n. old j y n (ap (λ b. cond b (option_map f (slice_get xs j)) (slice_get xs j)) (sym (eqb-not i j n)) ∙ sym (get-place i f xs j) ∙ h))
+    (λ n. old j y n (ap (λ b. cond b (option_map f (slice_get xs j)) (slice_get xs j)) (sym (ne_eqb i j n)) ∙ sym (get-place i f xs j) ∙ h))
   where
     by : (o : Option _) → slice_get xs i ≡ o → i ≡ j → option_map f (slice_get xs j) ≡ Some y → P j y
     by None at e q = absurd (let z : None ≡ Some y = ap (option_map f) (sym (ap (slice_get xs) (sym e) ∙ at)) ∙ q in cc)
@@ -71,7 +66,7 @@ pub placed : {A : Type 0} (i : ℕ) (f : A → A) (xs : List A) (x : A) → slic
 placed i f xs x at = get-place i f xs i ∙ ap (λ b. cond b (option_map f (slice_get xs i)) (slice_get xs i)) (eqb-self i) ∙ ap (option_map f) at
 
 pub unplaced : {A : Type 0} (i : ℕ) (f : A → A) (xs : List A) (j : ℕ) → i ≢ j → slice_get (at_place i f xs) j ≡ slice_get xs j
-unplaced i f xs j h = get-place i f xs j ∙ ap (λ b. cond b (option_map f (slice_get xs j)) (slice_get xs j)) (eqb-not i j h)
+unplaced i f xs j h = get-place i f xs j ∙ ap (λ b. cond b (option_map f (slice_get xs j)) (slice_get xs j)) (ne_eqb i j h)
 
 pub place-twice : {A : Type 0} (i : ℕ) (f g : A → A) (xs : List A) → at_place i g (at_place i f xs) ≡ at_place i (λ x. g (f x)) xs
 place-twice i f g [] = refl

@@ -1,11 +1,9 @@
 -- Two connections on which two nodes count each other as up cannot differ: order alone.
-use Rattle.std.specs.Prelude.{◌≡◌, ◌<◌, ◌≢◌, ◌⊎◌, ◌+◌, ◌≤◌}
-use Rattle.dist_world_model.proofs.Words.{ℕ, true, false, Some, refl, sym, ap, ◌∙◌, arith, Name, Dialler, Acceptor, past, NodeLaws, inl}
-use Rattle.dist_world_model.proofs.Words.{inr, World, runs, cases_lt, left_before, entered_before}
+use Rattle.dist_world_model.proofs.Words.{◌≡◌, ℕ, ◌+◌, ◌<◌, ◌≤◌, true, false, ◌≢◌, ◌⊎◌, Some, sym, refl, ap, ◌∙◌, inl, inr, arith, cases_lt, Name, Acceptor}
+use Rattle.dist_world_model.proofs.Words.{Dialler, NodeLaws, past, entered_before, left_before, World, runs}
 use Rattle.dist_world_model.proofs.EndPairs.{IsOpen, Line, Older, Seat, in-not, older-number, out-not, rose-not, same-or-older, since, stays-in, timed}
 use Rattle.dist_world_model.proofs.PastMoments.{accepted-entered, contra, dialled-entered, entered-dialled, left-sooner, not-below, not-past, past-sooner}
-use Rattle.dist_world_model.proofs.Places.{flip}
-use Rattle.dist_world_model.proofs.WorldFacts.{IsKept}
+use Rattle.dist_world_model.proofs.{Places.flip, WorldFacts.IsKept}
 
 module _ (laws : NodeLaws) (w : World) (h : IsKept w) where
   -- ---- the reply of a dialled end

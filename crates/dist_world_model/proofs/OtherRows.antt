@@ -1,12 +1,8 @@
 -- What an event does to all rows and ends but its own.
-use Rattle.std.specs.Prelude.{◌≡◌, ◌≢◌}
-use Rattle.dist_world_model.proofs.Words.{ℕ, Bool, true, false, cond, List, Option, Some, None, Ok, refl, sym, ap, ◌∙◌, subst, is_some, slice_get, Side}
-use Rattle.dist_world_model.proofs.Words.{Dialler, Acceptor, EndId, End, Event, Effect, NodeState, EndRow, row_after, NodeLaws, mark, new_row, false≢true}
-use Rattle.dist_world_model.proofs.Words.{eqb, eqb-true, rows_after, dooms, shuts_end, effect_of, ends_after, other_view, AreLegal, ne_eqb}
-use Rattle.dist_core_laws.specs.Laws.{IsOther}
-use Rattle.dist_world_model.proofs.EventEnds.{gives, other-spent}
-use Rattle.dist_world_model.proofs.Places.{eqb-self}
-use Rattle.dist_world_model.proofs.RowMarks.{once-false}
+use Rattle.dist_world_model.proofs.Words.{◌≡◌, ℕ, Bool, true, false, cond, eqb, ◌≢◌, List, is_some, slice_get, Some, None, Ok, Option, sym, refl, ap, ◌∙◌}
+use Rattle.dist_world_model.proofs.Words.{subst, ne_eqb, eqb-true, false≢true, Side, Acceptor, Dialler, EndId, other_view, AreLegal, End, NodeState, ends_after}
+use Rattle.dist_world_model.proofs.Words.{effect_of, Effect, Event, IsOther, NodeLaws, EndRow, dooms, mark, new_row, row_after, rows_after, shuts_end}
+use Rattle.dist_world_model.proofs.{EventEnds.gives, EventEnds.other-spent, Places.eqb-self, RowMarks.once-false}
 use Rattle.dist_world_model.proofs.StepEffects.{Deed, deed_of, is_given}
 use Rattle.dist_world_model.proofs.UnchangedRows.{Came, Fresh, Old, came, given-is, given-mark, row-then}
 use Rattle.dist_world_model.proofs.Wires.{Hushed, NotedAt, Quiet, marks_of, pledged, quiet-refl}

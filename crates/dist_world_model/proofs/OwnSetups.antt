@@ -1,20 +1,16 @@
 -- Each incarnation has its node's setup, with the changes of its own resets.
-use Rattle.std.specs.Prelude.{◌≡◌, ◌++◌, ◌∷◌}
-use Rattle.dist_world_model.proofs.Words.{ℕ, Bool, true, false, cond, List, [], Option, Some, None, Ok, refl, sym, ap, ◌∙◌, subst, is_some, slice_get}
-use Rattle.dist_world_model.proofs.Words.{Creation, Setup, NodeState, NodeLaws, at_place, Life, Conn, Happening, World, empty, run, AllLives, Err, IfSome}
-use Rattle.dist_world_model.proofs.Words.{eqb, eqb-true, option_map, names, after, life_after, reached_life, same_bytes, after_change, with_node, Change}
-use Rattle.dist_world_model.proofs.Words.{change, finds_no_room, is_in_use, running, new_life, life_after_end, world_after, without_closing, ticked_on}
-use Rattle.dist_world_model.proofs.Words.{applied_at, happens, setup_after, opening, changes_at, setup_by}
+use Rattle.dist_world_model.proofs.Words.{◌≡◌, ℕ, Bool, true, false, cond, eqb, List, [], ◌∷◌, ◌++◌, is_some, IfSome, slice_get, Some, None, Ok, Err, Option}
+use Rattle.dist_world_model.proofs.Words.{option_map, sym, refl, ap, ◌∙◌, subst, eqb-true, Creation, names, same_bytes, Setup, after_change, change}
+use Rattle.dist_world_model.proofs.Words.{finds_no_room, is_in_use, setup_after, NodeState, opening, after, Change, applied_at, happens, life_after}
+use Rattle.dist_world_model.proofs.Words.{life_after_end, new_life, reached_life, ticked_on, with_node, without_closing, world_after, AllLives, at_place}
+use Rattle.dist_world_model.proofs.Words.{NodeLaws, run, Conn, Life, World, empty, running, Happening}
 use Rattle.dist_core_setup.specs.Rules.{own_digest}
-use Rattle.dist_world_model.specs.OwnSetups.{AreNoResets, HasSetDigests, IsNoReset, IsSetUp, change_by, is_place}
-use Rattle.dist_core.specs.declared.changing.ChangeError.TheVariants as change_error
 use Rattle.dist_core.specs.declared.changing.Change.TheVariants as changes
+use Rattle.dist_core.specs.declared.changing.ChangeError.TheVariants as change_error
+use Rattle.dist_world_model.specs.OwnSetups.{changes_at, setup_by, AreNoResets, HasSetDigests, IsNoReset, IsSetUp, change_by, is_place}
 use Rattle.dist_world_model.specs.declared.happening.Happening.TheVariants as happening
-use Rattle.dist_world_model.proofs.Conditions.{if_ok, if_there}
-use Rattle.dist_world_model.proofs.Digests.{digest_lives}
+use Rattle.dist_world_model.proofs.{Conditions.if_ok, Conditions.if_there, Digests.digest_lives, Lookups.changed-at, Lookups.more-at, Places.get-place}
 use Rattle.dist_world_model.proofs.HappeningEffects.{Act, Acted, Begins, Comes, Ends, Reaches, Reports, Resets, acts, change-ok, where-applied}
-use Rattle.dist_world_model.proofs.Lookups.{changed-at, more-at}
-use Rattle.dist_world_model.proofs.Places.{get-place}
 use Rattle.dist_world_model.proofs.WireSteps.{bare-stays}
 
 -- ---- changes, one after another

@@ -1,31 +1,24 @@
 -- What an event does to its own end's side of a connection.
-use Rattle.std.specs.Prelude.{◌≡◌, ◌^◌, ◌<◌, ◌&&◌}
-use Rattle.dist_world_model.proofs.Words.{ℕ, Bool, true, false, cond, List, [], Option, Some, None, refl, sym, ap, ◌∙◌, subst, arith}
-use Rattle.dist_world_model.proofs.Words.{is_some, slice_get, Name, low_half, high_half, common, Creation, read, Side, Dialler, Acceptor, Message, EndId, Setup}
-use Rattle.dist_world_model.proofs.Words.{Phase, Form, Attempt, End, Event, Effect, Why, NodeState, named_attempt, goes_on, shuts, closes, supersedes}
-use Rattle.dist_world_model.proofs.Words.{superseded_end, held_back, reply_phase, announced_by, knows_six, status_text, greeting_text, challenge_text}
-use Rattle.dist_world_model.proofs.Words.{tick_text, sender_to, sender_in, StepRow, Heard, Taken, EndRow, past, once, row_after, rises, takes_name, peer_by}
-use Rattle.dist_world_model.proofs.Words.{NodeLaws, says, name_text, says_reply, Reply, is_said_by, Status}
-use Rattle.dist_core.specs.Accepted.{complete_flags}
-use Rattle.dist_core.specs.Effects.{moves}
-use Rattle.dist_core.specs.Rows.{Closing, IsChallenge, IsName}
-use Rattle.dist_names.specs.Flags.{handshake_23, has_all, of_halves}
-use Rattle.dist_names.specs.declared.flags.Flags.{Flags}
+use Rattle.dist_world_model.proofs.Words.{◌≡◌, ℕ, ◌^◌, ◌<◌, Bool, true, false, cond, ◌&&◌, List, [], is_some, slice_get, Some, None, Option, sym, refl, ap, ◌∙◌}
+use Rattle.dist_world_model.proofs.Words.{subst, arith, common, handshake_23, has_all, high_half, low_half, of_halves, Name, Creation, Flags, read, is_said_by}
+use Rattle.dist_world_model.proofs.Words.{Form, Message, Side, Acceptor, Dialler, Status, EndId, Attempt, End, Phase, Why, announced_by, knows_six, Setup}
+use Rattle.dist_world_model.proofs.Words.{complete_flags, named_attempt, closes, goes_on, held_back, moves, reply_phase, shuts, superseded_end, supersedes}
+use Rattle.dist_world_model.proofs.Words.{NodeState, Closing, Heard, IsChallenge, IsName, StepRow, Taken, sender_in, sender_to, Effect, Event, Reply, says}
+use Rattle.dist_world_model.proofs.Words.{NodeLaws, EndRow, once, past, peer_by, rises, row_after, says_reply, takes_name}
 use Rattle.std.proofs.Math.Bool as bool
-use Rattle.dist_core.specs.Rows as core
-use Rattle.dist_core_ends.specs.declared.known.End.TheVariants as ends
-use Rattle.dist_core.specs.declared.event.Event.TheVariants as event
 use Rattle.dist_messages.specs.declared.form.Form.TheVariants as form
 use Rattle.dist_messages.specs.declared.message.Message.TheVariants as message
-use Rattle.dist_core.specs.declared.reply.Note.TheVariants as note
-use Rattle.dist_core_ends.specs.declared.phase.Phase.TheVariants as phase
 use Rattle.dist_messages.specs.declared.message.Status.TheVariants as status
+use Rattle.dist_core_ends.specs.declared.known.End.TheVariants as ends
+use Rattle.dist_core_ends.specs.declared.phase.Phase.TheVariants as phase
 use Rattle.dist_core_ends.specs.declared.why.Why.TheVariants as why
+use Rattle.dist_core_setup.specs.Saying.{status_text, greeting_text, challenge_text, tick_text, name_text}
+use Rattle.dist_core.specs.Rows as core
+use Rattle.dist_core.specs.declared.event.Event.TheVariants as event
+use Rattle.dist_core.specs.declared.reply.Note.TheVariants as note
 use Rattle.dist_world_model.proofs.EndRows.{attempt-row, before-once, not-acceptor, not-new, row-of-phase, same-end, unnamed-side}
-use Rattle.dist_world_model.proofs.EndStates.{Fits, Stand, stand_in}
-use Rattle.dist_world_model.proofs.RowMarks.{once-false, once-some}
+use Rattle.dist_world_model.proofs.{EndStates.Fits, EndStates.Stand, EndStates.stand_in, RowMarks.once-false, RowMarks.once-some, WholeFrames.Whole}
 use Rattle.dist_world_model.proofs.SentFrames.{IsFit, ack-said, challenge-said, greeting-said, name-said, nothing-said, reply-said, status-said, tick-said}
-use Rattle.dist_world_model.proofs.WholeFrames.{Whole}
 use Rattle.dist_world_model.proofs.Wires.{IsEnd, IsHalf, IsKnown, Marks, May, MayAnswer, MaySay, Noted, NotedBy, NotedIn, Quiet, Said, Voice, end-quiet}
 use Rattle.dist_world_model.proofs.Wires.{is_newer, marks_of, quiet-refl, voice}
 

@@ -1,22 +1,16 @@
 -- The connection of the event's own end is a wire still.
-use Rattle.std.specs.Prelude.{◌≡◌}
-use Rattle.dist_world_model.proofs.Words.{ℕ, Bool, true, false, List, Option, Some, None, refl, sym, ap, ◌∙◌, subst, slice_get, Side, Dialler, Acceptor}
-use Rattle.dist_world_model.proofs.Words.{Message, EndId, Setup, End, Event, EndRow, past, once, row_after, NodeLaws, inl, at_place, Conn, row_of_life}
-use Rattle.dist_world_model.proofs.Words.{end_of_life, says, w16, first_body, text_to, not, dooms, shuts_end, body_taken, change_to, Text, more_said, same_Some}
+use Rattle.dist_world_model.proofs.Words.{◌≡◌, ℕ, Bool, true, false, not, List, slice_get, Some, None, Option, sym, refl, ap, ◌∙◌, subst, inl, w16, both_ways}
+use Rattle.dist_world_model.proofs.Words.{same_Some, first_body, Message, Side, Acceptor, Dialler, EndId, End, Setup, Event, body_taken, change_to, more_said}
+use Rattle.dist_world_model.proofs.Words.{says, text_to, at_place, NodeLaws, EndRow, dooms, once, past, row_after, shuts_end, Conn, Text, end_of_life}
+use Rattle.dist_world_model.proofs.Words.{row_of_life}
 use Rattle.dist_core.specs.declared.event.Event.TheVariants as event
 use Rattle.dist_world_model.proofs.AllWires.{EndAt, Loc, WireAt, alike-refl, conns-at, linked-same, same-conn, voice-was}
 use Rattle.dist_world_model.proofs.ConnectionRows.{IsEndOf, RowOf, SameEnds, end_of, life_of, row_of}
-use Rattle.dist_world_model.proofs.EndStates.{Fits}
-use Rattle.dist_world_model.proofs.EventEnds.{given-not}
-use Rattle.dist_world_model.proofs.GrowingRows.{may-more, once-keeps}
-use Rattle.dist_world_model.proofs.HappeningEffects.{IsPlain}
+use Rattle.dist_world_model.proofs.{EndStates.Fits, GrowingRows.may-more, GrowingRows.once-keeps, HappeningEffects.IsPlain, OtherRows.own-after}
 use Rattle.dist_world_model.proofs.Lookups.{at-other, end_in, far, row_in, voice-there, voice_in, voice_of}
-use Rattle.dist_world_model.proofs.OtherRows.{own-after}
-use Rattle.dist_world_model.proofs.OwnSide.{away, did}
-use Rattle.dist_world_model.proofs.RowMarks.{once-past}
+use Rattle.dist_world_model.proofs.{OwnSide.away, OwnSide.did, RowMarks.once-past, StepEffects.is_given}
 use Rattle.dist_world_model.proofs.SilentWires.{Kept, Notifying, all-stay, all-were, get-now, life, loc, ls', me, notify-voices, other-wire, own-row}
 use Rattle.dist_world_model.proofs.SilentWires.{past-marks, rows', the-row}
-use Rattle.dist_world_model.proofs.StepEffects.{is_given}
 use Rattle.dist_world_model.proofs.WholeFrames.{Whole, on_way, way-said, way-taken, whole-map}
 use Rattle.dist_world_model.proofs.Wires.{Follows, Hushed, IsEnd, Marks, May, Quiet, Said, Voice, end-quiet, marks_of, quiet-refl, said-map, voice}
 
@@ -154,7 +148,7 @@ module _ (laws : NodeLaws) (notifying : Notifying) where
 
     own-kept : is_given v ≡ false → (g : Conn → Conn) → ((h : Conn) → SameEnds h (g h) × ((g h).accepted ≡ h.accepted)) → WireAt (ls' laws notifying) (g k) → Kept laws notifying (at_place c g w.conns)
     own-kept ng g same own = (
-      linked-same w.lives (ls' laws notifying) w.conns (at_place c g w.conns) (all-stay laws notifying) (all-were laws notifying (λ link is. given-not (is_given v) ng (ap is_given is))) (notify-voices laws notifying) (conns-at c g w.conns same) wired.0,
+      linked-same w.lives (ls' laws notifying) w.conns (at_place c g w.conns) (all-stay laws notifying) (all-were laws notifying (λ link is. both_ways (is_given v) ng (ap is_given is))) (notify-voices laws notifying) (conns-at c g w.conns same) wired.0,
       at-other (λ d h. WireAt (ls' laws notifying) h) c g w.conns
           (λ h ah. let z = same-conn w.conns c k h ak ah in let P : Conn → Type 0 = λ h. WireAt (ls' laws notifying) (g h) in subst P z own)
           (λ d h n ah. other-wire laws notifying d h h ah (alike-refl w.lives h) (λ y e. inl e) (λ x ax ox. absurd (n (same_Some c d (sym on ∙ ap (λ (r : EndRow). r.conn) (same_Some x0 x (sym at-x ∙ ax)) ∙ ox))))),

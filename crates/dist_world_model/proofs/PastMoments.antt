@@ -1,8 +1,7 @@
 -- What was, and was not yet, when a number was written.
-use Rattle.std.specs.Prelude.{◌≡◌, ◌<◌, ◌⊎◌, ◌≤◌, ◌||◌}
-use Rattle.dist_world_model.proofs.Words.{ℕ, Bool, true, false, Option, Some, None, refl, sym, ◌∙◌, arith, Side, Dialler, Acceptor, EndRow, past}
-use Rattle.dist_world_model.proofs.Words.{inl, inr, false≢true, ltb, holds_peer, nat_tests, cases_lt, left_before, entered_before}
-use Rattle.dist_world_model.proofs.Words.{true_from_ne_false}
+use Rattle.dist_world_model.proofs.Words.{◌≡◌, ℕ, ◌<◌, ◌≤◌, Bool, true, false, ◌||◌, ltb, ◌⊎◌, Some, None, Option, sym, refl, ◌∙◌, inl, inr, arith, cases_lt}
+use Rattle.dist_world_model.proofs.Words.{false≢true, or_parts, true_from_ne_false, nat_tests, Side, Acceptor, Dialler, EndRow, holds_peer, past}
+use Rattle.dist_world_model.proofs.Words.{entered_before, left_before}
 
 -- ---- numbers
 
@@ -40,12 +39,8 @@ past-later s t None h g = absurd (false≢true g)
 pub past-sooner : (s t : ℕ) (o : Option ℕ) → s ≤ t → past t o ≡ false → past s o ≡ false
 past-sooner s t o h g = elim (past s o) as (λ b. past s o ≡ b → b ≡ false) [ true ↦ λ b. absurd (false≢true (sym g ∙ past-later s t o h b)) | false ↦ λ b. refl ] refl
 
-or-false : (a b : Bool) → (a || b) ≡ false → (a ≡ false) × (b ≡ false)
-or-false false b h = (refl, h)
-or-false true b h = absurd cc
-
 pub left-sooner : (s t : ℕ) (row : EndRow) → s ≤ t → left_before t row ≡ false → left_before s row ≡ false
-left-sooner s t row h g = let p = or-false (past t row.doomed) (past t row.closed) g in λ i. past-sooner s t row.doomed h p.0 i || past-sooner s t row.closed h p.1 i
+left-sooner s t row h g = let p = or_parts (past t row.doomed) (past t row.closed) g in λ i. past-sooner s t row.doomed h p.0 i || past-sooner s t row.closed h p.1 i
 
 pub left-later : (s t : ℕ) (row : EndRow) → s ≤ t → left_before s row ≡ true → left_before t row ≡ true
 left-later s t row h g = true_from_ne_false (left_before t row) (λ e. false≢true (sym (left-sooner s t row h e) ∙ g))

@@ -1,8 +1,6 @@
 -- What stands at each place of a list after a change.
-use Rattle.dist_world_model.proofs.Words.{ℕ, Bool, true, false, cond, List, [], Option, Some, None, refl, sym, ap, ◌∙◌, subst, arith, slice_get}
-use Rattle.dist_world_model.proofs.Words.{length, inl, inr, at_place, eqb, eqb-true, option_map, suc, first_where, zero}
-use Rattle.dist_world_model.specs.Lists.{at_each}
-use Rattle.std.proofs.Common.{eq-eqb, ◌≡◌, ◌≢◌, ◌++◌, ◌⊎◌, ◌+◌, ◌∷◌}
+use Rattle.dist_world_model.proofs.Words.{◌≡◌, ℕ, zero, suc, ◌+◌, Bool, true, false, cond, eqb, ◌≢◌, ◌⊎◌, List, [], ◌∷◌, ◌++◌, length, slice_get, Some, None}
+use Rattle.dist_world_model.proofs.Words.{Option, option_map, sym, refl, ap, ◌∙◌, subst, inl, inr, arith, eq-eqb, eqb-true, at_each, at_place, first_where}
 use Rattle.std.proofs.Math.Dec.{eqb-suc-suc, eqb-suc-zero, eqb-zero-suc}
 
 pub flip : {i j : ℕ} → i ≢ j → j ≢ i

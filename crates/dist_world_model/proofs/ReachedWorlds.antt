@@ -1,19 +1,8 @@
 -- Worlds that can be.
-use Rattle.std.specs.Prelude.{◌≡◌, ◌++◌, ◌∷◌}
-use Rattle.dist_world_model.proofs.Words.{ℕ, List, [], refl, sym, ap, ◌∙◌, subst, Setup, NodeLaws, Happening, World, empty, run, AllLives, IsUp}
-use Rattle.dist_world_model.proofs.Words.{Agreement, AreSetups, AllFit, UpsAreLinked, Fits, happens, AllByRecursion}
-use Rattle.dist_world_model.specs.Agreement.{Counts, IsReached}
-use Rattle.dist_world_model.proofs.AgreementOfWorlds.{agreement_holds}
-use Rattle.dist_world_model.proofs.EndConnections.{linked_lives}
-use Rattle.dist_world_model.proofs.HappeningEffects.{is-running}
-
-run-append : (hs gs : List Happening) (w : World) → run (hs ++ gs) w ≡ run gs (run hs w)
-run-append [] gs w = refl
-run-append (h ∷ hs) gs w = run-append hs gs (happens w h)
-
-fit-append : (hs gs : List Happening) → AllByRecursion Fits hs → AllByRecursion Fits gs → AllByRecursion Fits (hs ++ gs)
-fit-append [] gs a b = b
-fit-append (h ∷ hs) gs a b = (a.0, fit-append hs gs a.1 b)
+use Rattle.dist_world_model.proofs.Words.{◌≡◌, ℕ, List, [], ◌++◌, sym, refl, ap, ◌∙◌, subst, Setup, Agreement, AllFit, AreSetups, Counts, IsReached, IsUp}
+use Rattle.dist_world_model.proofs.Words.{AllLives, UpsAreLinked, NodeLaws, run, World, empty, Happening}
+use Rattle.dist_world_model.proofs.{AgreementOfWorlds.agreement_holds, EndConnections.linked_lives}
+use Rattle.dist_world_model.proofs.HappeningEffects.{is-running, run-append, fit-append}
 
 module _ (laws : NodeLaws) where
   pub reached_agree : (w : World) → IsReached w → Agreement w

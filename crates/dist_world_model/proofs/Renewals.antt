@@ -1,26 +1,18 @@
 -- A node that is renewed is one that ended and began again.
-use Rattle.std.specs.Prelude.{◌≡◌, ◌<◌, ◌&&◌, ◌≢◌, ◌++◌, ◌+◌, ◌≤◌, ◌∷◌}
-use Rattle.dist_world_model.proofs.Words.{ℕ, Bool, true, false, cond, List, [], Option, Some, None, Ok, refl, sym, ap, ◌∙◌, subst, arith}
-use Rattle.dist_world_model.proofs.Words.{slice_get, Creation, Setup, NodeState, length, at_place, Life, Happening, World, runs, empty, run, Err}
-use Rattle.dist_world_model.proofs.Words.{false≢true, OnlyLastRuns, eqb, ltb, eqb-true, option_map, names, after_change, with_node, suc, is_none}
-use Rattle.dist_world_model.proofs.Words.{Change, change, finds_no_room, is_in_use, first_where, runs_for, running, most_begins, new_life, life_after_end}
-use Rattle.dist_world_model.proofs.Words.{world_after, without_closing, ticked_on, most_applied, applied_at, happens, zero, setup_after, opening, changes_at}
-use Rattle.dist_world_model.proofs.Words.{setup_by, resets, and_right}
-use Rattle.dist_core.specs.Changing.{has_usual}
-use Rattle.dist_core_ends.specs.Ends.{table_of}
-use Rattle.dist_core_laws.proofs.Limits.{no-entries}
-use Rattle.dist_world_model.specs.Renewals.{HasOpened, HasRoom, renewal}
-use Rattle.std.proofs.lemmas.Bool.{lt-ltb}
-use Rattle.std.specs.List.{list_any}
-use Rattle.dist_core.specs.declared.changing.ChangeError.TheVariants as change_error
-use Rattle.dist_core.specs.declared.changing.Change.TheVariants as changes
+use Rattle.dist_world_model.proofs.Words.{◌≡◌, ℕ, zero, suc, ◌+◌, ◌<◌, ◌≤◌, Bool, true, false, cond, ◌&&◌, eqb, ltb, ◌≢◌, List, [], ◌∷◌, ◌++◌, length, is_none}
+use Rattle.dist_world_model.proofs.Words.{slice_get, Some, None, Ok, Err, Option, option_map, sym, refl, ap, ◌∙◌, subst, arith, lt-ltb, eqb-true, and_right}
+use Rattle.dist_world_model.proofs.Words.{false≢true, nil_from_length, list_any, Creation, names, table_of, Setup, after_change, change, finds_no_room}
+use Rattle.dist_world_model.proofs.Words.{has_usual, is_in_use, setup_after, NodeState, opening, Change, applied_at, happens, life_after_end, most_applied}
+use Rattle.dist_world_model.proofs.Words.{most_begins, new_life, ticked_on, with_node, without_closing, world_after, at_place, first_where, OnlyLastRuns, run}
+use Rattle.dist_world_model.proofs.Words.{Life, World, empty, running, runs, runs_for, Happening}
 use Rattle.std.specs.FinMap as finite
+use Rattle.dist_core.specs.declared.changing.Change.TheVariants as changes
+use Rattle.dist_core.specs.declared.changing.ChangeError.TheVariants as change_error
+use Rattle.dist_core_laws.proofs.Limits.{no-entries}
+use Rattle.dist_world_model.specs.{OwnSetups.changes_at, OwnSetups.setup_by, Renewals.resets, Renewals.HasOpened, Renewals.HasRoom, Renewals.renewal}
 use Rattle.dist_world_model.specs.declared.happening.Happening.TheVariants as happening
-use Rattle.dist_world_model.proofs.Conditions.{holds, succeeds, there}
-use Rattle.dist_world_model.proofs.HappeningEffects.{is-running}
-use Rattle.dist_world_model.proofs.Lookups.{at-other, placed}
-use Rattle.dist_world_model.proofs.OwnSetups.{AllFindRoom, begun-with, run-setups}
-use Rattle.dist_world_model.proofs.Places.{eqb-self, get-more}
+use Rattle.dist_world_model.proofs.{Conditions.holds, Conditions.succeeds, Conditions.there, HappeningEffects.is-running, Lookups.at-other, Lookups.placed}
+use Rattle.dist_world_model.proofs.{OwnSetups.AllFindRoom, OwnSetups.begun-with, OwnSetups.run-setups, Places.eqb-self, Places.get-more}
 
 -- ---- the first that passes
 
@@ -53,14 +45,10 @@ applies w h x few is = ap (ticked_on w) (ap (λ b. cond b (world_after (without_
 
 -- ---- the changes, one after another
 
-none-left : {A : Type 0} (xs : List A) → length xs ≡ 0 → xs ≡ []
-none-left [] h = refl
-none-left (x ∷ xs) h = absurd (omega (arith, h))
-
 -- no end stands in the way of a change
 none-in-use : (s : Setup) (v : Change) → is_in_use (opening s) v ≡ false
 none-in-use s (changes.Cookie p own) = refl
-none-in-use s (changes.UsualCookie cookie) = ap (list_any (has_usual s)) (none-left (finite.entries (table_of [])) (sym (finite.len-entries (table_of [])) ∙ no-entries))
+none-in-use s (changes.UsualCookie cookie) = ap (list_any (has_usual s)) (nil_from_length (finite.entries (table_of [])) (sym (finite.len-entries (table_of [])) ∙ no-entries))
 none-in-use s (changes.Allow names) = refl
 
 change-made : (s : Setup) (v : Change) → finds_no_room (opening s) v ≡ false → change (opening s) v ≡ Ok (opening (setup_after s v))

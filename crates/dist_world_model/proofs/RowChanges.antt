@@ -1,11 +1,9 @@
 -- What any happening may make of the rows of an incarnation, and what is kept of each row.
-use Rattle.std.specs.Prelude.{◌≡◌, ◌<◌, ◌⊎◌, ◌+◌, ◌≤◌, ◌||◌}
-use Rattle.dist_world_model.proofs.Words.{ℕ, Bool, true, false, Option, Some, None, refl, sym, ap, ◌∙◌, subst, arith, is_some, Name, Side, Dialler}
-use Rattle.dist_world_model.proofs.Words.{Acceptor, EndRow, past, once, inl, inr, new_row, false≢true, Numbers, ltb, claim_before}
-use Rattle.dist_world_model.proofs.Words.{claim_when, holds_peer, left_before, entered_before}
+use Rattle.dist_world_model.proofs.Words.{or-true, ◌≡◌, ℕ, ◌+◌, ◌<◌, ◌≤◌, Bool, true, false, ◌||◌, ltb, ◌⊎◌, is_some, Some, None, Option, sym, refl, ap, ◌∙◌}
+use Rattle.dist_world_model.proofs.Words.{subst, inl, inr, arith, false_from_ne_true, false≢true, Name, Side, Acceptor, Dialler, Numbers, EndRow, claim_before}
+use Rattle.dist_world_model.proofs.Words.{claim_when, holds_peer, new_row, once, past, entered_before, left_before}
 use Rattle.dist_world_model.proofs.EndStates.{Below}
-use Rattle.dist_world_model.proofs.EventEnds.{false-by}
-use Rattle.dist_world_model.proofs.RowMarks.{below-of, once-below, once-false, once-past, or-true, past-later, past-once, written}
+use Rattle.dist_world_model.proofs.RowMarks.{below-of, once-below, once-false, once-past, past-later, past-once, written}
 
 -- WHAT A HAPPENING AT NUMBER t MAKES OF A ROW x: each number stays or is written now, and of what is written now it is known how
 -- the row stood
@@ -109,11 +107,11 @@ module _ (t : ℕ) (x y : EndRow) (w : Writes t x y) where
 
   -- a name that was taken stays
   pub name-stays : (m : ℕ) → x.named ≡ Some m → (y.named ≡ Some m) × (y.peer ≡ x.peer)
-  name-stays m e = (w.named ∙ ap (once w.names_now t) e, w.peer (false-by w.names_now (λ b. let q = w.at_name b in let z : Some m ≡ None = sym e ∙ q.1 in cc)))
+  name-stays m e = (w.named ∙ ap (once w.names_now t) e, w.peer (false_from_ne_true w.names_now (λ b. let q = w.at_name b in let z : Some m ≡ None = sym e ∙ q.1 in cc)))
 
   -- an end that was dialled keeps its peer
   pub peer-stays : x.side ≡ Dialler → y.peer ≡ x.peer
-  peer-stays sd = w.peer (false-by w.names_now (λ b. let q = w.at_name b in let z : Dialler ≡ Acceptor = sym sd ∙ q.0 in cc))
+  peer-stays sd = w.peer (false_from_ne_true w.names_now (λ b. let q = w.at_name b in let z : Dialler ≡ Acceptor = sym sd ∙ q.0 in cc))
 
   pub writes-below : Below t x → Below (t + 1) y
   writes-below b = record {
@@ -189,7 +187,7 @@ module _ (t : ℕ) (x y : EndRow) (w : Writes t x y) where
         by (inl q) =
             let k = below-of t n x.rose below.rose q in
             let g = h.lasts n q in
-            let spared : w.dooms_now ≡ false = false-by w.dooms_now (λ d. let z : Some n ≡ None = sym q ∙ w.at_doom d in cc) in
+            let spared : w.dooms_now ≡ false = false_from_ne_true w.dooms_now (λ d. let z : Some n ≡ None = sym q ∙ w.at_doom d in cc) in
             (old-left (n + 1) (omega (arith, k)) ∙ g.0, w.doomed ∙ ap (λ d. once d t x.doomed) spared ∙ once-false t x.doomed ∙ g.1)
         by (inr (now, none, tn)) = let g = w.at_rise now in (open-left (n + 1) y g.3 g.4, g.3)
 

@@ -1,9 +1,8 @@
 -- What a mark does to a row, and what a row says of its end.
-use Rattle.std.specs.Prelude.{◌≡◌, ◌<◌, ◌&&◌, ◌⊎◌, ◌+◌, ◌≤◌, ◌||◌}
-use Rattle.dist_world_model.proofs.Words.{ℕ, Bool, true, false, cond, List, Option, Some, None, refl, sym, ap, ◌∙◌, subst, arith, is_some}
-use Rattle.dist_world_model.proofs.Words.{slice_get, Name, Side, Dialler, Acceptor, Phase, End, EndRow, past, once, row_after, rises, takes_name, inl, inr}
-use Rattle.dist_world_model.proofs.Words.{new_row, false≢true, option_map, claim_before, claim_when, holds_peer, nat_tests, says_reply, Reply}
-use Rattle.dist_core_ends.specs.Ends.{claim_of, kind_in}
+use Rattle.dist_world_model.proofs.Words.{or-false, or-true, ◌≡◌, ℕ, ◌+◌, ◌<◌, ◌≤◌, Bool, true, false, cond, ◌&&◌, ◌||◌, ◌⊎◌, List, is_some, slice_get, Some}
+use Rattle.dist_world_model.proofs.Words.{None, Option, option_map, sym, refl, ap, ◌∙◌, subst, inl, inr, arith, false≢true, nat_tests, Name, Side, Acceptor}
+use Rattle.dist_world_model.proofs.Words.{Dialler, claim_of, kind_in, End, Phase, Reply, EndRow, claim_before, claim_when, holds_peer, new_row, once, past}
+use Rattle.dist_world_model.proofs.Words.{rises, row_after, says_reply, takes_name}
 use Rattle.dist_core_ends.specs.declared.known.End.TheVariants as ends
 use Rattle.dist_core_ends.specs.declared.phase.Phase.TheVariants as phase
 use Rattle.dist_world_model.proofs.EndStates.{AreBeside, Below, Beside, Fits, Stand, row_stand, stand_after, stand_claim, stand_in, stand_of, stand_row}
@@ -66,14 +65,6 @@ new-below t side p c = record { given = (let h : t < t + 1 = omega arith in grin
 -- an end that stands in its place has a row that fits it
 pub fits-at : (es : List End) (rows : List EndRow) → AreBeside es rows → (i : ℕ) (e : End) (row : EndRow) → slice_get es i ≡ Some e → slice_get rows i ≡ Some row → Fits e row
 fits-at es rows h i e row a b = let P : Option End → Option EndRow → Type 0 = λ o q. Beside o q in subst (P (Some e)) b (subst (λ o. P o (slice_get rows i)) a (h i))
-
-pub or-false : (b : Bool) → (b || false) ≡ b
-or-false true = refl
-or-false false = refl
-
-pub or-true : (b : Bool) → (b || true) ≡ true
-or-true true = refl
-or-true false = refl
 
 -- a mark that closes
 pub closed-stand : (t : ℕ) (own doom : Bool) (r : Reply) (row : EndRow) → row_stand (row_after t own doom true r row) ≡ None

@@ -1,20 +1,16 @@
 -- A step keeps each row beside its end.
-use Rattle.std.specs.Prelude.{◌≡◌}
-use Rattle.dist_world_model.proofs.Words.{ℕ, Bool, true, false, List, [], Option, Some, None, refl, sym, ap, ◌∙◌, subst, slice_get, Name, Side, Dialler}
-use Rattle.dist_world_model.proofs.Words.{Acceptor, EndId, Attempt, End, Event, Effect, Why, NodeState, goes_on, shuts, shuts_other, dooms_other, EndRow}
-use Rattle.dist_world_model.proofs.Words.{row_after, NodeLaws, given_by, mark, new_row, UpRecord, false≢true, eqb, eqb-true, option_map, Entry, Out, names}
-use Rattle.dist_world_model.proofs.Words.{holds_at, is_held, entry_in, is_claim, rows_after, dooms, shuts_end, Kind, In, Up, ends_after, Reply, AreLegal}
-use Rattle.dist_world_model.proofs.Words.{replaced_by, new_id, comes_up, fresh_attempt}
-use Rattle.dist_core_ends.specs.Ends.{holds}
-use Rattle.dist_core_ends.specs.declared.known.End.TheVariants as ends
+use Rattle.dist_world_model.proofs.Words.{or-false, ◌≡◌, ℕ, Bool, true, false, eqb, List, [], slice_get, Some, None, Option, option_map, sym, refl, ap, ◌∙◌}
+use Rattle.dist_world_model.proofs.Words.{subst, eqb-true, false_from_ne_true, false≢true, Name, Side, Acceptor, Dialler, replaced_by, EndId, Entry, AreLegal}
+use Rattle.dist_world_model.proofs.Words.{entry_in, holds, holds_at, is_claim, is_held, names, Attempt, End, UpRecord, Kind, In, Out, Up, Why, comes_up}
+use Rattle.dist_world_model.proofs.Words.{dooms_other, fresh_attempt, goes_on, shuts, shuts_other, NodeState, ends_after, new_id, Effect, Event, Reply}
+use Rattle.dist_world_model.proofs.Words.{NodeLaws, EndRow, dooms, given_by, mark, new_row, row_after, rows_after, shuts_end}
 use Rattle.dist_peers.specs.declared.entry.Entry.TheVariants as entry
-use Rattle.dist_core.specs.declared.reply.Note.TheVariants as note
+use Rattle.dist_core_ends.specs.declared.known.End.TheVariants as ends
 use Rattle.dist_core_ends.specs.declared.why.Why.TheVariants as why
+use Rattle.dist_core.specs.declared.reply.Note.TheVariants as note
 use Rattle.dist_world_model.proofs.EndStates.{AreBeside, Fits, Stand, dialled_stand, named_stand, open-row, ready_stand, row_stand, stand_after, stand_claim}
 use Rattle.dist_world_model.proofs.EndStates.{stand_in, stand_of}
-use Rattle.dist_world_model.proofs.EventEnds.{false-by, gives}
-use Rattle.dist_world_model.proofs.Places.{eqb-self}
-use Rattle.dist_world_model.proofs.RowMarks.{closed-stand, end-claim, or-false, written-stand}
+use Rattle.dist_world_model.proofs.{EventEnds.gives, Places.eqb-self, RowMarks.closed-stand, RowMarks.end-claim, RowMarks.written-stand}
 use Rattle.dist_world_model.proofs.StepEffects.{Comes_in, Deed, Dials, Dooms, Drops, Goes, Refuses, Rises, Says, Shuts, Takes, Takes_over, Work, Works}
 use Rattle.dist_world_model.proofs.StepEffects.{is_given, own-not-given}
 use Rattle.dist_world_model.proofs.UnchangedRows.{changed, given}
@@ -73,10 +69,10 @@ module _ (laws : NodeLaws) (n : NodeState) (legal : AreLegal n.ends) (rows : Lis
     holder = some-held p k (slice_get n.ends x) (legal p k x ∙ named)
 
     not-same : (id : ℕ) → holds_at n.ends p k id ≡ false → eqb x id ≡ false
-    not-same id g = false-by (eqb x id) (λ b. false≢true (sym g ∙ ap (holds_at n.ends p k) (sym (eqb-true x id b)) ∙ legal p k x ∙ named))
+    not-same id g = false_from_ne_true (eqb x id) (λ b. false≢true (sym g ∙ ap (holds_at n.ends p k) (sym (eqb-true x id b)) ∙ legal p k x ∙ named))
 
     not-own : (id : ℕ) → holds_at n.ends p k id ≡ false → eqb id x ≡ false
-    not-own id g = false-by (eqb id x) (λ b. false≢true (sym g ∙ ap (holds_at n.ends p k) (eqb-true id x b) ∙ legal p k x ∙ named))
+    not-own id g = false_from_ne_true (eqb id x) (λ b. false≢true (sym g ∙ ap (holds_at n.ends p k) (eqb-true id x b) ∙ legal p k x ∙ named))
 
   module _ (v : Event) (g : is_given v ≡ false) (id : EndId) where
     -- a name is taken, and another end is closed

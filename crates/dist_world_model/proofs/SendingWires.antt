@@ -1,18 +1,12 @@
 -- What is sent at the event's own end, and the frame that it takes, keep all connections wires.
-use Rattle.std.specs.Prelude.{◌≡◌}
-use Rattle.dist_world_model.proofs.Words.{ℕ, true, false, List, Option, Some, None, refl, sym, ap, ◌∙◌, subst, slice_get, Dialler, EndId, End, Event}
-use Rattle.dist_world_model.proofs.Words.{EndRow, row_after, NodeLaws, length, at_place, given_by, mark, new_row, Conn, row_of_life, says, conns_after_saying}
-use Rattle.dist_world_model.proofs.Words.{w16, first_body, text_to, false≢true, option_map, dooms, shuts_end, conn_of, spoken_on, row_at, body_taken, change_to}
+use Rattle.dist_world_model.proofs.Words.{◌≡◌, ℕ, true, false, List, length, slice_get, Some, None, Option, option_map, sym, refl, ap, ◌∙◌, subst, w16}
+use Rattle.dist_world_model.proofs.Words.{false≢true, first_body, Dialler, EndId, End, Event, body_taken, change_to, conns_after_saying, says, spoken_on}
+use Rattle.dist_world_model.proofs.Words.{text_to, conn_of, at_place, NodeLaws, EndRow, dooms, given_by, mark, new_row, row_after, shuts_end, Conn, row_at}
+use Rattle.dist_world_model.proofs.Words.{row_of_life}
 use Rattle.dist_core.specs.declared.event.Event.TheVariants as event
-use Rattle.dist_world_model.proofs.EndStates.{Beside, Fits}
-use Rattle.dist_world_model.proofs.EventEnds.{frame-end, gives, own-end}
-use Rattle.dist_world_model.proofs.GrowingRows.{spoken-none}
-use Rattle.dist_world_model.proofs.HappeningEffects.{IsPlain}
-use Rattle.dist_world_model.proofs.Lookups.{place-twice}
-use Rattle.dist_world_model.proofs.OwnWires.{own-says, own-takes}
-use Rattle.dist_world_model.proofs.Places.{eqb-self}
+use Rattle.dist_world_model.proofs.{EndStates.Beside, EndStates.Fits, EventEnds.frame-end, EventEnds.gives, EventEnds.own-end, GrowingRows.spoken-none}
+use Rattle.dist_world_model.proofs.{HappeningEffects.IsPlain, Lookups.place-twice, OwnWires.own-says, OwnWires.own-takes, Places.eqb-self, StepEffects.is_given}
 use Rattle.dist_world_model.proofs.SilentWires.{Kept, Notifying, beside, deed, me, rows', silent}
-use Rattle.dist_world_model.proofs.StepEffects.{is_given}
 use Rattle.dist_world_model.proofs.UnchangedRows.{get-row-old, row-new, same-length}
 
 module _ (laws : NodeLaws) (notifying : Notifying) where

@@ -1,16 +1,14 @@
 -- What a node sends is whole frames of messages that it may send.
-use Rattle.dist_world_model.proofs.Words.{ℕ, true, false, cond, List, [], Option, Ok, refl, sym, ◌∙◌, subst, arith, is_some, Side, Dialler}
-use Rattle.dist_world_model.proofs.Words.{Acceptor, Message, Setup, Form, announced_by, knows_six, status_text, greeting_text, challenge_text, tick_text}
-use Rattle.dist_world_model.proofs.Words.{NodeLaws, length, inl, inr, name_text, IsNodeName, is_said_by, Status}
-use Rattle.dist_core_setup.specs.Rules.{own_digest}
-use Rattle.dist_core_setup.specs.Saying.{CanBeSaid, ack_message, ack_text, complement_message, frame_of, frames_of_messages, new_challenge_message}
-use Rattle.dist_core_setup.specs.Saying.{new_name_message, old_challenge_message, old_name_message, reply_message, reply_text}
-use Rattle.dist_messages.specs.Canonical.{canonical}
-use Rattle.dist_messages.specs.Reading.{read}
-use Rattle.dist_messages.specs.Spelling.{Fits}
-use Rattle.std.proofs.Common.{lit<, ◌≡◌, ◌^◌, ◌<◌, ◌&&◌, ◌∷◌}
+use Rattle.dist_world_model.proofs.Words.{◌≡◌, ℕ, ◌^◌, ◌<◌, true, false, cond, ◌&&◌, List, [], ◌∷◌, length, is_some, Ok, Option, sym, refl, ◌∙◌, subst, inl}
+use Rattle.dist_world_model.proofs.Words.{inr, arith, lit<, IsNodeName, is_said_by, Form, Message, Side, Acceptor, Dialler, Status, announced_by, knows_six}
+use Rattle.dist_world_model.proofs.Words.{Setup, NodeLaws}
+use Rattle.dist_messages.specs.{Canonical.canonical, Reading.read, Spelling.Fits}
 use Rattle.dist_messages.specs.declared.form.Form.TheVariants as form
 use Rattle.dist_messages.specs.declared.message.Message.TheVariants as message
+use Rattle.dist_core_setup.specs.Rules.{own_digest}
+use Rattle.dist_core_setup.specs.Saying.{challenge_text, CanBeSaid, ack_message, complement_message, frames_of_messages, new_challenge_message}
+use Rattle.dist_core_setup.specs.Saying.{new_name_message, old_challenge_message, old_name_message, reply_message, ack_text, greeting_text, name_text}
+use Rattle.dist_core_setup.specs.Saying.{reply_text, status_text, tick_text, frame_of}
 use Rattle.dist_world_model.proofs.WholeFrames.{Whole, whole-append, whole-empty, whole-one}
 use Rattle.dist_world_model.proofs.Wires.{MayAnswer, MaySay, Said, Voice, is_newer, voice}
 

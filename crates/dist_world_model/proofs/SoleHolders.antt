@@ -1,9 +1,7 @@
 -- What follows from AreApart alone, at any moment: who holds a peer as dialled is alone, and so on.
-use Rattle.std.specs.Prelude.{◌≡◌, ◌≢◌}
-use Rattle.dist_world_model.proofs.Words.{ℕ, true, false, List, Some, sym, ap, ◌∙◌, slice_get, Name, Dialler, Acceptor, EndRow, past, NodeLaws}
-use Rattle.dist_world_model.proofs.Words.{false≢true, Out, is_claim, claim_before, claim_when, claim_in, Kind, AreApart, left_before, entered_before, get_along}
-use Rattle.dist_world_model.proofs.Words.{true_from_ne_false}
-use Rattle.dist_world_model.specs.Rows.{kind_by}
+use Rattle.dist_world_model.proofs.Words.{◌≡◌, ℕ, true, false, ◌≢◌, List, slice_get, Some, sym, ap, ◌∙◌, false≢true, true_from_ne_false, Name, Acceptor}
+use Rattle.dist_world_model.proofs.Words.{Dialler, is_claim, Kind, Out, AreApart, claim_in, get_along, NodeLaws, EndRow, claim_before, claim_when, kind_by}
+use Rattle.dist_world_model.proofs.Words.{past, entered_before, left_before}
 
 module _ (laws : NodeLaws) (rows : List EndRow) (apart : AreApart rows) (t : ℕ) (p : Name) (i j : ℕ) (differ : i ≢ j) (x y : EndRow)
     (at-x : slice_get rows i ≡ Some x) (at-y : slice_get rows j ≡ Some y) (peer-x : x.peer ≡ Some p) (peer-y : y.peer ≡ Some p) where

@@ -1,19 +1,17 @@
 -- What a step does, as far as rows see it: one case for each thing that can be done, and what that says of its reply.
-use Rattle.std.specs.Prelude.{◌≡◌, ◌⊎◌}
-use Rattle.dist_world_model.proofs.Words.{ℕ, Bool, true, false, List, [], Option, Some, None, Ok, refl, sym, ap, ◌∙◌, subst, is_some, slice_get, Name}
-use Rattle.dist_world_model.proofs.Words.{Side, Dialler, Acceptor, Message, EndId, Phase, Form, Attempt, End, Event, Effect, Why, NodeState, named_attempt}
-use Rattle.dist_world_model.proofs.Words.{goes_on, shuts, closes, shuts_other, dooms_other, supersedes, superseded_end, held_back, reply_phase, sender_to}
-use Rattle.dist_world_model.proofs.Words.{sender_in, StepRow, Heard, Taken, NodeLaws, inl, inr, given_by, says, UpRecord, eqb, is_greater, Out, names}
-use Rattle.dist_world_model.proofs.Words.{entry_in, In, effect_of, replaced_by, new_id, comes_up, fresh_attempt, Opening}
-use Rattle.dist_core.specs.Effects.{superseded_in}
-use Rattle.dist_core.specs.Rows as core
-use Rattle.dist_core_ends.specs.declared.known.End.TheVariants as ends
-use Rattle.dist_peers.specs.declared.entry.Entry.TheVariants as entry
-use Rattle.dist_core.specs.declared.event.Event.TheVariants as event
+use Rattle.dist_world_model.proofs.Words.{◌≡◌, ℕ, Bool, true, false, eqb, ◌⊎◌, List, [], is_some, slice_get, Some, None, Ok, Option, sym, refl, ap, ◌∙◌, subst}
+use Rattle.dist_world_model.proofs.Words.{inl, inr, Name, Form, Message, Side, Acceptor, Dialler, Opening, replaced_by, is_greater, EndId, entry_in, names}
+use Rattle.dist_world_model.proofs.Words.{Attempt, End, UpRecord, In, Out, Phase, Why, named_attempt, closes, comes_up, dooms_other, fresh_attempt, goes_on}
+use Rattle.dist_world_model.proofs.Words.{held_back, reply_phase, shuts, shuts_other, superseded_end, superseded_in, supersedes, NodeState, new_id, Heard}
+use Rattle.dist_world_model.proofs.Words.{StepRow, Taken, effect_of, sender_in, sender_to, Effect, Event, says, NodeLaws, given_by}
 use Rattle.dist_messages.specs.declared.form.Form.TheVariants as form
-use Rattle.dist_core.specs.declared.reply.Note.TheVariants as note
+use Rattle.dist_peers.specs.declared.entry.Entry.TheVariants as entry
+use Rattle.dist_core_ends.specs.declared.known.End.TheVariants as ends
 use Rattle.dist_core_ends.specs.declared.phase.Phase.TheVariants as phase
 use Rattle.dist_core_ends.specs.declared.why.Why.TheVariants as why
+use Rattle.dist_core.specs.Rows as core
+use Rattle.dist_core.specs.declared.event.Event.TheVariants as event
+use Rattle.dist_core.specs.declared.reply.Note.TheVariants as note
 use Rattle.dist_world_model.proofs.EndStates.{dialled_stand, named_stand, needs, needs_in, ready_stand, stand_in, stand_of}
 
 abbrev pub greater_at : NodeState → Name → Bool

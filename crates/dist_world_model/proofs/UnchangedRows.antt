@@ -1,17 +1,12 @@
 -- The rows after an event: where each comes from, and which stand beside their ends.
-use Rattle.std.specs.Prelude.{◌≡◌, ◌&&◌, ◌⊎◌, ◌∷◌}
-use Rattle.dist_world_model.proofs.Words.{ℕ, Bool, true, false, cond, List, [], Option, Some, None, refl, sym, ap, ◌∙◌, subst, arith, slice_get}
-use Rattle.dist_world_model.proofs.Words.{Name, Side, Dialler, Acceptor, EndId, End, Event, Effect, NodeState, EndRow, once, row_after, rises, takes_name}
-use Rattle.dist_world_model.proofs.Words.{peer_by, NodeLaws, length, inl, inr, given_by, mark, new_row, eqb, eqb-true, option_map, rows_after, dooms}
-use Rattle.dist_world_model.proofs.Words.{shuts_end, says_reply, slice_get_within, ends_after, other_view, Reply, suc, zero, ne_eqb, and_right}
-use Rattle.dist_core_ends.specs.Change.{IsThere}
-use Rattle.dist_world_model.specs.Lists.{add_some}
+use Rattle.dist_world_model.proofs.Words.{◌≡◌, ℕ, zero, suc, Bool, true, false, cond, ◌&&◌, eqb, ◌⊎◌, List, [], ◌∷◌, length, slice_get, Some, None, Option}
+use Rattle.dist_world_model.proofs.Words.{option_map, sym, refl, ap, ◌∙◌, subst, inl, inr, arith, ne_eqb, eqb-true, and_right, slice_get_within, Name, Side}
+use Rattle.dist_world_model.proofs.Words.{Acceptor, Dialler, EndId, IsThere, other_view, End, NodeState, ends_after, Effect, Event, Reply, add_some, NodeLaws}
+use Rattle.dist_world_model.proofs.Words.{EndRow, dooms, given_by, mark, new_row, once, peer_by, rises, row_after, rows_after, says_reply, shuts_end}
+use Rattle.dist_world_model.proofs.Words.{takes_name}
 use Rattle.dist_core.specs.declared.event.Event.TheVariants as event
-use Rattle.dist_world_model.proofs.EndStates.{AreBeside, Beside, Fits}
-use Rattle.dist_world_model.proofs.EventEnds.{Gives}
+use Rattle.dist_world_model.proofs.{EndStates.AreBeside, EndStates.Beside, EndStates.Fits, EventEnds.Gives, RowMarks.once-false, StepEffects.is_given}
 use Rattle.dist_world_model.proofs.Places.{before-map, eqb-self, get-each, get-more, one-more}
-use Rattle.dist_world_model.proofs.RowMarks.{once-false}
-use Rattle.dist_world_model.proofs.StepEffects.{is_given}
 
 pub same-length : (es : List End) (rows : List EndRow) → AreBeside es rows → length es ≡ length rows
 same-length [] [] h = refl

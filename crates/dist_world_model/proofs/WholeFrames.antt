@@ -1,14 +1,10 @@
 -- Whole frames: what is sent, delivered and taken.
-use Rattle.dist_world_model.proofs.Words.{ℕ, true, false, cond, List, [], Some, None, refl, sym, ap, ◌∙◌, subst, arith, length, append-nil}
-use Rattle.dist_world_model.proofs.Words.{w16, first_body, after_delivery, body_taken, Text, more_said, AllByRecursion, and_parts}
-use Rattle.dist_frames.specs.Stream.{behind, body_frame, front, has_first, head}
-use Rattle.std.proofs.Common.{append_assoc, drop, leb, length-append, take, ◌≡◌, ◌^◌, ◌<◌, ◌++◌, ◌≤◌, ◌∷◌}
-use Rattle.std.proofs.Math.Seq.{drop-append_seam, take-append_seam}
-use Rattle.std.proofs.lemmas.Bool.{leb-true}
-use Rattle.std.proofs.lemmas.List.{drop-append-le, take-append-drop, take-append-le}
+use Rattle.dist_world_model.proofs.Words.{◌≡◌, ℕ, ◌^◌, ◌<◌, ◌≤◌, true, false, cond, List, [], ◌∷◌, ◌++◌, length, take, drop, Some, None, sym, refl, ap, ◌∙◌}
+use Rattle.dist_world_model.proofs.Words.{subst, append_assoc, append-nil, arith, length-append, w16, and_parts, drop-append-le, take-append-le, from_be_bytes}
+use Rattle.dist_world_model.proofs.Words.{to_be_bytes, AllByRecursion, behind, body_frame, first_body, front, has_first, head, after_delivery, body_taken}
+use Rattle.dist_world_model.proofs.Words.{more_said, Text}
+use Rattle.std.proofs.{Common.leb, Common.flat_map, Common.take-append-drop, Common.leb-true, Math.Seq.drop-append_seam, Math.Seq.take-append_seam}
 use Rattle.std.proofs.lemmas.Nat.{from_be_bytes-to_be_bytes_2}
-use Rattle.std.specs.Int.{from_be_bytes, to_be_bytes}
-use Rattle.std.specs.List.{flat_map}
 
 -- a body that fits a frame, and of which P holds
 abbrev pub Fine : (List ℕ → Type 0) → List ℕ → Type 0

@@ -1,24 +1,18 @@
 -- An incarnation that gets an event.
-use Rattle.std.specs.Prelude.{◌≡◌, ◌&&◌, ◌⊎◌, ◌+◌, ◌||◌}
-use Rattle.dist_world_model.proofs.Words.{ℕ, Bool, true, false, cond, List, Option, Some, None, Ok, refl, sym, ap, ◌∙◌, subst, arith, is_some}
-use Rattle.dist_world_model.proofs.Words.{slice_get, Name, Side, Dialler, Acceptor, End, Event, Effect, NodeState, EndRow, past, once, rises, takes_name}
-use Rattle.dist_world_model.proofs.Words.{peer_by, NodeLaws, length, inl, inr, slice_get_past, given_by, mark, new_row, Life, UpRecord, runs, Result}
-use Rattle.dist_world_model.proofs.Words.{false≢true, eqb, eqb-true, is_greater, Out, names, entry_in, is_claim, rows_after, dooms, shuts_end}
-use Rattle.dist_world_model.proofs.Words.{claim_before, claim_when, holds_peer, claim_in, lesser, Kind, In, Up, effect_of, after, life_after, held_before}
-use Rattle.dist_world_model.proofs.Words.{says_reply, node_after, step_result, ends_after, left_before, entered_before, Reply, StepError, AreLegal, and_parts}
-use Rattle.dist_world_model.proofs.Words.{same_Some, or_right, and_right}
-use Rattle.std.proofs.lemmas.Bool.{or_left}
+use Rattle.dist_world_model.proofs.Words.{◌≡◌, ℕ, ◌+◌, Bool, true, false, cond, ◌&&◌, ◌||◌, eqb, ◌⊎◌, List, length, is_some, slice_get, Some, None, Ok, Option}
+use Rattle.dist_world_model.proofs.Words.{Result, sym, refl, ap, ◌∙◌, subst, inl, inr, arith, eqb-true, and_parts, and_right, false≢true, or_left, or_right}
+use Rattle.dist_world_model.proofs.Words.{same_Some, slice_get_past, Name, Side, Acceptor, Dialler, is_greater, AreLegal, entry_in, is_claim, names, End}
+use Rattle.dist_world_model.proofs.Words.{UpRecord, Kind, In, Out, Up, NodeState, ends_after, node_after, after, effect_of, step_result, Effect, Event, Reply}
+use Rattle.dist_world_model.proofs.Words.{StepError, lesser, life_after, claim_in, held_before, NodeLaws, EndRow, claim_before, claim_when, dooms, given_by}
+use Rattle.dist_world_model.proofs.Words.{holds_peer, mark, new_row, once, past, peer_by, rises, rows_after, says_reply, shuts_end, takes_name, entered_before}
+use Rattle.dist_world_model.proofs.Words.{left_before, Life, runs}
 use Rattle.dist_core_ends.specs.declared.known.End.TheVariants as ends
 use Rattle.dist_core.specs.declared.event.Event.TheVariants as event
-use Rattle.dist_world_model.proofs.EndStates.{AreBeside, Fits, Stand, open-row, ready_stand}
+use Rattle.dist_world_model.proofs.{EndStates.AreBeside, EndStates.Fits, EndStates.Stand, EndStates.open-row, EndStates.ready_stand, OtherRows.own-after}
 use Rattle.dist_world_model.proofs.EventEnds.{climber, dial-idle, doomer, gives, none-of, sayer, taker}
 use Rattle.dist_world_model.proofs.IncarnationFacts.{Grown, Grows, IsGone, IsLife, NamedNow, New, Origin, Was, held-now, life-by}
-use Rattle.dist_world_model.proofs.OtherRows.{own-after}
-use Rattle.dist_world_model.proofs.PastMoments.{accepted-entered, left-later}
-use Rattle.dist_world_model.proofs.Places.{eqb-self}
-use Rattle.dist_world_model.proofs.RowChanges.{Writes, left-stays}
-use Rattle.dist_world_model.proofs.RowMarks.{below-of, fits-at, once-below, once-some, written}
-use Rattle.dist_world_model.proofs.RowsBesideEnds.{beside-deed}
+use Rattle.dist_world_model.proofs.{PastMoments.accepted-entered, PastMoments.left-later, Places.eqb-self, RowChanges.Writes, RowChanges.left-stays}
+use Rattle.dist_world_model.proofs.{RowMarks.below-of, RowMarks.fits-at, RowMarks.once-below, RowMarks.once-some, RowMarks.written, RowsBesideEnds.beside-deed}
 use Rattle.dist_world_model.proofs.StepEffects.{Deed, Dooms, Drops, Refuses, Takes, Takes_over, Works, deed_of, greater_at}
 use Rattle.dist_world_model.proofs.UnchangedRows.{Came, Fresh, Old, came, given-is, given-mark, row-then}
 use Rattle.dist_world_model.proofs.WithoutEvent.{not-over}

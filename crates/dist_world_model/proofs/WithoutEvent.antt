@@ -1,14 +1,12 @@
 -- An incarnation that gets no event: it stays, begins, ends, changes its setup, or one of its ends reaches another.
-use Rattle.std.specs.Prelude.{◌≡◌, ◌<◌, ◌⊎◌, ◌+◌, ◌∷◌}
-use Rattle.dist_world_model.proofs.Words.{ℕ, Bool, true, false, cond, List, [], Option, Some, None, refl, sym, ap, ◌∙◌, subst, arith, is_some}
-use Rattle.dist_world_model.proofs.Words.{slice_get, Name, Setup, End, EndRow, past, inl, inr, at_place, Life, runs, not, false≢true, eqb, option_map}
-use Rattle.dist_world_model.proofs.Words.{is_claim, claim_before, claim_when, claim_in, Kind, held_before, reached_life, reached_row, shut_row, shut_all}
-use Rattle.dist_world_model.proofs.Words.{AreApart, left_before, entered_before, suc, Change, life_after_end, AreLegal, zero, setup_after, same_Some}
-use Rattle.dist_world_model.proofs.Words.{or_right}
+use Rattle.dist_world_model.proofs.Words.{◌≡◌, ℕ, zero, suc, ◌+◌, ◌<◌, Bool, true, false, cond, not, eqb, ◌⊎◌, List, [], ◌∷◌, is_some, slice_get, Some, None}
+use Rattle.dist_world_model.proofs.Words.{Option, option_map, sym, refl, ap, ◌∙◌, subst, inl, inr, arith, false≢true, or_right, same_Some, Name, AreLegal}
+use Rattle.dist_world_model.proofs.Words.{is_claim, End, Kind, Setup, setup_after, Change, life_after_end, reached_life, reached_row, shut_all, shut_row}
+use Rattle.dist_world_model.proofs.Words.{AreApart, claim_in, held_before, at_place, EndRow, claim_before, claim_when, past, entered_before, left_before, Life}
+use Rattle.dist_world_model.proofs.Words.{runs}
 use Rattle.dist_core.specs.declared.changing.Change.TheVariants as change
-use Rattle.dist_world_model.proofs.EndStates.{AreBeside, Below, Beside, Fits}
+use Rattle.dist_world_model.proofs.{EndStates.AreBeside, EndStates.Below, EndStates.Beside, EndStates.Fits, Places.before-map, Places.get-place}
 use Rattle.dist_world_model.proofs.IncarnationFacts.{AllRows, Grown, Grows, IsLife, NamedNow, Was, apart-step, grows-below, life-by}
-use Rattle.dist_world_model.proofs.Places.{before-map, get-place}
 use Rattle.dist_world_model.proofs.RowChanges.{Writes, quiet-writes, same-writes, writes-below}
 use Rattle.dist_world_model.proofs.RowMarks.{later-below, once-false, once-some}
 

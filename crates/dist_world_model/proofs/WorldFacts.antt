@@ -1,20 +1,15 @@
 -- WHAT IS KEPT OF EVERY WORLD.
-use Rattle.std.specs.Prelude.{◌≡◌, ◌^◌, ◌<◌, ◌&&◌, ◌++◌, ◌⊎◌, ◌+◌, ◌∷◌}
-use Rattle.dist_world_model.proofs.Words.{ℕ, Bool, true, false, cond, List, [], Option, Some, None, refl, sym, ap, ◌∙◌, subst, arith}
-use Rattle.dist_world_model.proofs.Words.{is_some, slice_get, Creation, Setup, NodeLaws, length, inl, inr, at_place, Life, Conn, Happening, World}
-use Rattle.dist_world_model.proofs.Words.{runs, empty, run, AllLives, bare, AreSetups, AllFit, not, false≢true, eqb, option_map, slice_get_within}
-use Rattle.dist_world_model.proofs.Words.{after_change, with_node, suc, first_where, runs_for, running, new_life, life_after_end, Fits, zero, IsNodeName}
+use Rattle.dist_world_model.proofs.Words.{◌≡◌, ℕ, zero, suc, ◌+◌, ◌^◌, ◌<◌, Bool, true, false, cond, not, ◌&&◌, eqb, ◌⊎◌, List, [], ◌∷◌, ◌++◌, length, is_some}
+use Rattle.dist_world_model.proofs.Words.{slice_get, Some, None, Option, option_map, sym, refl, ap, ◌∙◌, subst, inl, inr, arith, ne_eqb, false≢true}
+use Rattle.dist_world_model.proofs.Words.{slice_get_within, IsNodeName, Creation, Setup, after_change, Fits, AllFit, AreSetups, bare, life_after_end, new_life}
+use Rattle.dist_world_model.proofs.Words.{with_node, AllLives, at_place, first_where, NodeLaws, run, Conn, Life, World, empty, running, runs, runs_for}
+use Rattle.dist_world_model.proofs.Words.{Happening}
 use Rattle.dist_core_setup.specs.Rules.{announced_by}
-use Rattle.dist_world_model.proofs.AcceptedWires.{notified-kept}
-use Rattle.dist_world_model.proofs.AllWires.{AreWired, row-refl}
-use Rattle.dist_world_model.proofs.DialledWires.{reached-wired}
+use Rattle.dist_world_model.proofs.{AcceptedWires.notified-kept, AllWires.AreWired, AllWires.row-refl, DialledWires.reached-wired, IncarnationFacts.IsLife}
 use Rattle.dist_world_model.proofs.HappeningEffects.{Act, Acted, Begins, Comes, Ends, Reaches, Reports, Resets}
 use Rattle.dist_world_model.proofs.IncarnationEffects.{alike, all-free, kept-by-all, one-step}
-use Rattle.dist_world_model.proofs.IncarnationFacts.{IsLife}
-use Rattle.dist_world_model.proofs.LastingFacts.{IsWhole, whole_keeps}
-use Rattle.dist_world_model.proofs.Lookups.{decide, eqb-not}
+use Rattle.dist_world_model.proofs.{LastingFacts.IsWhole, LastingFacts.whole_keeps, Lookups.decide, SentFrames.IsFit}
 use Rattle.dist_world_model.proofs.Places.{at-more, at-one, eqb-self, get-more}
-use Rattle.dist_world_model.proofs.SentFrames.{IsFit}
 use Rattle.dist_world_model.proofs.WireSteps.{bare-stays, begun-wired, come-wired, shut-kept, turned-wired}
 
 -- the incarnation has its node's setup, but for the creation, the cookies and the allow list
@@ -147,12 +142,12 @@ module _ (w : World) (seen : AllLives (IsWhole w.clock) w) (order : InOrder w.li
       let v = g.1.over o.0 o.1 in
       (o.0, o.1, subst (λ k. o.0 < k) (ap (λ (l : Life). l.begun) y) v.0))
       (λ n.
-      let bo : slice_get w.lives j ≡ Some b = ap (λ t. cond t (Some (new_life who w.clock s c)) (slice_get w.lives j)) (sym (eqb-not (length w.lives) j n)) ∙ sym (get-more w.lives (new_life who w.clock s c) j) ∙ bx in
+      let bo : slice_get w.lives j ≡ Some b = ap (λ t. cond t (Some (new_life who w.clock s c)) (slice_get w.lives j)) (sym (ne_eqb (length w.lives) j n)) ∙ sym (get-more w.lives (new_life who w.clock s c) j) ∙ bx in
       let k = slice_get_within w.lives j b bo in
       order i j a b lt (earlier i a (omega (arith, k, lt)) ax) bo same)
     where
       earlier : (i : ℕ) (a : Life) → i < length w.lives → slice_get (w.lives ++ new_life who w.clock s c ∷ []) i ≡ Some a → slice_get w.lives i ≡ Some a
-      earlier i a lt ax = ap (λ t. cond t (Some (new_life who w.clock s c)) (slice_get w.lives i)) (sym (eqb-not (length w.lives) i (λ e. absurd (omega (arith, lt, e))))) ∙ sym (get-more w.lives (new_life who w.clock s c) i) ∙ ax
+      earlier i a lt ax = ap (λ t. cond t (Some (new_life who w.clock s c)) (slice_get w.lives i)) (sym (ne_eqb (length w.lives) i (λ e. absurd (omega (arith, lt, e))))) ∙ sym (get-more w.lives (new_life who w.clock s c) i) ∙ ax
 
       last : (j : ℕ) → length w.lives ≡ j → slice_get (w.lives ++ new_life who w.clock s c ∷ []) j ≡ Some (new_life who w.clock s c)
       last j e = get-more w.lives (new_life who w.clock s c) j ∙ ap (λ t. cond t (Some (new_life who w.clock s c)) (slice_get w.lives j)) (ap (eqb (length w.lives)) (sym e) ∙ eqb-self (length w.lives))

@@ -6,10 +6,8 @@ use Rattle.distcheck.specs.declared.fault.Fault.TheVariants as fault
 -- 3 if the node or the port mapper was not reached or is gone, 4 if something is missing here, else 2
 abbrev pub fault_status : Fault → ℕ
 fault_status (fault.NoHost error) = 3
-fault_status fault.NoMapper = 3
+fault_status (fault.ConnectFailed who) = 3
 fault_status (fault.NotFound error) = 3
-fault_status fault.NoNode = 3
-fault_status fault.NoOrders = 3
 fault_status (fault.Gone talk) = 3
 fault_status fault.NoDescriptors = 4
 fault_status fault.NoTime = 4

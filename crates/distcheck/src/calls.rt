@@ -1,4 +1,5 @@
-//! Calls: a name is registered at the node's port mapper, with a port of our own, and the node is made to dial it.
+//! A port of our own, to which the node is made to connect: it dials a name that is registered there, or it is started with that port for
+//! its port mapper's.
 
 use crate::fault::Fault;
 use crate::reaching::{TURNS, talk_to};
@@ -24,12 +25,14 @@ pub struct CallPlaces<'a> {
     pub host: &'a str,
 }
 
-/// A name that the node can dial, as long as this is kept.
+/// A port at which the node connects, as long as this is kept.
 #[derive(Drop)]
-pub struct OpenCall {
+pub struct OwnPort {
     listener: TcpListener,
-    registration: SocketStream,
-    // What has the node dial ends with this connection.
+    port: u16,
+    // The name that the node dials, where it does.
+    registration: Option<SocketStream>,
+    // What has the node connect ends with this connection.
     order: Option<TalkLink>,
 }
 
@@ -57,46 +60,73 @@ fn registration_of(
     }
 }
 
-impl OpenCall {
-    /// Listens, and registers this with that port. None where either fails.
-    pub fn open(
+impl OwnPort {
+    /// Listens at this address. None where that fails.
+    pub fn open(rt: &HostRuntime, address: &SocketAddr) -> Option<OwnPort> {
+        let (listener, port) = listen(rt, address).ok()?;
+        Some(OwnPort {
+            listener,
+            port,
+            registration: None,
+            order: None,
+        })
+    }
+
+    /// Listens at the port mapper's address, and registers this with that port. None where either fails.
+    pub fn register(
         rt: &HostRuntime,
-        places: &CallPlaces<'_>,
+        mapper: &SocketAddr,
         info: &NodeInfo,
-    ) -> Result<Option<OpenCall>, Fault> {
-        let Ok((listener, port)) = listen(rt, &places.mapper) else {
+    ) -> Result<Option<OwnPort>, Fault> {
+        let Ok((listener, port)) = listen(rt, mapper) else {
             return Ok(None);
         };
         let mut own = info.try_clone(rt.alloc())?;
         own.port = port;
-        let Some(registration) = registration_of(rt, &places.mapper, &own)? else {
+        let registration = registration_of(rt, mapper, &own)?;
+        if registration.is_none() {
             return Ok(None);
-        };
-        Ok(Some(OpenCall {
+        }
+        Ok(Some(OwnPort {
             listener,
+            port,
             registration,
             order: None,
         }))
     }
 
-    /// Orders a dial of this name, in place of the order before. Returns whether that is taken.
+    // Says this where orders are taken, in place of the order before. Returns whether that is taken.
+    fn order(&mut self, rt: &HostRuntime, orders: &SocketAddr, line: &[u8]) -> bool {
+        let Ok(mut link) = TalkLink::open(rt, rt.alloc(), 0, orders) else {
+            return false;
+        };
+        let is_taken = link.write(line);
+        self.order = Some(link);
+        is_taken
+    }
+
+    /// Orders a dial of this name. Returns whether that is taken.
     pub fn order_dial(
         &mut self,
         rt: &HostRuntime,
         places: &CallPlaces<'_>,
         short: &[u8],
     ) -> Result<bool, AllocError> {
-        let alloc = rt.alloc();
-        let mut line = Vec::from_slice(alloc, short)?;
+        let mut line = Vec::from_slice(rt.alloc(), short)?;
         line.push(b'@')?;
         line.extend_from_slice(places.host.as_bytes())?;
         line.push(b'\n')?;
-        let Ok(mut link) = TalkLink::open(rt, alloc, 0, &places.orders) else {
-            return Ok(false);
-        };
-        let is_taken = link.write(&line);
-        self.order = Some(link);
-        Ok(is_taken)
+        Ok(self.order(rt, &places.orders, &line))
+    }
+
+    /// Orders the start of a node whose port mapper has this port. Returns whether that is taken.
+    pub fn order_start(
+        &mut self,
+        rt: &HostRuntime,
+        orders: &SocketAddr,
+    ) -> Result<bool, AllocError> {
+        let line = format!(in rt.alloc(); "{}\n", self.port)?;
+        Ok(self.order(rt, orders, line.as_bytes()))
     }
 
     /// The connection that the node makes within this many milliseconds.

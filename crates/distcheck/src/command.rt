@@ -4,8 +4,10 @@ use crate::fault::Fault;
 use crate::{HELP, VERSION};
 use clap::error::ErrorKind;
 use clap::{Arg, ArgAction, ArgMatches, Command, Error};
-use dist_names::{NameError, NodeName, number_16};
-use dist_program::{name_sentence, number_sentence, parser_sentence, with_word};
+use dist_names::number_16;
+use dist_program::{
+    WordFault, command_line, name_in, option, option_number, parser_sentence, with_word,
+};
 use std::alloc::{AllocError, Global};
 
 /// What the command line asks for.
@@ -41,6 +43,8 @@ pub struct CheckOrder<'a> {
     pub mapper: Option<(&'a str, u16)>,
     /// The host and the port at which orders to dial are taken.
     pub make_it_dial: Option<(&'a str, u16)>,
+    /// The host and the port at which orders to start the node are taken.
+    pub start: Option<(&'a str, u16)>,
     /// The cookie's file, if it is not that of the home folder.
     pub cookie_file: Option<&'a str>,
     /// Whether the file is read even if others than its owner may use it.
@@ -72,11 +76,12 @@ const PROGRAM: &str = "distcheck";
 const SWITCHES: [&str; 6] = ["cookie-unsafe", "list", "quick", "harsh", "strict", "json"];
 
 // The options that take a value.
-const VALUES: [&str; 8] = [
+const VALUES: [&str; 9] = [
     "epmd-port",
     "port",
     "mapper",
     "make-it-dial",
+    "start",
     "explain",
     "only",
     "tag",
@@ -91,64 +96,29 @@ const COOKIE_FILE: &str = "cookie-file";
 // The most letters and digits of a tag.
 const MOST_OF_TAG: usize = 8;
 
-// An option.
-fn option<'a>(alloc: Global, word: &'a str, action: ArgAction) -> Arg<'a> {
-    Arg::new(alloc, word).long(word).action(action)
-}
-
-// The command line with more options, all made in this way.
-fn with_options<'a>(
-    alloc: Global,
-    mut program: Command<'a>,
-    words: &[&'a str],
-    action: ArgAction,
-) -> Result<Command<'a>, AllocError> {
-    for word in words {
-        program = program.arg(option(alloc, word, action))?;
-    }
-    Ok(program)
-}
-
-// The command line with just the cookie's file and the node.
-fn bare<'a>(alloc: Global) -> Result<Command<'a>, AllocError> {
-    let cookie = option(alloc, COOKIE, ArgAction::Set).alias(COOKIE_FILE)?;
-    let bare = Command::new(alloc, PROGRAM)
-        .no_binary_name(true)
-        .version("0")
-        .arg(cookie)?;
-    bare.arg(Arg::new(alloc, "node").action(ArgAction::Set))
-}
-
 // The command line: the node, and the options.
 fn program<'a>(alloc: Global) -> Result<Command<'a>, AllocError> {
-    let program = with_options(alloc, bare(alloc)?, &SWITCHES, ArgAction::SetTrue)?;
-    with_options(alloc, program, &VALUES, ArgAction::Set)
+    let node = Arg::new(alloc, "node").action(ArgAction::Set);
+    let cookie = option(alloc, COOKIE, ArgAction::Set).alias(COOKIE_FILE)?;
+    command_line(alloc, PROGRAM, node, &SWITCHES, &VALUES)?.arg(cookie)
 }
 
 // The number from 1 to 65,535 of this option, if it is given.
-fn port_in(alloc: Global, matches: &ArgMatches<'_>, id: &str) -> Result<Option<u16>, Fault> {
-    let Some(word) = matches.get_str(id) else {
-        return Ok(None);
-    };
-    match number_16(word.as_bytes()) {
-        Some(0) | None => Err(Fault::BadWord(number_sentence(alloc, PROGRAM, id, word)?)),
-        number => Ok(number),
-    }
+fn port_in(alloc: Global, matches: &ArgMatches<'_>, id: &str) -> Result<Option<u16>, WordFault> {
+    option_number(alloc, PROGRAM, id, matches.get_str(id))
 }
 
 // The node's name, if it is given.
-fn node_in<'a>(alloc: Global, matches: &ArgMatches<'a>) -> Result<Option<NamedNode<'a>>, Fault> {
+fn node_in<'a>(
+    alloc: Global,
+    matches: &ArgMatches<'a>,
+) -> Result<Option<NamedNode<'a>>, WordFault> {
     let Some(name) = matches.get_str("node") else {
         return Ok(None);
     };
-    match NodeName::new(alloc, name.as_bytes()) {
-        Ok(_) => {
-            let (short, host) = name.split_once('@').unwrap_or((name, ""));
-            Ok(Some(NamedNode { name, short, host }))
-        }
-        Err(NameError::NoMemory) => Err(Fault::NoMemory),
-        Err(_) => Err(Fault::BadWord(name_sentence(alloc, name)?)),
-    }
+    name_in(alloc, name)?;
+    let (short, host) = name.split_once('@').unwrap_or((name, ""));
+    Ok(Some(NamedNode { name, short, host }))
 }
 
 // The host and the port of a word HOST:PORT.
@@ -201,6 +171,7 @@ fn order_in<'a>(
         mapper_port: port_in(alloc, matches, "epmd-port")?.unwrap_or(usual_port),
         mapper: place_in(alloc, matches, "mapper")?,
         make_it_dial: place_in(alloc, matches, "make-it-dial")?,
+        start: place_in(alloc, matches, "start")?,
         cookie_file: matches.get_str(COOKIE),
         is_unsafe: matches.get_flag("cookie-unsafe"),
         rows: matches.get_str("rows"),
@@ -227,10 +198,7 @@ fn task_instead<'a>(alloc: Global, error: &Error) -> Result<CheckTask<'a>, Fault
         ErrorKind::DisplayHelp => Ok(CheckTask::Print(HELP)),
         ErrorKind::DisplayVersion => Ok(CheckTask::Print(VERSION)),
         ErrorKind::OutOfMemory => Err(Fault::NoMemory),
-        _ => {
-            let text = format!(in alloc; "{error}")?;
-            Err(Fault::BadWord(parser_sentence(alloc, PROGRAM, &text)?))
-        }
+        _ => Err(Fault::BadWord(parser_sentence(alloc, PROGRAM, error)?)),
     }
 }
 

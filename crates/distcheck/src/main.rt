@@ -7,7 +7,6 @@
 
 mod calls;
 mod command;
-mod cookie;
 mod explaining;
 mod fault;
 mod objects;
@@ -24,18 +23,17 @@ mod transcript;
 mod waiting;
 
 use command::{CheckOrder, CheckTask, NamedNode, task_of};
-use cookie::cookie_of;
 use dist_conformance::{SuiteNames, status};
 use dist_names::escape;
-use dist_program::{Resolving, mapper_port, report, words_of};
+use dist_program::{Resolving, find_cookie, mapper_port, read_words, report};
 use dist_secret::Cookie;
 use explaining::{explanation_of, list_of};
-use fault::Fault;
+use fault::{Fault, NOT_THERE};
 use objects::objects_of;
 use output::print;
 use playing::Setting;
 use queue::queue_of;
-use reaching::{find_call, find_mapper, find_node};
+use reaching::{NO_MAPPER, NO_START, find_call, find_node, find_place};
 use report::report_of;
 use results::{results_of, rows_of};
 use running::{PlayedTalk, run_talks};
@@ -46,7 +44,8 @@ use suite::{SuiteFile, read_suite};
 /// The help.
 const HELP: &str =
     "usage: distcheck NODE [--cookie FILE] [--cookie-unsafe] [--epmd-port N] [--port N] [--mapper HOST:PORT]
-                 [--make-it-dial HOST:PORT] [--quick] [--harsh] [--strict] [--only ID,..] [--tag WORD] [--rows FOLDER] [--json]
+                 [--make-it-dial HOST:PORT] [--start HOST:PORT] [--quick] [--harsh] [--strict] [--only ID,..] [--tag WORD]
+                 [--rows FOLDER] [--json]
        distcheck --mapper HOST:PORT [the same]
        distcheck --list | --explain ID [--rows FOLDER]
        distcheck --help | --version
@@ -62,6 +61,7 @@ protocol allows and what it forbids, and reports each row whose answer is not wh
   --port N                 the node's port: the port mapper is not asked
   --mapper HOST:PORT       the port mapper to check; names are registered there, and garbage is sent
   --make-it-dial HOST:PORT who makes the node dial; rows of its dials are played too, under names that are registered at its port mapper
+  --start HOST:PORT        who starts the node, with a port mapper that is ours; rows of what it says there are played too
   --quick                  leave out slow rows
   --harsh                  play rows too that can end a fragile node
   --strict                 every level counts, and so does what is loose
@@ -96,7 +96,7 @@ fn main(rt: HostRuntime) -> ExitCode {
 
 // Does what the command line asks for. `resolver` is the same runtime, for calls that may wait for a thread.
 fn perform<R: Resolving + Sync>(rt: &HostRuntime, resolver: &R) -> Result<u8, Fault> {
-    let words = words_of(rt)?;
+    let words = read_words(rt, "distcheck")?;
     let mapper_port = mapper_port(rt)?;
     match task_of(rt.alloc(), &words, mapper_port)? {
         CheckTask::Print(text) => {
@@ -138,7 +138,7 @@ fn follow<R: Resolving + Sync>(
 // The cookie; where no node is checked, none is used.
 fn cookie_for(rt: &HostRuntime, order: &CheckOrder<'_>) -> Result<Cookie, Fault> {
     if order.node.is_some() {
-        return cookie_of(rt, order);
+        return Ok(find_cookie(rt, order.cookie_file, order.is_unsafe)?);
     }
     match Cookie::from_bytes(rt.alloc(), b"none") {
         Ok(cookie) => Ok(cookie),
@@ -158,8 +158,9 @@ fn check<R: Resolving + Sync>(
     let setting = Setting {
         rt,
         node,
-        mapper: find_mapper(rt, resolver, order)?,
+        mapper: find_place(rt, resolver, order.mapper, NO_MAPPER)?,
         call: find_call(rt, resolver, order, node)?,
+        start: find_place(rt, resolver, order.start, NO_START)?,
         cookie: &cookie,
     };
     let queue = queue_of(suite, order, &setting)?;
@@ -187,27 +188,39 @@ fn put_heading(setting: &Setting<'_>, order: &CheckOrder<'_>, talks: usize) -> R
     print(setting.rt, &text)
 }
 
-// Prints what became of all talks, and returns the exit status. Where nobody listens any more, that is a fault, with the first talk that met
-// it.
-fn put_report(
+// The first talk that met that nobody listens any more, if one did: its id.
+fn gone_in<'a>(played: &'a [PlayedTalk<'a>]) -> Option<&'a [u8]> {
+    for talk in played {
+        if talk.record.is_refused {
+            return Some(talk.label.id);
+        }
+    }
+    None
+}
+
+// Prints what became of all talks, and returns the exit status. Where nobody listens any more, that is a fault.
+fn put_report<'a>(
     rt: &HostRuntime,
     order: &CheckOrder<'_>,
-    played: &[PlayedTalk<'_>],
+    played: &'a [PlayedTalk<'a>],
 ) -> Result<u8, Fault> {
     let alloc = rt.alloc();
+    let gone = gone_in(played);
     let rows = rows_of(alloc, played)?;
     let results = results_of(alloc, &rows)?;
-    let exit = status(&results, order.strict);
+    let exit = if gone.is_some() {
+        NOT_THERE
+    } else {
+        status(&results, order.strict)
+    };
     let text = if order.json {
         objects_of(alloc, played, &rows, exit)?
     } else {
         report_of(alloc, &rows, &results, order.strict)?
     };
     print(rt, &text)?;
-    for talk in played {
-        if talk.record.is_refused {
-            return Err(Fault::Gone(escape(alloc, talk.label.id)?));
-        }
+    match gone {
+        Some(id) => Err(Fault::Gone(escape(alloc, id)?)),
+        None => Ok(exit),
     }
-    Ok(exit)
 }

@@ -7,44 +7,65 @@ use dist_names::escape;
 use json::Writer;
 use std::alloc::{AllocError, Global};
 
-// Writes a member whose value is a text.
-fn put_text(out: &mut Writer, name: &str, value: &str) -> Result<(), AllocError> {
-    out.key(name)?;
-    out.string(value)
+// The value of a member.
+#[derive(Clone, Copy)]
+enum ObjectValue<'a> {
+    Text(&'a str),
+    // Bytes from a file of rows, which are escaped.
+    Bytes(&'a [u8]),
+    Number(u64),
 }
 
-// Writes a member whose value is bytes from a file of rows, escaped.
-fn put_bytes(alloc: Global, out: &mut Writer, name: &str, value: &[u8]) -> Result<(), AllocError> {
-    put_text(out, name, &escape(alloc, value)?)
+// Writes a value.
+fn put_value(alloc: Global, out: &mut Writer, value: ObjectValue<'_>) -> Result<(), AllocError> {
+    match value {
+        ObjectValue::Text(text) => out.string(text),
+        ObjectValue::Bytes(bytes) => out.string(&escape(alloc, bytes)?),
+        ObjectValue::Number(number) => out.u64(number),
+    }
 }
 
-// Writes a member whose value is a number.
-fn put_number(out: &mut Writer, name: &str, value: u64) -> Result<(), AllocError> {
-    out.key(name)?;
-    out.u64(value)
+// Writes members.
+fn put_members(
+    alloc: Global,
+    out: &mut Writer,
+    members: &[(&str, ObjectValue<'_>)],
+) -> Result<(), AllocError> {
+    for (name, value) in members {
+        out.key(name)?;
+        put_value(alloc, out, *value)?;
+    }
+    Ok(())
 }
 
 // Writes a line of a transcript.
-fn put_line(out: &mut Writer, line: &TranscriptLine) -> Result<(), AllocError> {
+fn put_line(alloc: Global, out: &mut Writer, line: &TranscriptLine) -> Result<(), AllocError> {
     let who = match line.who {
         Speaker::Us => "us",
         Speaker::Peer => "peer",
     };
+    let members = [
+        ("ms", ObjectValue::Number(u64::from(line.at))),
+        ("conn", ObjectValue::Text(line.letter)),
+        ("who", ObjectValue::Text(who)),
+        ("hex", ObjectValue::Text(&line.hex)),
+        ("act", ObjectValue::Text(line.act)),
+    ];
     out.begin_object()?;
-    put_number(out, "ms", u64::from(line.at))?;
-    put_text(out, "conn", line.letter)?;
-    put_text(out, "who", who)?;
-    put_text(out, "hex", &line.hex)?;
-    put_text(out, "act", line.act)?;
+    put_members(alloc, out, &members)?;
     out.end_object()
 }
 
 // Writes the lines of a transcript, as a member.
-fn put_transcript(out: &mut Writer, lines: &[TranscriptLine]) -> Result<(), AllocError> {
+fn put_transcript(
+    alloc: Global,
+    out: &mut Writer,
+    lines: &[TranscriptLine],
+) -> Result<(), AllocError> {
     out.key("transcript")?;
     out.begin_array()?;
     for line in lines {
-        put_line(out, line)?;
+        put_line(alloc, out, line)?;
     }
     out.end_array()
 }
@@ -52,27 +73,36 @@ fn put_transcript(out: &mut Writer, lines: &[TranscriptLine]) -> Result<(), Allo
 // Writes the object of a talk.
 fn put_talk(alloc: Global, out: &mut Writer, talk: &PlayedTalk<'_>) -> Result<(), AllocError> {
     let PlayedTalk { label, record } = talk;
+    let members = [
+        ("id", ObjectValue::Bytes(label.id)),
+        ("row", ObjectValue::Bytes(label.row)),
+        ("level", ObjectValue::Text(label.level.name())),
+        ("source", ObjectValue::Bytes(label.source)),
+        ("verdict", ObjectValue::Text(record.verdict.name())),
+        ("came", ObjectValue::Text(&record.why)),
+        ("wanted", ObjectValue::Bytes(record.wanted)),
+        ("ms", ObjectValue::Number(u64::from(record.took))),
+    ];
     out.begin_object()?;
-    put_bytes(alloc, out, "id", label.id)?;
-    put_bytes(alloc, out, "row", label.row)?;
-    put_text(out, "level", label.level.name())?;
-    put_bytes(alloc, out, "source", label.source)?;
-    put_text(out, "verdict", record.verdict.name())?;
-    put_text(out, "came", &record.why)?;
-    put_bytes(alloc, out, "wanted", record.wanted)?;
-    put_number(out, "ms", u64::from(record.took))?;
-    put_transcript(out, &record.transcript)?;
+    put_members(alloc, out, &members)?;
+    put_transcript(alloc, out, &record.transcript)?;
     out.end_object()
+}
+
+// Writes a member that is a number.
+fn put_number(out: &mut Writer, name: &str, number: usize) -> Result<(), AllocError> {
+    out.key(name)?;
+    out.u64(number as u64)
 }
 
 // Writes how many rows have which verdict, and the exit status.
 fn put_summary(out: &mut Writer, rows: &[PlayedRow<'_>], status: u8) -> Result<(), AllocError> {
     out.begin_object()?;
-    put_number(out, "rows", rows.len() as u64)?;
+    put_number(out, "rows", rows.len())?;
     for verdict in &VERDICTS {
-        put_number(out, verdict.name(), count_in(rows, *verdict) as u64)?;
+        put_number(out, verdict.name(), count_in(rows, *verdict))?;
     }
-    put_number(out, "exit", u64::from(status))?;
+    put_number(out, "exit", usize::from(status))?;
     out.end_object()
 }
 

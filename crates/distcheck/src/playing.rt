@@ -3,16 +3,18 @@
 ghost use Rattle.std.specs.Prelude.{◌≡◌};
 ghost use Rattle.distcheck.specs.Deciding.{verdict_at};
 
-use crate::calls::{CallPlaces, OpenCall};
+use crate::calls::{CallPlaces, OwnPort};
 use crate::fault::Fault;
 use crate::queue::QueuedTalk;
 use crate::talk_link::TalkLink;
 use crate::transcript::{Speaker, TranscriptLine, digits_of, letter_of};
 use crate::waiting::{await_judgement, listen_for, milliseconds_since, now, write_pieces};
 use dist_conformance::{
-    Action, Demand, Judgement, Learned, Level, Passage, Saying, TalkStep, TalkVerdict, bytes_to_say,
+    Action, Demand, Judgement, Learned, Level, Passage, Saying, TalkStep, TalkVerdict,
+    bytes_to_say, registered_port,
 };
 use dist_epmd::NodeInfo;
+use dist_program::at_port;
 use dist_secret::Cookie;
 use std::alloc::Global;
 use std::io::{self, ErrorKind};
@@ -25,6 +27,9 @@ const CONNECTS: u32 = 5;
 
 const PAUSE: u64 = 200;
 
+/// How many milliseconds a node may take to start, until it connects to its port mapper. Our own choice: a machine may be busy.
+const START: u32 = 20000;
+
 /// Where talks are played.
 #[derive(Clone, Copy)]
 pub struct Setting<'a> {
@@ -36,6 +41,8 @@ pub struct Setting<'a> {
     pub mapper: Option<SocketAddr>,
     /// How the node is made to dial, if it is.
     pub call: Option<CallPlaces<'a>>,
+    /// Where orders to start the node are taken, if it is started.
+    pub start: Option<SocketAddr>,
     /// The cookie.
     pub cookie: &'a Cookie,
 }
@@ -79,10 +86,13 @@ type Halt = Option<TalkVerdict>;
 struct TalkPlay<'a> {
     setting: Setting<'a>,
     alloc: Global,
-    start: Instant,
+    begun: Instant,
     // How many milliseconds a demand waits.
     limit: u32,
-    call: Option<OpenCall>,
+    // Where the node connects to us, if it does.
+    own: Option<OwnPort>,
+    // The port that a node has registered that was started for this talk.
+    registered: Option<u16>,
     learned: Vec<Learned>,
     record: TalkRecord<'a>,
 }
@@ -91,13 +101,14 @@ impl<'a> TalkPlay<'a> {
     // A talk of which nothing is played yet.
     fn begin(setting: &Setting<'a>, limit: u32) -> Result<TalkPlay<'a>, Fault> {
         let alloc = setting.rt.alloc();
-        let start = now(setting.rt)?;
+        let begun = now(setting.rt)?;
         Ok(TalkPlay {
             setting: *setting,
             alloc,
-            start,
+            begun,
             limit,
-            call: None,
+            own: None,
+            registered: None,
             learned: Vec::new(alloc),
             record: TalkRecord::new(alloc),
         })
@@ -112,7 +123,7 @@ impl<'a> TalkPlay<'a> {
         act: &'static str,
     ) -> Result<(), Fault> {
         let line = TranscriptLine {
-            at: milliseconds_since(self.setting.rt, self.start)?,
+            at: milliseconds_since(self.setting.rt, self.begun)?,
             letter: letter_of(conn),
             who,
             hex: digits_of(self.alloc, bytes)?,
@@ -132,7 +143,9 @@ impl<'a> TalkPlay<'a> {
         if matches!(error.raw_os_error(), Some(23 | 24)) {
             return Err(Fault::NoDescriptors);
         }
-        self.record.is_refused = error.kind() == ErrorKind::ConnectionRefused;
+        // A node that was started for this talk may be gone, and the one that is checked is not.
+        let is_refused = error.kind() == ErrorKind::ConnectionRefused;
+        self.record.is_refused = is_refused && self.registered.is_none();
         Ok(())
     }
 
@@ -161,32 +174,98 @@ impl<'a> TalkPlay<'a> {
         self.halt(TalkVerdict::Blocked, "no connection was taken")
     }
 
-    // Has the node dial what is registered, and takes its connection.
-    fn call(
-        &mut self,
-        links: &mut Vec<TalkLink>,
-        conn: u8,
-        info: &NodeInfo,
-    ) -> Result<Halt, Fault> {
-        let rt = self.setting.rt;
-        let Some(places) = self.setting.call else {
-            return self.halt(TalkVerdict::Skipped, "nobody makes the node dial");
-        };
-        if self.call.is_none() {
-            self.call = OpenCall::open(rt, &places, info)?;
+    // The connection that the node makes to our port within this many milliseconds.
+    fn accept(&self, conn: u8, limit: u32) -> Option<TalkLink> {
+        match &self.own {
+            Some(own) => own.accept(self.alloc, conn, limit),
+            None => None,
         }
-        let Some(call) = &mut self.call else {
-            return self.halt(TalkVerdict::Blocked, "the talk's name is not registered");
-        };
-        if !call.order_dial(rt, &places, info.name.as_slice())? {
-            return self.halt(TalkVerdict::Blocked, "nobody takes orders to dial");
-        }
-        let Some(link) = call.accept(self.alloc, conn, self.limit) else {
-            return self.halt(TalkVerdict::Blocked, "the node does not dial");
+    }
+
+    // Takes the connection that the node makes to our port within this many milliseconds.
+    fn take(&mut self, links: &mut Vec<TalkLink>, conn: u8, limit: u32) -> Result<Halt, Fault> {
+        let Some(link) = self.accept(conn, limit) else {
+            return self.halt(TalkVerdict::Blocked, "the node does not connect");
         };
         links.push(link)?;
         self.note(conn, Speaker::Peer, b"", "connects")?;
         Ok(None)
+    }
+
+    // Wants that the node does not connect to our port within this many milliseconds.
+    fn want_none(&mut self, conn: u8, limit: u32) -> Result<Halt, Fault> {
+        if self.accept(conn, limit).is_none() {
+            return Ok(None);
+        }
+        self.note(conn, Speaker::Peer, b"", "connects")?;
+        self.halt(TalkVerdict::Deviates, "the node connects")
+    }
+
+    // Has the node dial what is registered. Why it was not made to, where it was not.
+    fn order_dial(&mut self, info: &NodeInfo) -> Result<Halt, Fault> {
+        let rt = self.setting.rt;
+        let Some(places) = self.setting.call else {
+            return self.halt(TalkVerdict::Skipped, "nobody makes the node dial");
+        };
+        if self.own.is_none() {
+            self.own = OwnPort::register(rt, &places.mapper, info)?;
+        }
+        let Some(own) = &mut self.own else {
+            return self.halt(TalkVerdict::Blocked, "the talk's name is not registered");
+        };
+        if own.order_dial(rt, &places, info.name.as_slice())? {
+            Ok(None)
+        } else {
+            self.halt(TalkVerdict::Blocked, "nobody takes orders to dial")
+        }
+    }
+
+    // Has a node started whose port mapper has our port. Why it was not, where it was not.
+    fn order_start(&mut self) -> Result<Halt, Fault> {
+        let rt = self.setting.rt;
+        let Some(orders) = self.setting.start else {
+            return self.halt(TalkVerdict::Skipped, "nobody starts the node");
+        };
+        self.own = OwnPort::open(rt, &orders);
+        let Some(own) = &mut self.own else {
+            return self.halt(TalkVerdict::Blocked, "no port is free");
+        };
+        if own.order_start(rt, &orders)? {
+            Ok(None)
+        } else {
+            self.halt(TalkVerdict::Blocked, "nobody takes orders to start")
+        }
+    }
+
+    // Has the node dial what is registered, and takes its connection, unless none has to come within so many milliseconds.
+    fn call(
+        &mut self,
+        links: &mut Vec<TalkLink>,
+        conn: u8,
+        none: Option<u32>,
+        info: &NodeInfo,
+    ) -> Result<Halt, Fault> {
+        match (self.order_dial(info)?, none) {
+            (None, None) => self.take(links, conn, self.limit),
+            (None, Some(limit)) => self.want_none(conn, limit),
+            (halt, _) => Ok(halt),
+        }
+    }
+
+    // Has a node started, and takes its connection to its port mapper.
+    fn start(&mut self, links: &mut Vec<TalkLink>, conn: u8) -> Result<Halt, Fault> {
+        match self.order_start()? {
+            None => self.take(links, conn, START),
+            halt => Ok(halt),
+        }
+    }
+
+    // Where the node takes connections: at the port that it has registered, if it was started for this talk.
+    fn node_place(&self) -> Option<SocketAddr> {
+        match (self.setting.node, self.registered) {
+            (Some(node), Some(port)) => Some(at_port(&node, port)),
+            (node, _) => node,
+        }
     }
 
     // Says something.
@@ -210,6 +289,9 @@ impl<'a> TalkPlay<'a> {
     fn pass(&mut self, link: &mut TalkLink, passage: &Passage) -> Result<Halt, Fault> {
         let count = passage.count.min(link.came.len());
         self.note(link.conn, Speaker::Peer, &link.came[..count], link.ending())?;
+        if let Some(port) = registered_port(&link.came[..count]) {
+            self.registered = Some(port);
+        }
         let _ = link.came.drain(..count);
         if let Some(challenge) = passage.challenge {
             self.learned.push(Learned {
@@ -300,9 +382,11 @@ impl<'a> TalkPlay<'a> {
     fn take_step(&mut self, links: &mut Vec<TalkLink>, step: &'a TalkStep) -> Result<Halt, Fault> {
         self.record.wanted = step.text.as_slice();
         match &step.action {
-            Action::Dial => self.connect(links, step.conn, self.setting.node),
+            Action::Dial => self.connect(links, step.conn, self.node_place()),
             Action::Ask => self.connect(links, step.conn, self.setting.mapper),
-            Action::Call(info) => self.call(links, step.conn, info),
+            Action::Call(none, info) => self.call(links, step.conn, *none, info),
+            Action::Start => self.start(links, step.conn),
+            Action::Take => self.take(links, step.conn, self.limit),
             Action::Wait(time) => {
                 sleep(self.setting.rt, Duration::from_millis(u64::from(*time)));
                 Ok(None)
@@ -325,7 +409,7 @@ impl<'a> TalkPlay<'a> {
     // Makes all steps, and keeps the verdict that counts, and the time.
     fn complete(&mut self, level: Level, steps: &'a [TalkStep]) -> Result<(), Fault> {
         self.record.verdict = verdict_at(level, self.take_steps(steps)?);
-        self.record.took = milliseconds_since(self.setting.rt, self.start)?;
+        self.record.took = milliseconds_since(self.setting.rt, self.begun)?;
         Ok(())
     }
 

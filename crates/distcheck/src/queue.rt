@@ -72,16 +72,6 @@ impl<'a> TalkQueue<'a> {
     }
 }
 
-// Whether the node has to dial in a talk.
-fn has_call(steps: &[TalkStep]) -> bool {
-    for step in steps {
-        if matches!(step.action, Action::Call(_)) {
-            return true;
-        }
-    }
-    false
-}
-
 // Whether the node's name stands between those of talks, so that they are lesser where they begin with `0c`, and greater with `zz`.
 fn is_between(order: &CheckOrder<'_>) -> bool {
     match order.node {
@@ -90,12 +80,40 @@ fn is_between(order: &CheckOrder<'_>) -> bool {
     }
 }
 
-// Why a talk of a row with these marks is not played, if it is not. In a call the node has to dial.
-fn reason_to_skip(marks: &Marks, is_call: bool, order: &CheckOrder<'_>) -> Option<&'static str> {
-    if is_call && order.make_it_dial.is_none() {
-        Some("nobody makes the node dial (--make-it-dial)")
-    } else if is_call && !is_between(order) {
-        Some("the node's name does not sort between 0d and zz")
+// Why nobody has the node do its part in a step, if nobody does.
+fn reason_in_step(step: &TalkStep, order: &CheckOrder<'_>) -> Option<&'static str> {
+    match step.action {
+        Action::Call(..) if order.make_it_dial.is_none() => {
+            Some("nobody makes the node dial (--make-it-dial)")
+        }
+        Action::Call(..) if !is_between(order) => {
+            Some("the node's name does not sort between 0d and zz")
+        }
+        Action::Start if order.start.is_none() => Some("nobody starts the node (--start)"),
+        _ => None,
+    }
+}
+
+// The first such reason.
+fn reason_in_steps(steps: &[TalkStep], order: &CheckOrder<'_>) -> Option<&'static str> {
+    for step in steps {
+        let reason = reason_in_step(step, order);
+        if reason.is_some() {
+            return reason;
+        }
+    }
+    None
+}
+
+// Why a talk of a row with these marks is not played, if it is not.
+fn reason_to_skip(
+    marks: &Marks,
+    steps: &[TalkStep],
+    order: &CheckOrder<'_>,
+) -> Option<&'static str> {
+    let reason = reason_in_steps(steps, order);
+    if reason.is_some() {
+        reason
     } else if marks.harsh && !order.harsh {
         Some("harsh: it can end a fragile node (--harsh)")
     } else if marks.limit > USUAL && order.quick {
@@ -157,7 +175,7 @@ fn push_row<'a>(
                 label,
                 limit: row.marks.limit,
                 steps,
-                skipped: reason_to_skip(&row.marks, has_call(steps), order),
+                skipped: reason_to_skip(&row.marks, steps, order),
             };
             queue.push(&row.marks, queued)?;
         }

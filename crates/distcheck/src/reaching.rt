@@ -1,4 +1,4 @@
-//! Finds the node, the port mapper that is checked, and whoever makes the node dial.
+//! Finds the node, the port mapper that is checked, and whoever makes the node dial and starts it.
 
 use crate::calls::CallPlaces;
 use crate::command::{CheckOrder, NamedNode};
@@ -9,6 +9,17 @@ use dist_stream::{DeadlineStream, connect_by};
 use std::io;
 use std::net::SocketAddr;
 use std::time::Duration;
+
+// Who is not reached.
+const NO_NODE: &str = "the node";
+
+const NO_ORDERS: &str = "nobody makes the node dial (bin/make_it_dial)";
+
+/// The same of a port mapper.
+pub const NO_MAPPER: &str = "the port mapper";
+
+/// The same of whoever starts the node.
+pub const NO_START: &str = "nobody starts the node (bin/make_it_dial)";
 
 /// The most reads and writes of a call of the port mapper, if its time is not over before.
 pub const TURNS: usize = 4096;
@@ -43,7 +54,7 @@ fn port_at(
         return Ok(port);
     }
     let Ok(mut stream) = talk_to(rt, &at_port(address, order.mapper_port)) else {
-        return Err(Fault::NoMapper);
+        return Err(Fault::ConnectFailed(NO_MAPPER));
     };
     match lookup(rt.alloc(), &mut stream, node.short.as_bytes(), TURNS) {
         Ok(info) => Ok(info.port),
@@ -62,7 +73,7 @@ fn place_at(
     let place = at_port(address, port_at(rt, order, node, address)?);
     match talk_to(rt, &place) {
         Ok(_) => Ok(place),
-        Err(_) => Err(Fault::NoNode),
+        Err(_) => Err(Fault::ConnectFailed(NO_NODE)),
     }
 }
 
@@ -75,24 +86,29 @@ pub fn find_node<R: Resolving>(
     let Some(node) = order.node else {
         return Ok(None);
     };
-    let mut last = Fault::NoNode;
     let addresses = addresses_of(rt, resolver, node.host)?;
-    for address in &addresses {
-        match place_at(rt, order, node, address) {
-            Ok(place) => return Ok(Some(place)),
-            Err(fault) => last = fault,
+    let Some((last, others)) = addresses.split_last() else {
+        return Err(Fault::ConnectFailed(NO_NODE));
+    };
+    for address in others {
+        if let Ok(place) = place_at(rt, order, node, address) {
+            return Ok(Some(place));
         }
     }
-    Err(last)
+    Ok(Some(place_at(rt, order, node, last)?))
 }
 
-// The first address of this host at which somebody takes connections at this port.
-fn open_place<R: Resolving>(
+/// Where somebody takes connections, if a place is named: at the first address of its host at which anybody does. `missing` is who is not
+/// there otherwise.
+pub fn find_place<R: Resolving>(
     rt: &HostRuntime,
     resolver: &R,
-    host: &str,
-    port: u16,
+    named: Option<(&str, u16)>,
+    missing: &'static str,
 ) -> Result<Option<SocketAddr>, Fault> {
+    let Some((host, port)) = named else {
+        return Ok(None);
+    };
     let addresses = addresses_of(rt, resolver, host)?;
     for address in &addresses {
         let place = at_port(address, port);
@@ -100,22 +116,7 @@ fn open_place<R: Resolving>(
             return Ok(Some(place));
         }
     }
-    Ok(None)
-}
-
-/// Where the port mapper listens, if one is checked: at the first address of its host at which somebody takes connections.
-pub fn find_mapper<R: Resolving>(
-    rt: &HostRuntime,
-    resolver: &R,
-    order: &CheckOrder<'_>,
-) -> Result<Option<SocketAddr>, Fault> {
-    let Some((host, port)) = order.mapper else {
-        return Ok(None);
-    };
-    match open_place(rt, resolver, host, port)? {
-        None => Err(Fault::NoMapper),
-        place => Ok(place),
-    }
+    Err(Fault::ConnectFailed(missing))
 }
 
 /// How the node at this place is made to dial, if that is asked for. Its port mapper is that of its host.
@@ -125,15 +126,16 @@ pub fn find_call<'a, R: Resolving>(
     order: &CheckOrder<'a>,
     place: Option<SocketAddr>,
 ) -> Result<Option<CallPlaces<'a>>, Fault> {
-    let (Some(place), Some(node), Some((at, port))) = (place, order.node, order.make_it_dial) else {
+    let (Some(place), Some(node)) = (place, order.node) else {
         return Ok(None);
     };
-    let Some(orders) = open_place(rt, resolver, at, port)? else {
-        return Err(Fault::NoOrders);
-    };
-    Ok(Some(CallPlaces {
-        orders,
-        mapper: at_port(&place, order.mapper_port),
-        host: node.host,
-    }))
+    let orders = find_place(rt, resolver, order.make_it_dial, NO_ORDERS)?;
+    match orders {
+        Some(orders) => Ok(Some(CallPlaces {
+            orders,
+            mapper: at_port(&place, order.mapper_port),
+            host: node.host,
+        })),
+        None => Ok(None),
+    }
 }

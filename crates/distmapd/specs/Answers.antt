@@ -4,7 +4,6 @@ use Rattle.std.specs.Prelude.{◌≡◌, ℕ, ◌≤◌, Bool, List, [], ◌∷�
 use Rattle.dist_stream.specs.Stream.{StreamState}
 use Rattle.dist_stream.specs.Turns.{Hears, SaysFront, reports_end}
 use Rattle.dist_stream.specs.declared.turn_error.TurnError.{TurnError}
-use Rattle.dist_program.specs.PortTexts.{port_error_status}
 use Rattle.distmapd.specs.declared.answer.ReceivedAnswer.{ReceivedAnswer}
 use Rattle.distmapd.specs.declared.fault.Fault.{Fault}
 use Rattle.distmapd.specs.declared.fault.Fault.TheVariants as fault
@@ -48,5 +47,4 @@ abbrev pub fault_status : Fault → ℕ
 fault_status (fault.BadWords text) = 2
 fault_status fault.NoText = 2
 fault_status fault.BadAddress = 2
-fault_status (fault.BadMapperPort error) = port_error_status error
 fault_status _ = 1

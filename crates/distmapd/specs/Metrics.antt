@@ -80,10 +80,14 @@ page_text head ready figures =
     if starts_with ◌==◌ head (codes "HEAD ") then answer_text (page_at (drop 5 head) ready figures) false else
     answer_text (codes "405 Method Not Allowed\r\nAllow: GET, HEAD", codes "GET and HEAD alone are served\n") true)
 
--- whether an empty line stands in a text: a line feed, and then another, with or without a carriage return before it
+-- whether a text begins with a line feed and then another, with or without a carriage return before it
+abbrev pub is_empty_line_next : List ℕ → Bool
+is_empty_line_next text = starts_with ◌==◌ text (codes "\n\n") || starts_with ◌==◌ text (codes "\n\r\n")
+
+-- whether an empty line stands in a text
 abbrev pub has_empty_line : List ℕ → Bool
 has_empty_line [] = false
-has_empty_line (b ∷ rest) = starts_with ◌==◌ (b ∷ rest) (codes "\n\n") || starts_with ◌==◌ (b ∷ rest) (codes "\n\r\n") || has_empty_line rest
+has_empty_line (b ∷ rest) = is_empty_line_next (b ∷ rest) || has_empty_line rest
 
 -- WHETHER A REQUEST IS ANSWERED, by the bytes that came: its head has ended, or is too long
 abbrev pub is_whole : List ℕ → Bool

@@ -4,22 +4,19 @@ ghost use Rattle.std.specs.Prelude.{◌≡◌};
 ghost use Rattle.distmapd.specs.declared.fault.Fault.TheVariants.{NoMemory};
 ghost use Rattle.distmapd.specs.Answers.{fault_status};
 
-use dist_program::{PortError, TextError};
+use dist_program::{TextError, WordFault};
 use std::alloc::AllocError;
 use thiserror::Error;
 
 /// Why the program stops.
 #[derive(Debug, Drop, Error)]
 pub enum Fault {
-    /// The words of the command line or the environment are refused. The user is to blame.
+    /// A word of the command line, or ERL_EPMD_PORT, is refused. The user is to blame.
     #[error("{0}")]
     BadWords(String),
     /// A word is not UTF-8. The user is to blame.
     #[error("a word of the command line or the environment is no UTF-8")]
     NoText,
-    /// ERL_EPMD_PORT is not a port, and the user is to blame, or no memory was left to read it.
-    #[error("{0}")]
-    BadMapperPort(#[from] PortError),
     /// An address is not an IP address. The user is to blame.
     #[error("-address and ERL_EPMD_ADDRESS want IP addresses with commas between them")]
     BadAddress,
@@ -56,8 +53,16 @@ impl Fault {
     {
         match self {
             Fault::BadWords(_) | Fault::NoText | Fault::BadAddress => 2,
-            Fault::BadMapperPort(error) => error.status(),
             _ => 1,
+        }
+    }
+}
+
+impl From<WordFault> for Fault {
+    fn from(fault: WordFault) -> Fault {
+        match fault {
+            WordFault::Bad(sentence) => Fault::BadWords(sentence),
+            WordFault::NoMemory => Fault::NoMemory,
         }
     }
 }

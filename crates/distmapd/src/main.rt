@@ -80,10 +80,10 @@ const VERSION: &str = "distmapd 0.2.0\n";
 const LEAST_CREATION: u32 = 4;
 
 fn main(rt: HostRuntime) -> ExitCode {
-    match perform(&rt, &rt, &mut rt.stdout()) {
-        Ok(()) => ExitCode::from(0),
-        Err(fault) => ExitCode::from(report(&mut rt.stderr(), "distmapd", &fault, fault.status())),
-    }
+    ExitCode::from(match perform(&rt, &rt, &mut rt.stdout()) {
+        Ok(()) => 0,
+        Err(fault) => report(&mut rt.stderr(), "distmapd", &fault, fault.status()),
+    })
 }
 
 // Does what the words of the command line and the environment ask for. `host` is the same runtime once more, for calls that may wait:

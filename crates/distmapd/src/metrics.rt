@@ -12,10 +12,9 @@ use std::alloc::{AllocError, Global};
 type Figure = (&'static str, &'static str, u64);
 
 #[tactic(auto, unfolding(crate::specs::Metrics::figure_text))]
-fn figure_text(alloc: Global, figure: &Figure) -> Result<String, AllocError>
-    ensures { IfOk result (λ text. string_bytes text ≡ figure_text (figure.now.0.now, figure.now.1.now, figure.now.2)) }
+fn figure_text(alloc: Global, name: &str, kind: &str, value: u64) -> Result<String, AllocError>
+    ensures { IfOk result (λ text. string_bytes text ≡ figure_text (name.now, kind.now, value)) }
 {
-    let (name, kind, value) = figure;
     format!(in alloc; "# TYPE {name} {kind}\n{name} {value}\n")
 }
 
@@ -25,7 +24,8 @@ fn text_of(alloc: Global, figures: &[Figure]) -> Result<String, AllocError>
 {
     let mut text = String::new(alloc);
     for figure in figures {
-        text.push_str(&figure_text(alloc, figure)?)?;
+        let (name, kind, value) = *figure;
+        text.push_str(&figure_text(alloc, name, kind, value)?)?;
     }
     Ok(text)
 }

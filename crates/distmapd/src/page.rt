@@ -2,7 +2,7 @@
 
 ghost use Rattle.std.specs.Prelude.{◌≡◌, IfOk};
 ghost use Rattle.std.specs.String.{string_bytes};
-ghost use Rattle.distmapd.specs.Metrics.{asks_path, answer_text, head_text, is_whole, page_at, page_text};
+ghost use Rattle.distmapd.specs.Metrics.{asks_path, answer_text, is_empty_line_next, head_text, is_whole, page_at, page_text};
 
 use std::alloc::{AllocError, Global};
 
@@ -82,6 +82,13 @@ pub fn page_text(
     answer_text(alloc, (status, "GET and HEAD alone are served\n"), true)
 }
 
+// Whether a text begins with the end of a line and an empty line.
+fn is_empty_line_next(text: &[u8]) -> bool
+    ensures { result ≡ is_empty_line_next text.now }
+{
+    text.starts_with(b"\n\n") || text.starts_with(b"\n\r\n")
+}
+
 /// Whether the head of a request has ended, by an empty line or by its length. A line ends with a line feed, with or without a carriage
 /// return before it (RFC 9112, section 2.2). After the head comes the body.
 pub fn is_whole(head: &[u8]) -> bool
@@ -89,7 +96,7 @@ pub fn is_whole(head: &[u8]) -> bool
 {
     let mut rest = head;
     while let [_, after @ ..] = rest {
-        if rest.starts_with(b"\n\n") || rest.starts_with(b"\n\r\n") {
+        if is_empty_line_next(rest) {
             return true;
         }
         rest = after;

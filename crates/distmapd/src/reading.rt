@@ -41,7 +41,10 @@ fn number_up_to(bytes: &[u8], most: u32) -> Option<u32>
     ensures { SomeIff result (IsNumeral 10 bytes.now × (0 < digits_value 10 bytes.now) × (digits_value 10 bytes.now ≤ most)) (digits_value 10 bytes.now) }
 {
     let number = number_32(bytes)?;
-    (1..=most).contains(&number).then_some(number)
+    if number == 0 || most < number {
+        return None;
+    }
+    Some(number)
 }
 
 /// The number that a word writes, from 1 to `most`.

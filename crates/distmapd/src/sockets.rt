@@ -1,6 +1,6 @@
 //! The sockets at which the program listens.
 
-ghost use Rattle.std.specs.Prelude.{◌≡◌, IfSome, None, Some};
+ghost use Rattle.std.specs.Prelude.{◌≡◌, IfSome, None, Some, true};
 ghost use Rattle.distmapd.specs.Words.{handed_over};
 
 use crate::fault::Fault;
@@ -140,21 +140,29 @@ fn add_listeners(
     add_at_each(net, found, &own_addresses(alloc, addresses)?, port)
 }
 
+// Whether this process is meant, by LISTEN_PID: also if it is not set.
+fn is_meant(process: Option<&str>, own: i32) -> bool
+    ensures { process.entry ≡ None → result ≡ true }
+{
+    match process {
+        Some(word) => number_32(word.as_bytes()).map(i64::from) == Some(i64::from(own)),
+        None => true,
+    }
+}
+
 /// How many sockets were handed over, by LISTEN_FDS: from 1 to 16, and one if it is not set. `None` for another number, or if
 /// LISTEN_PID names another process.
 pub fn handed_over(said: Option<&str>, process: Option<&str>, own: i32) -> Option<u16>
     ensures some { IfSome result (λ count. handed_over said.entry ≡ Some count) }
     ensures unnamed { process.entry ≡ None → result ≡ handed_over said.entry }
 {
-    if let Some(word) = process
-        && number_32(word.as_bytes()).map(i64::from) != Some(i64::from(own))
-    {
+    if !is_meant(process, own) {
         return None;
     }
-    let Some(word) = said else {
-        return Some(1);
-    };
-    u16::try_from(number_of(word, MOST_HANDED_OVER)?).ok()
+    match said {
+        Some(word) => u16::try_from(number_of(word, MOST_HANDED_OVER)?).ok(),
+        None => Some(1),
+    }
 }
 
 /// The listeners that the settings ask for, of which `handed_over` were handed over.

@@ -1,17 +1,17 @@
 -- An order that was done, or ended.
-use Rattle.std.proofs.Common.{◌≡◌, ◌⊎◌, inl, inr, ℕ, Bool, true, false, List, Option, codes, refl, sym, subst}
+use Rattle.std.proofs.Common.{◌≡◌, ◌⊎◌, inl, inr, ℕ, Bool, List, Option, codes, refl, sym, subst}
 use Rattle.dist_stream.specs.Stream.{StreamState}
 use Rattle.dist_script.specs.Texts.{PutsFront}
 use Rattle.dist_script.specs.declared.fault.ScriptFault.{ScriptFault}
 use Rattle.dist_script.specs.Fault as script
 use Rattle.dist_script_play.specs.Scenes.{IsBad, IsCut}
-use Rattle.dist_commands.specs.declared.fault.Fault.{Fault}
-use Rattle.dist_commands.specs.declared.fault.Fault.TheVariants as fault
-use Rattle.dist_commands.specs.Fault.{status_of, fault_line}
-use Rattle.dist_commands.specs.Stopped.{EndsByFault, StopsCookie, StopsNames, StopsEscapedNames}
-use Rattle.distnode.specs.Printed.{PrintsRunOf}
-use Rattle.distnode.specs.Stopped.{IsNoNodesFile, StopsRunOf}
-use Rattle.distnode.specs.Followed.{StopsCookieAt, StopsTalk, StopsAnswer, StopsRunAt, EndsPlay}
+use Rattle.distnode.specs.declared.fault.Fault.{Fault}
+use Rattle.distnode.specs.declared.fault.Fault.TheVariants as fault
+use Rattle.distnode.specs.Fault.{status_of, fault_line}
+use Rattle.distnode.specs.Stopped.{EndsByFault, StopsCookie, StopsNames}
+use Rattle.distnode.specs.RunPrinted.{PrintsRunOf}
+use Rattle.distnode.specs.RunStopped.{IsNoNodesFile, StopsRunOf}
+use Rattle.distnode.specs.Followed.{StopsCookieAt, StopsAnswer, StopsRunAt, EndsPlay}
 
 -- ---- a fault that ended it
 
@@ -39,25 +39,13 @@ cookie_unopened bytes challenge a c d line = ended_by (StopsCookieAt bytes chall
 
 -- ---- `names`
 
-names_of_talk : (terminal : Bool) (talk here left : StreamState) (a b : Option (List ℕ)) → terminal ≡ false → here ≡ talk → (f : Fault) → StopsNames here left 1280 a b f → StopsTalk terminal talk a b f
-names_of_talk terminal talk here left a b is same f stops =
-    subst (λ t. StopsTalk t talk a b f) (sym is) (left, subst (λ x. StopsNames x left 1280 a b f) same stops)
-
-escaped_of_talk : (terminal : Bool) (talk here left : StreamState) (a b : Option (List ℕ)) → terminal ≡ true → here ≡ talk → (f : Fault) → StopsEscapedNames here left 1280 a b f → StopsTalk terminal talk a b f
-escaped_of_talk terminal talk here left a b is same f stops =
-    subst (λ t. StopsTalk t talk a b f) (sym is) (left, subst (λ x. StopsEscapedNames x left 1280 a b f) same stops)
-
-at_talk : (terminal : Bool) (talk : StreamState) (a b : Option (List ℕ)) (f : Fault) → StopsTalk terminal talk a b f → StopsAnswer terminal talk a b f
-at_talk true talk a b fault.ConnectFailed stops = absurd stops.1
-at_talk false talk a b fault.ConnectFailed stops = absurd stops.1
-at_talk terminal talk a b f stops = stops
+names_at : (terminal : Bool) (talk here left : StreamState) (a b : Option (List ℕ)) → here ≡ talk → (f : Fault) → StopsNames terminal here left 1280 a b f → StopsAnswer terminal talk a b f
+names_at terminal talk here left a b same fault.ConnectFailed stops = absurd stops
+names_at terminal talk here left a b same f stops = (left, subst (λ x. StopsNames terminal x left 1280 a b f) same stops)
 
 -- over the connection that was made
-pub names_ended : (terminal : Bool) (talk here left : StreamState) (a b c d : Option (List ℕ)) → terminal ≡ false → here ≡ talk → EndsByFault (StopsNames here left 1280 a b) 1 c d → EndsByFault (StopsAnswer terminal talk a b) 1 c d
-names_ended terminal talk here left a b c d is same by = weaken (StopsNames here left 1280 a b) (StopsAnswer terminal talk a b) 1 c d (λ f stops. at_talk terminal talk a b f (names_of_talk terminal talk here left a b is same f stops)) by
-
-pub escaped_ended : (terminal : Bool) (talk here left : StreamState) (a b c d : Option (List ℕ)) → terminal ≡ true → here ≡ talk → EndsByFault (StopsEscapedNames here left 1280 a b) 1 c d → EndsByFault (StopsAnswer terminal talk a b) 1 c d
-escaped_ended terminal talk here left a b c d is same by = weaken (StopsEscapedNames here left 1280 a b) (StopsAnswer terminal talk a b) 1 c d (λ f stops. at_talk terminal talk a b f (escaped_of_talk terminal talk here left a b is same f stops)) by
+pub names_ended : (terminal : Bool) (talk here left : StreamState) (a b c d : Option (List ℕ)) → here ≡ talk → EndsByFault (StopsNames terminal here left 1280 a b) 1 c d → EndsByFault (StopsAnswer terminal talk a b) 1 c d
+names_ended terminal talk here left a b c d same by = weaken (StopsNames terminal here left 1280 a b) (StopsAnswer terminal talk a b) 1 c d (names_at terminal talk here left a b same) by
 
 -- which could not be made
 pub names_unconnected : (terminal : Bool) (talk : StreamState) (a c d : Option (List ℕ)) → PutsFront (fault_line fault.ConnectFailed) c d → EndsByFault (StopsAnswer terminal talk a a) 1 c d

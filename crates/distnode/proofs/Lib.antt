@@ -1,3 +1,6 @@
-pub mod Printing
-pub mod Stopped
+pub mod Aliases
 pub mod Followed
+pub mod Printing
+pub mod Rows
+pub mod RunStopped
+pub mod Stopped

@@ -1,46 +1,42 @@
--- What a fault leaves of `run`.
-use Rattle.std.proofs.Common.{◌≡◌, inr, ℕ, List, [], Option, Some, None, Result, Ok, Err, IfErr, refl, sym, subst}
-use Rattle.std.specs.Result.{IsErrAnd}
-use Rattle.std.specs.Io.KnownBytes.{Consumes, IsAtEnd}
-use Rattle.dist_locked_book.specs.declared.closing.Closed.{Closed}
-use Rattle.dist_run_plan.specs.Plans.{plan_of}
-use Rattle.dist_run_hosts.specs.declared.order_fault.OrderFault.{OrderFault}
+-- What a fault leaves.
+use Rattle.std.proofs.Common.{◌≡◌, ℕ, Bool, true, List, Option, Ok, subst}
+use Rattle.std.specs.List.{All}
+use Rattle.std.specs.Io.KnownBytes.{Appends, Keeps}
+use Rattle.std.proofs.KnownBytes.{Appends-kept}
+use Rattle.dist_names.specs.Escaped.{IsPrintableOrLineFeed}
+use Rattle.dist_secret.specs.Hearing.{Hears}
+use Rattle.dist_stream.specs.Stream.{StreamState}
+use Rattle.dist_epmd.specs.declared.message.Request.TheVariants.{Names}
+use Rattle.dist_epmd_calls.specs.Asking.{AsksFor, names_meant}
 use Rattle.dist_script.specs.Texts.{PutsFront}
-use Rattle.dist_commands.specs.declared.fault.Fault.{Fault}
-use Rattle.dist_commands.specs.declared.fault.Fault.TheVariants as fault
-use Rattle.dist_commands.specs.Fault.{status_of}
-use Rattle.distnode.specs.Printed.{Puts, IsOfRun, IsUnprinted}
-use Rattle.distnode.specs.Stopped.{StopsPrinting, StopsRun, StopsRunOf}
+use Rattle.dist_script.proofs.Fronts.{front_all}
+use Rattle.distnode.specs.declared.fault.Fault.TheVariants as fault
+use Rattle.distnode.specs.Printed.{cookie_line, PrintsNames, answer_text}
+use Rattle.distnode.specs.Stopped.{StopsCookie, StopsNames}
 
--- what a run printed could not be written
-pub cut_run : (faults : List OrderFault) (closed : List Closed) (status : ℕ) (made text : List ℕ) (a b : Option (List ℕ)) → Puts (IsOfRun status faults closed) (Some []) (Some made) → text ≡ made → PutsFront text a b → StopsPrinting faults closed a b fault.WriteFailed
-cut_run faults closed status made text a b puts same put = (status, made, puts, subst (λ t. PutsFront t a b) same put)
+-- ---- what was written, and then flushed
 
--- with status 2 the text is no nodes file, and nothing of a run was printed
-pub is_bad : (file : List ℕ) (a b : Option (List ℕ)) (f : Fault) → StopsRun file a b f → status_of f ≡ 2 → (f ≡ fault.BadNodesFile) × (plan_of file ≡ None) × (b ≡ a)
-is_bad file a b fault.BadNodesFile stops two = (refl, stops.0, stops.1)
-is_bad file a b fault.BadCommandLine stops two = absurd stops
-is_bad file a b other stops two = absurd cc
+-- a flush leaves what was written
+pub flushed : (a b c : Option (List ℕ)) (text : List ℕ) → Appends a b text → Keeps b c → Appends a c text
+flushed a b c text put keeps = Appends-kept a b c text put keeps
 
--- a fault that stopped a run left standard output as it was, or could not write it
-pub unprinted : (file : List ℕ) (a b : Option (List ℕ)) (f : Fault) → StopsRun file a b f → IsUnprinted f a b
-unprinted file a b fault.BadNodesFile stops = stops.1
-unprinted file a b (fault.RunEnded why) stops = stops.2
-unprinted file a b fault.WriteFailed stops = tt
-unprinted file a b fault.NoMemory stops = stops
-unprinted file a b other stops = absurd stops
+-- also one that failed
+pub unflushed : (a b c : Option (List ℕ)) (text : List ℕ) → Appends a b text → Keeps b c → PutsFront text a c
+unflushed a b c text put keeps = front_all a c text (flushed a b c text put keeps)
 
--- of the fault that a `?` returns
-pub at_err : {X : Type 0} (P : Fault → Type 0) (r : Result X Fault) (f : Fault) → IsErrAnd r (λ g. g ≡ f) → P f → IfErr r P
-at_err P (Ok x) f h p = absurd h
-at_err P (Err g) f h p = subst P (sym h) p
+-- ---- `cookie`
 
--- ---- the file of `run`
+-- its line could not be written
+pub cut_line : (before after : Option (List ℕ)) (challenge : ℕ) (a b : Option (List ℕ)) (cookie line : List ℕ) → Hears before after (Ok cookie) → line ≡ cookie_line cookie challenge → PutsFront line a b → StopsCookie before after challenge a b fault.WriteFailed
+cut_line before after challenge a b cookie line hears same put = (cookie, hears, subst (λ l. PutsFront l a b) same put)
 
--- what stops the run of a text that was read stops that of its file
-pub of_stopped : (before after : Option (List ℕ)) (file text : List ℕ) (a b : Option (List ℕ)) (f : Fault) → text ≡ file → Consumes before after file → IsAtEnd after → StopsRun text a b f → StopsRunOf before after a b f
-of_stopped before after file text a b fault.BadNodesFile same taken end stops = ((file, taken, inr (end, inr (subst (λ t. plan_of t ≡ None) same stops.0))), stops.1)
-of_stopped before after file text a b (fault.RunEnded why) same taken end stops = (file, taken, end, subst (λ t. StopsRun t a b (fault.RunEnded why)) same stops)
-of_stopped before after file text a b fault.WriteFailed same taken end stops = (file, taken, end, subst (λ t. StopsRun t a b fault.WriteFailed) same stops)
-of_stopped before after file text a b fault.NoMemory same taken end stops = stops
-of_stopped before after file text a b other same taken end stops = absurd stops
+-- ---- `names`
+
+-- its answer was printed
+pub all_names : (terminal : Bool) (before after : StreamState) (turns : ℕ) (a b : Option (List ℕ)) (port : ℕ) (text said : List ℕ) → AsksFor Names before after turns names_meant (Ok (port, text)) → said ≡ answer_text terminal text → (terminal ≡ true → All IsPrintableOrLineFeed said) → Appends a b said → PrintsNames terminal before after turns a b
+all_names terminal before after turns a b port text said asks same printable put =
+    (port, text, asks, subst (λ t. terminal ≡ true → All IsPrintableOrLineFeed t) same printable, subst (λ t. Appends a b t) same put)
+
+-- it could not be written
+pub cut_names : (terminal : Bool) (before after : StreamState) (turns : ℕ) (a b : Option (List ℕ)) (port : ℕ) (text said : List ℕ) → AsksFor Names before after turns names_meant (Ok (port, text)) → said ≡ answer_text terminal text → PutsFront said a b → StopsNames terminal before after turns a b fault.WriteFailed
+cut_names terminal before after turns a b port text said asks same put = (port, text, asks, subst (λ t. PutsFront t a b) same put)

@@ -1,26 +1,25 @@
 -- WHAT EACH ORDER DOES.
-use Rattle.std.specs.Prelude.{◌≡◌, ◌⊎◌, ℕ, Bool, true, false, List, Option, Result, Err}
+use Rattle.std.specs.Prelude.{◌≡◌, ◌⊎◌, ℕ, Bool, List, Option, Result, Err}
 use Rattle.dist_stream.specs.Stream.{StreamState}
-use Rattle.dist_commands.specs.declared.order_of_words.Order.{Order}
-use Rattle.dist_commands.specs.declared.order_of_words.Order.TheVariants as order
-use Rattle.dist_program.specs.declared.port_error.PortError.{PortError}
-use Rattle.dist_program.specs.PortTexts.{port_error_status}
+use Rattle.distnode.specs.declared.order_of_words.Order.{Order}
+use Rattle.distnode.specs.declared.order_of_words.Order.TheVariants as order
+use Rattle.dist_program.specs.declared.word_fault.WordFault.{WordFault}
+use Rattle.dist_program.specs.Sentences.{word_fault_status}
 use Rattle.dist_script.specs.Texts.{PutsFront}
 use Rattle.dist_script.specs.declared.fault.ScriptFault.{ScriptFault}
 use Rattle.dist_script.specs.Fault as script
 use Rattle.dist_script_play.specs.Scenes.{Plays, IsBad, IsCut}
-use Rattle.dist_commands.specs.declared.fault.Fault.{Fault}
-use Rattle.dist_commands.specs.declared.fault.Fault.TheVariants.{OpenFailed, ConnectFailed}
-use Rattle.dist_commands.specs.Fault.{port_line}
-use Rattle.dist_commands.specs.Printed.{PrintsCookie, PrintsNames, PrintsEscapedNames}
-use Rattle.dist_commands.specs.Stopped.{EndsByFault, StopsCookie, StopsNames, StopsEscapedNames}
-use Rattle.distnode.specs.Printed.{PrintsRunOf}
-use Rattle.distnode.specs.Stopped.{StopsRunOf}
+use Rattle.distnode.specs.declared.fault.Fault.{Fault}
+use Rattle.distnode.specs.declared.fault.Fault.TheVariants.{OpenFailed, ConnectFailed}
+use Rattle.distnode.specs.Fault.{port_line}
+use Rattle.distnode.specs.Printed.{PrintsCookie, PrintsNames}
+use Rattle.distnode.specs.Stopped.{EndsByFault, StopsCookie, StopsNames}
+use Rattle.distnode.specs.RunPrinted.{PrintsRunOf}
+use Rattle.distnode.specs.RunStopped.{StopsRunOf}
 
 -- the port mapper's answer on this connection was printed, in at most 1,280 turns; on a terminal it was escaped
 abbrev pub PrintsAnswer : Bool → StreamState → Option (List ℕ) → Option (List ℕ) → Type 0
-PrintsAnswer true talk old new = (left : StreamState) × PrintsEscapedNames talk left 1280 old new
-PrintsAnswer false talk old new = (left : StreamState) × PrintsNames talk left 1280 old new
+PrintsAnswer terminal talk old new = (left : StreamState) × PrintsNames terminal talk left 1280 old new
 
 -- AN ORDER, DONE: its command printed what it prints, of the script on standard input, the file at the named path, or the port mapper
 -- at the named port
@@ -45,15 +44,10 @@ abbrev pub StopsCookieAt : Option (List ℕ) → ℕ → Option (List ℕ) → O
 StopsCookieAt file challenge old new OpenFailed = new ≡ old
 StopsCookieAt file challenge old new fault = (left : Option (List ℕ)) × StopsCookie file left challenge old new fault
 
--- what stops `names` on this connection; on a terminal the answer is escaped
-abbrev pub StopsTalk : Bool → StreamState → Option (List ℕ) → Option (List ℕ) → Fault → Type 0
-StopsTalk true talk old new fault = (left : StreamState) × StopsEscapedNames talk left 1280 old new fault
-StopsTalk false talk old new fault = (left : StreamState) × StopsNames talk left 1280 old new fault
-
--- the same, or the connection could not be made
+-- what stops `names` at a port mapper: the connection could not be made, or what stops `names` on it
 abbrev pub StopsAnswer : Bool → StreamState → Option (List ℕ) → Option (List ℕ) → Fault → Type 0
 StopsAnswer terminal talk old new ConnectFailed = new ≡ old
-StopsAnswer terminal talk old new fault = StopsTalk terminal talk old new fault
+StopsAnswer terminal talk old new fault = (left : StreamState) × StopsNames terminal talk left 1280 old new fault
 
 -- what stops `run` of the file at a path: it could not be opened, or what stops `run` of its contents
 abbrev pub StopsRunAt : Option (List ℕ) → Option (List ℕ) → Option (List ℕ) → Fault → Type 0
@@ -61,13 +55,13 @@ StopsRunAt file old new OpenFailed = new ≡ old
 StopsRunAt file old new fault = (left : Option (List ℕ)) × StopsRunOf file left old new fault
 
 -- the environment names a bad port for the port mapper: that line was written to standard error, or a prefix of it, and nothing was printed
-abbrev pub EndsByPort : Result ℕ PortError → ℕ → Option (List ℕ) → Option (List ℕ) → Option (List ℕ) → Option (List ℕ) → Type 0
+abbrev pub EndsByPort : Result ℕ WordFault → ℕ → Option (List ℕ) → Option (List ℕ) → Option (List ℕ) → Option (List ℕ) → Type 0
 EndsByPort named status old new err_old err_new =
-    (error : PortError) × (named ≡ Err error) × (port_error_status error ≡ status) × (new ≡ old) × PutsFront (port_line error) err_old err_new
+    (error : WordFault) × (named ≡ Err error) × (word_fault_status error ≡ status) × (new ≡ old) × PutsFront (port_line error) err_old err_new
 
 -- AN ORDER THAT WAS NOT DONE, and ended with this status: a fault stopped its command, and the line of the fault was written to
 -- standard error, or a prefix of it; or the audit of its run refused, which was printed, and nothing was written to standard error
-abbrev pub Ends : (List ℕ → Option (List ℕ)) → (ℕ → StreamState) → Bool → Result ℕ PortError → Option (List ℕ) → Option (List ℕ) → Order
+abbrev pub Ends : (List ℕ → Option (List ℕ)) → (ℕ → StreamState) → Bool → Result ℕ WordFault → Option (List ℕ) → Option (List ℕ) → Order
     → ℕ → Option (List ℕ) → Option (List ℕ) → Option (List ℕ) → Option (List ℕ) → Type 0
 Ends files talks terminal named before after order.Enact status old new err_old err_new =
     EndsPlay before after status old new err_old err_new

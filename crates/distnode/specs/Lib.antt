@@ -1,3 +1,7 @@
-pub mod Printed
-pub mod Stopped
+pub mod CommandLine
+pub mod Fault
 pub mod Followed
+pub mod Printed
+pub mod RunPrinted
+pub mod RunStopped
+pub mod Stopped

@@ -1,96 +1,36 @@
--- WHAT `run` PRINTS.
-use Rattle.std.specs.Prelude.{◌≡◌, ℕ, zero, suc, List, [], ◌∷◌, ◌++◌, codes, decimal, Option, Some}
-use Rattle.std.specs.List.{concat, flat_map}
-use Rattle.std.specs.Io.KnownBytes.{Appends, Consumes, IsAtEnd}
-use Rattle.dist_world_model.specs.World.{World}
-use Rattle.dist_locked_book.specs.declared.closing.Closed.{Closed}
-use Rattle.dist_audit.specs.declared.audit_error.AuditError.{AuditError}
-use Rattle.dist_audit.specs.Audit.{IsWorldOf, Reports, ReportsFirst}
-use Rattle.dist_audit.specs.Refusals.{refusal_name, refusal_number}
-use Rattle.dist_run_plan.specs.declared.plan.Plan.{Plan}
-use Rattle.dist_run_plan.specs.Plans.{plan_of}
-use Rattle.dist_run_hosts.specs.Setups.{AreOfPlans}
-use Rattle.dist_run_hosts.specs.Orders.{AreObeyed}
-use Rattle.dist_run_hosts.specs.Words.{order_refusal_name}
-use Rattle.dist_run_hosts.specs.declared.order_fault.OrderFault.{OrderFault}
-use Rattle.dist_run_hosts.specs.Runs.{AreInOrder}
-use Rattle.dist_script_play.specs.Lines.{node_text}
-use Rattle.dist_script_play.specs.Worlds.{nodes_text, AreAgreements}
-use Rattle.dist_commands.specs.declared.fault.Fault.{Fault}
-use Rattle.dist_commands.specs.declared.fault.Fault.TheVariants.{WriteFailed}
-use Rattle.dist_commands.specs.Fault.{status_of}
+-- WHAT `cookie` AND `names` PRINT.
+use Rattle.std.specs.Prelude.{◌≡◌, ℕ, Bool, true, false, List, ◌∷◌, [], length, codes, decimal, Option, Ok}
+use Rattle.std.specs.List.{All, concat}
+use Rattle.std.specs.Io.KnownBytes.{Appends}
+use Rattle.hex.specs.Hex.{encode_lower}
+use Rattle.dist_names.specs.Escaped.{escaped_lines, IsPrintableOrLineFeed}
+use Rattle.dist_secret.specs.Digest.{digest_of}
+use Rattle.dist_secret.specs.Hearing.{Hears}
+use Rattle.dist_stream.specs.Stream.{StreamState}
+use Rattle.dist_epmd.specs.declared.message.Request.TheVariants.{Names}
+use Rattle.dist_epmd_calls.specs.Asking.{AsksFor, names_meant}
 
--- a text of this kind was written
-abbrev pub Puts : (List ℕ → Type 0) → Option (List ℕ) → Option (List ℕ) → Type 0
-Puts Is old new = (text : List ℕ) × Is text × Appends old new text
+-- ---- `cookie`
 
--- order K FAULT
-abbrev pub order_line : OrderFault → List ℕ
-order_line fault = codes "order " ++ decimal fault.number ++ codes " " ++ order_refusal_name fault.refusal ++ codes "\n"
+-- cookie of L bytes, digest of C is HEX
+abbrev pub cookie_line : List ℕ → ℕ → List ℕ
+cookie_line cookie challenge =
+    concat (codes "cookie of " ∷ decimal (length cookie) ∷ codes " bytes, digest of " ∷ decimal challenge
+    ∷ codes " is " ∷ encode_lower (digest_of cookie challenge) ∷ codes "\n" ∷ [])
 
--- a line for each order that made no dial
-abbrev pub orders_text : List OrderFault → List ℕ
-orders_text = flat_map order_line
+-- the line of the cookie that was read was written
+abbrev pub PrintsCookie : Option (List ℕ) → Option (List ℕ) → ℕ → Option (List ℕ) → Option (List ℕ) → Type 0
+PrintsCookie before after challenge old new = (cookie : List ℕ) × Hears before after (Ok cookie) × Appends old new (cookie_line cookie challenge)
 
--- the line and the table of a node as it was closed
-abbrev pub closed_node : Closed → List ℕ
-closed_node closed = let n = closed.node in let s = n.setup in node_text s.name (Some n)
+-- ---- `names`
 
--- those of all nodes
-abbrev pub closed_text : List Closed → List ℕ
-closed_text = flat_map closed_node
+-- THE TEXT OF THE ANSWER AS IT IS PRINTED: on a terminal each line is escaped
+abbrev pub answer_text : Bool → List ℕ → List ℕ
+answer_text true text = escaped_lines text
+answer_text false text = text
 
--- audit refused N NAME
-abbrev pub refused_line : AuditError → List ℕ
-refused_line e = concat (codes "audit refused " ∷ decimal (refusal_number e) ∷ codes " " ∷ refusal_name e ∷ codes "\n" ∷ [])
-
--- IF THE AUDIT REFUSES: the nodes as they were closed, and why
-abbrev pub refusal_text : AuditError → List Closed → List ℕ
-refusal_text e closed = closed_text closed ++ refused_line e
-
--- IF IT HOLDS: the nodes of the audited world, what each pair agrees on, and `audit holds`
-abbrev pub IsHeld : World → List ℕ → Type 0
-IsHeld w text = (agreements : List ℕ) × AreAgreements w agreements × (text ≡ nodes_text w ++ agreements ++ codes "audit holds\n")
-
--- WHAT IS PRINTED OF CLOSED NODES, by the exit status. With 0 it is the text of one world that has these nodes; its ends that are up
--- hold the digests of the cookies with which these nodes were set up. With 1 it is the audit's first refusal.
-abbrev pub IsAudited : ℕ → List Closed → List ℕ → Type 0
-IsAudited zero closed text = (w : World) × IsWorldOf closed w × IsHeld w text
-IsAudited (suc zero) closed text = (e : AuditError) × Reports e closed × ReportsFirst e closed × (text ≡ refusal_text e closed)
-IsAudited (suc (suc status)) closed text = ⊥
-
--- THE TEXT OF A RUN: the orders that made no dial, and what is printed of its closed nodes
-abbrev pub IsOfRun : ℕ → List OrderFault → List Closed → List ℕ → Type 0
-IsOfRun status faults closed text = (said : List ℕ) × IsAudited status closed said × (text ≡ orders_text faults ++ said)
-
--- WHAT `run` PRINTS, by the exit status: the text of a run of the nodes file
-pub record PrintsRun (file : List ℕ) (status : ℕ) (old new : Option (List ℕ)) : Type 0 where
-  -- the plan in the file
-  pub plan : Plan
-  -- the orders that made no dial
-  pub faults : List OrderFault
-  -- the nodes as they were closed
-  pub closed : List Closed
-  -- the file is a nodes file with just this plan
-  pub says : plan_of file ≡ Some plan
-  -- the closed nodes are those of the file, in its order, each with the setup that it names
-  pub nodes : AreOfPlans plan.node closed
-  -- these orders are in the order of the file
-  pub order : AreInOrder faults
-  -- each order of the file made its dial once, or is one of these and made none; no node made another dial
-  pub orders : AreObeyed plan faults closed
-  -- just their text was written
-  pub text : Puts (IsOfRun status faults closed) old new
-
--- the same for a nodes file that was read to its end
-abbrev pub PrintsRunOf : Option (List ℕ) → Option (List ℕ) → ℕ → Option (List ℕ) → Option (List ℕ) → Type 0
-PrintsRunOf before after status old new = (file : List ℕ) × Consumes before after file × IsAtEnd after × PrintsRun file status old new
-
--- nothing was written, unless a write failed
-abbrev pub IsUnprinted : Fault → Option (List ℕ) → Option (List ℕ) → Type 0
-IsUnprinted WriteFailed old new = Unit {0}
-IsUnprinted e old new = new ≡ old
-
--- a fault of status 1 ended the command, and nothing was printed
-abbrev pub PrintsNothing : Option (List ℕ) → Option (List ℕ) → Type 0
-PrintsNothing old new = (e : Fault) × (status_of e ≡ 1) × IsUnprinted e old new
+-- the text of the answer to the question for all nodes was written, after at most this many turns; no terminal acts on its bytes
+abbrev pub PrintsNames : Bool → StreamState → StreamState → ℕ → Option (List ℕ) → Option (List ℕ) → Type 0
+PrintsNames terminal before after turns old new =
+    (port : ℕ) × (text : List ℕ) × AsksFor Names before after turns names_meant (Ok (port, text))
+    × (terminal ≡ true → All IsPrintableOrLineFeed (answer_text terminal text)) × Appends old new (answer_text terminal text)

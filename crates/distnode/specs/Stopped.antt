@@ -1,40 +1,36 @@
--- WHAT A FAULT LEAVES of `run`: why it ended early, and what was then written to standard output.
-use Rattle.std.specs.Prelude.{◌≡◌, ℕ, ◌<◌, ◌⊎◌, List, [], length, Option, Some, None}
-use Rattle.std.specs.Str.{IsUtf8}
-use Rattle.std.specs.Io.KnownBytes.{Consumes, IsAtEnd}
-use Rattle.dist_locked_book.specs.declared.closing.Closed.{Closed}
-use Rattle.dist_run_plan.specs.declared.plan.Plan.{Plan}
-use Rattle.dist_run_plan.specs.Plans.{plan_of}
-use Rattle.dist_run_hosts.specs.declared.order_fault.OrderFault.{OrderFault}
+-- WHAT A FAULT LEAVES: why a command ended early, and what was then written to standard output and standard error.
+use Rattle.std.specs.Prelude.{◌≡◌, ℕ, Bool, true, List, Option, Ok, Err}
+use Rattle.dist_secret.specs.Hearing.{Hears}
+use Rattle.dist_stream.specs.Stream.{StreamState}
+use Rattle.dist_epmd.specs.declared.message.Request.TheVariants.{Names}
+use Rattle.dist_epmd_calls.specs.Asking.{AsksFor, names_meant}
 use Rattle.dist_script.specs.Texts.{PutsFront}
-use Rattle.dist_commands.specs.declared.fault.Fault.{Fault}
-use Rattle.dist_commands.specs.declared.fault.Fault.TheVariants.{BadNodesFile, RunEnded, ReadFailed, WriteFailed, NoMemory}
-use Rattle.distnode.specs.Printed.{Puts, IsOfRun, PrintsRun}
+use Rattle.distnode.specs.declared.fault.Fault.{Fault}
+use Rattle.distnode.specs.declared.fault.Fault.TheVariants.{WriteFailed, NoCookie, NoAnswer, NoMemory}
+use Rattle.distnode.specs.Fault.{status_of, fault_line}
+use Rattle.distnode.specs.Printed.{cookie_line, answer_text}
 
--- what stops the printing of a run with this result: a write failed, after a prefix of the text; or memory ran out for the text
-abbrev pub StopsPrinting : List OrderFault → List Closed → Option (List ℕ) → Option (List ℕ) → Fault → Type 0
-StopsPrinting faults closed old new WriteFailed =
-    (status : ℕ) × (text : List ℕ) × Puts (IsOfRun status faults closed) (Some []) (Some text) × PutsFront text old new
-StopsPrinting faults closed old new NoMemory = new ≡ old
-StopsPrinting faults closed old new other = ⊥
+-- A FAULT OF THIS STATUS ENDED A COMMAND: one that stops it in this way. Its line was written to standard error, or, if that failed, a
+-- prefix of it
+pub record EndsByFault (Stops : Fault → Type 0) (status : ℕ) (old new : Option (List ℕ)) : Type 0 where
+  pub cause : Fault
+  pub stops : Stops cause
+  pub status_is : status_of cause ≡ status
+  pub line : PutsFront (fault_line cause) old new
 
--- WHAT STOPS A RUN of the nodes file with this text: it is not a nodes file; or its run ended early; or a write failed, after a prefix
--- of what the run prints; or memory ran out
-abbrev pub StopsRun : List ℕ → Option (List ℕ) → Option (List ℕ) → Fault → Type 0
-StopsRun file old new BadNodesFile = (plan_of file ≡ None) × (new ≡ old)
-StopsRun file old new (RunEnded error) = (plan : Plan) × (plan_of file ≡ Some plan) × (new ≡ old)
-StopsRun file old new WriteFailed = (status : ℕ) × (text : List ℕ) × PrintsRun file status (Some []) (Some text) × PutsFront text old new
-StopsRun file old new NoMemory = new ≡ old
-StopsRun file old new other = ⊥
+-- WHAT STOPS `cookie`: the file has no cookie; or it has this one, but its line was not written, or just a prefix of it
+abbrev pub StopsCookie : Option (List ℕ) → Option (List ℕ) → ℕ → Option (List ℕ) → Option (List ℕ) → Fault → Type 0
+StopsCookie before after challenge old new (NoCookie error) = Hears before after (Err error) × (new ≡ old)
+StopsCookie before after challenge old new WriteFailed = (cookie : List ℕ) × Hears before after (Ok cookie) × PutsFront (cookie_line cookie challenge) old new
+StopsCookie before after challenge old new NoMemory = (cookie : List ℕ) × Hears before after (Ok cookie) × (new ≡ old)
+StopsCookie before after challenge old new other = ⊥
 
--- what was read is not a nodes file: it has more than 1,048,576 bytes; or it was read to its end, and is not UTF-8, or breaks a rule
-abbrev pub IsNoNodesFile : Option (List ℕ) → Option (List ℕ) → Type 0
-IsNoNodesFile before after =
-    (file : List ℕ) × Consumes before after file × ((1048576 < length file) ⊎ (IsAtEnd after × ((¬ (IsUtf8 file)) ⊎ (plan_of file ≡ None))))
-
--- THE SAME FOR A FILE that is read: the read may fail, or memory run out for it
-abbrev pub StopsRunOf : Option (List ℕ) → Option (List ℕ) → Option (List ℕ) → Option (List ℕ) → Fault → Type 0
-StopsRunOf before after old new BadNodesFile = IsNoNodesFile before after × (new ≡ old)
-StopsRunOf before after old new ReadFailed = new ≡ old
-StopsRunOf before after old new NoMemory = new ≡ old
-StopsRunOf before after old new fault = (file : List ℕ) × Consumes before after file × IsAtEnd after × StopsRun file old new fault
+-- WHAT STOPS `names`: the question has no answer; or it has this one, but just a prefix of its text was written, or memory ran out for the
+-- escape of it
+abbrev pub StopsNames : Bool → StreamState → StreamState → ℕ → Option (List ℕ) → Option (List ℕ) → Fault → Type 0
+StopsNames terminal before after turns old new (NoAnswer error) = AsksFor Names before after turns names_meant (Err error) × (new ≡ old)
+StopsNames terminal before after turns old new WriteFailed =
+    (port : ℕ) × (text : List ℕ) × AsksFor Names before after turns names_meant (Ok (port, text)) × PutsFront (answer_text terminal text) old new
+StopsNames terminal before after turns old new NoMemory =
+    (port : ℕ) × (text : List ℕ) × AsksFor Names before after turns names_meant (Ok (port, text)) × (terminal ≡ true) × (new ≡ old)
+StopsNames terminal before after turns old new other = ⊥

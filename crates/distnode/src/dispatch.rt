@@ -2,15 +2,18 @@
 
 ghost use Rattle.std.specs.Prelude.{◌≡◌, ◌≤◌, ◌⊎◌, Option, List, ℕ};
 ghost use Rattle.std.specs.Io.KnownBytes.{Keeps};
-ghost use Rattle.dist_commands.specs.Printed.{PrintsCookie};
-ghost use Rattle.dist_commands.specs.Stopped.{EndsByFault};
-ghost use Rattle.distnode.specs.Printed.{PrintsRunOf};
+ghost use Rattle.distnode.specs.Printed.{PrintsCookie};
+ghost use Rattle.distnode.specs.Stopped.{EndsByFault};
+ghost use Rattle.distnode.specs.RunPrinted.{PrintsRunOf};
 ghost use Rattle.distnode.specs.Followed.{PrintsAnswer, Follows, StopsCookieAt, StopsAnswer, StopsRunAt, EndsByPort, Ends};
 
+use crate::cookie_command::cookie;
+use crate::fault::{Fault, report_port};
+use crate::names_command::names;
+use crate::order_of_words::Order;
 use crate::run::run_file;
 use crate::system::System;
-use dist_commands::{Fault, Order, cookie, names, names_on_terminal, report_port};
-use dist_program::PortError;
+use dist_program::WordFault;
 use dist_run::Machine;
 use dist_script_play::enact;
 use std::alloc::Global;
@@ -40,7 +43,7 @@ fn follow_cookie<S: System, W: Write, E: Write>(
 }
 
 // Prints what the port mapper at a port knows; escaped if standard output is a terminal.
-#[tactic(auto, using(crate::proofs::Followed::names_ended, crate::proofs::Followed::escaped_ended, crate::proofs::Followed::names_unconnected))]
+#[tactic(auto, using(crate::proofs::Followed::names_ended, crate::proofs::Followed::names_unconnected))]
 fn print_names<S: System, W: Write, E: Write>(
     system: &S,
     alloc: Global,
@@ -55,11 +58,7 @@ fn print_names<S: System, W: Write, E: Write>(
         1 (E.contents err.old) (E.contents err.new) }
 {
     match system.connect(port) {
-        Ok(mut stream) => if system.is_terminal() {
-            names_on_terminal(alloc, &mut stream, out, err)
-        } else {
-            names(alloc, &mut stream, out, err)
-        },
+        Ok(mut stream) => names(alloc, &mut stream, system.is_terminal(), out, err),
         Err(_) => Fault::ConnectFailed.report_to(err),
     }
 }
@@ -68,7 +67,7 @@ fn print_names<S: System, W: Write, E: Write>(
 fn follow_names<S: System, W: Write, E: Write>(
     system: &S,
     alloc: Global,
-    named: &Result<u16, PortError>,
+    named: &Result<u16, WordFault>,
     port: u16,
     out: &mut W,
     err: &mut E,
@@ -119,7 +118,7 @@ pub fn follow<S: System, R: Machine, I: Read, W: Write, E: Write>(
     host: &R,
     alloc: Global,
     order: Order<'_>,
-    named: &Result<u16, PortError>,
+    named: &Result<u16, WordFault>,
     input: &mut I,
     out: &mut W,
     err: &mut E,

@@ -3,14 +3,15 @@
 ghost use Rattle.std.specs.Prelude.{◌≡◌, ◌≤◌, ◌⊎◌, ℕ, List, Option, Some, None, IfOk, IfErr, OnOk, codes};
 ghost use Rattle.std.specs.Io.KnownBytes.{Appends};
 ghost use Rattle.dist_script.specs.Texts.{PutsFront};
-ghost use Rattle.distnode.specs.Printed.{order_line, orders_text, closed_text, refused_line, refusal_text};
-ghost use Rattle.distnode.specs.Printed.{Puts, IsHeld, IsAudited, IsOfRun, PrintsRun, PrintsRunOf, PrintsNothing};
-ghost use Rattle.dist_commands.specs.Stopped.{EndsByFault};
-ghost use Rattle.distnode.specs.Stopped.{IsNoNodesFile, StopsPrinting, StopsRun, StopsRunOf};
+ghost use Rattle.distnode.specs.RunPrinted.{order_line, orders_text, closed_text, refused_line, refusal_text};
+ghost use Rattle.distnode.specs.RunPrinted.{Puts, IsHeld, IsAudited, IsOfRun, PrintsRun, PrintsRunOf, PrintsNothing};
+ghost use Rattle.distnode.specs.Stopped.{EndsByFault};
+ghost use Rattle.distnode.specs.RunStopped.{IsNoNodesFile, StopsPrinting, StopsRun, StopsRunOf};
 ghost use Rattle.dist_run_plan.specs.Plans as plans;
 
+use crate::fault::Fault;
+use crate::output::write_text;
 use dist_audit::{AuditError, audit};
-use dist_commands::{Fault, write_text};
 use dist_locked::{Closed, Gate, Open};
 use dist_run::{Machine, OrderFault, Ran, run_plan};
 use dist_run_plan::{Plan, PlanError, plan_of};
@@ -19,7 +20,7 @@ use dist_script_play::{print, print_agreements, print_nodes};
 use dist_world::World;
 use std::alloc::Global;
 use std::io::{Read, Write};
-use std::{io, str};
+use std::str;
 
 // The plan in a text, or why there is none: it is not a nodes file, or memory ran out.
 fn plan_in(alloc: Global, text: &str) -> Result<Plan, Fault>
@@ -34,7 +35,7 @@ fn plan_in(alloc: Global, text: &str) -> Result<Plan, Fault>
 }
 
 // Prints the line of an order that made no dial.
-fn print_fault<W: Write>(out: &mut W, fault: &OrderFault) -> io::Result<()>
+fn print_fault<W: Write>(out: &mut W, fault: &OrderFault) -> Result<(), ScriptFault>
     ensures { OnOk result (Appends (W.contents out.old) (W.contents out.new) (order_line fault.now)) }
 {
     put(
@@ -51,7 +52,7 @@ fn print_fault<W: Write>(out: &mut W, fault: &OrderFault) -> io::Result<()>
 
 // Prints the orders that made no dial.
 #[tactic(auto, using(crate::proofs::Printing::nothing, crate::proofs::Printing::order_more))]
-fn print_faults<W: Write>(out: &mut W, faults: &[OrderFault]) -> io::Result<()>
+fn print_faults<W: Write>(out: &mut W, faults: &[OrderFault]) -> Result<(), ScriptFault>
     ensures { OnOk result (Appends (W.contents out.old) (W.contents out.new) (orders_text faults.now)) }
 {
     for fault in faults {
@@ -74,7 +75,7 @@ fn print_world<W: Write>(alloc: Global, out: &mut W, world: &World) -> Result<()
 
 // Prints the nodes as they were closed.
 #[tactic(auto, using(crate::proofs::Printing::nothing, crate::proofs::Printing::closed_more))]
-fn print_closed<W: Write>(out: &mut W, all: &[Closed]) -> io::Result<()>
+fn print_closed<W: Write>(out: &mut W, all: &[Closed]) -> Result<(), ScriptFault>
     ensures { OnOk result (Appends (W.contents out.old) (W.contents out.new) (closed_text all.now)) }
 {
     for closed in all {
@@ -84,7 +85,7 @@ fn print_closed<W: Write>(out: &mut W, all: &[Closed]) -> io::Result<()>
 }
 
 // Prints why no world has the histories of the closed nodes.
-fn print_error<W: Write>(out: &mut W, error: AuditError) -> io::Result<()>
+fn print_error<W: Write>(out: &mut W, error: AuditError) -> Result<(), ScriptFault>
     ensures { OnOk result (Appends (W.contents out.old) (W.contents out.new) (refused_line error)) }
 {
     put(
@@ -100,7 +101,11 @@ fn print_error<W: Write>(out: &mut W, error: AuditError) -> io::Result<()>
 }
 
 // Prints the nodes as they were closed, and why no world has their histories.
-fn print_refusal<W: Write>(out: &mut W, all: &[Closed], error: AuditError) -> io::Result<()>
+fn print_refusal<W: Write>(
+    out: &mut W,
+    all: &[Closed],
+    error: AuditError,
+) -> Result<(), ScriptFault>
     ensures { OnOk result (Appends (W.contents out.old) (W.contents out.new) (refusal_text error all.now)) }
 {
     print_closed(out, all)?;
@@ -138,7 +143,7 @@ fn print_ran<W: Write>(alloc: Global, out: &mut W, ran: &Ran) -> Result<u8, Scri
 }
 
 // Prints the result of a run. Returns the exit status.
-#[tactic(auto, using(crate::proofs::Stopped::cut_run))]
+#[tactic(auto, using(crate::proofs::RunStopped::cut_run))]
 fn put_ran<W: Write>(alloc: Global, ran: &Ran, out: &mut W) -> Result<u8, Fault>
     ensures status { IfOk result (λ status. status ≤ 1) }
     ensures printed { IfOk result (λ status. Puts (IsOfRun status ran.now.faults.items ran.now.closed.items) (W.contents out.old) (W.contents out.new)) }

@@ -1,14 +1,12 @@
 -- A slot's state as the value of a box.
-use mir.Syntax.{impl, tnil, dnil}
-use mathlib.Core.List.{[]}
-use denote.RattleType.{RattleType}
-use Rattle.std_alloc.proofs.BoxSteps.Form.{Bx}
-use Rattle.std_heap.specs.contracts.Global as Heap
+use mir.Syntax.{dnil, impl, tnil}
 use Rattle.std_heap.specs.contracts.GlobalAllocator.TheImpl.{ghosts, dict}
+use Rattle.std_heap.specs.contracts.Global as Heap
 use Rattle.std_heap.proofs.Global.TheLaws as heap
+use Rattle.dist_c_guest.specs.contracts.parts.Parts as Parts
+use Rattle.dist_c_guest.proofs.Walks.{RattleType, [], Bx}
 use Rattle.distnode_c.specs.contracts.desk.RegistryDesk as RegistryDesk
 use Rattle.distnode_c.proofs.desk.RegistryDesk.TheLaws as desk
-use Rattle.dist_c_guest.specs.contracts.parts.Parts as Parts
 
 abbrev pub E : Bx
 E = record { row = RegistryDesk.the_row; laws = desk.the_row_laws; al = record { row = Heap.the_row; laws = heap.the_row_laws; g = ghosts; d = dict; drops = impl [] tnil dnil } }

@@ -32,13 +32,10 @@ use Rattle.dist_probe.specs.declared.asking.Peer.{Peer}
 use Rattle.dist_stream.specs.Stream.{StreamState}
 use Rattle.dist_stream.specs.declared.turn_error.TurnError.{TurnError}
 use Rattle.dist_stream.specs.declared.turn_error.TurnError.TheVariants as fault
-use Rattle.distping.specs.declared.links.accepting.Content.{Content}
-use Rattle.distping.specs.declared.links.accepting.Content.TheVariants as content
-use Rattle.distping.specs.declared.links.accepting.Inbound.{Inbound}
 use Rattle.distping_report.specs.declared.taken.Taken.{Taken}
 use Rattle.distping_report.specs.declared.taken.Taken.TheVariants as taken
 use Rattle.distping.specs.Listening.{close_verdict, cut_verdict, end_verdict, fault_verdict, own_verdict, step_verdict, written_verdict}
-use Rattle.distping.specs.Accepting.{AwaitsName, DecidesBy, GoesOn, HandsOn, IsHeardAs, Shows, TakesUnless, Talks, TalksOn, alone, content_as, last_verdict, only, only_end}
+use Rattle.distping.specs.Accepting.{AwaitsName, DecidesBy, GoesOn, HandsOn, IsHeardAs, Shows, TakesUnless, Talks, TalksOn, alone, last_verdict, named_by, only, only_end}
 use Rattle.distping.proofs.OneEnd.{IsFirst, IsSecond, IsShut, first, named_end, second}
 
 -- ---- an end
@@ -82,29 +79,29 @@ written-shows e None = tt
 -- ---- a verdict
 
 -- what the verdict shows, where a verdict of an end that is up shows it
-put : (s : Setup) (fresh : ℕ) (compares : Bool) (says : Content) (m : NodeState) → (ShowsEnd taken.Up (only m) → Shows s fresh compares says taken.Up m) → (t : Taken) → ShowsEnd t (only m) → Shows s fresh compares says t m
+put : (s : Setup) (fresh : ℕ) (compares : Bool) (says : Result Message MessageError) (m : NodeState) → (ShowsEnd taken.Up (only m) → Shows s fresh compares says taken.Up m) → (t : Taken) → ShowsEnd t (only m) → Shows s fresh compares says t m
 put s fresh compares says m up taken.Up h = up h
 put s fresh compares says m up taken.Answered h = absurd h
 put s fresh compares says m up t h = h
 
-step-shows : (s : Setup) (fresh : ℕ) (compares : Bool) (says : Content) (m : NodeState) (x : StepError) → Shows s fresh compares says (step_verdict x) m
+step-shows : (s : Setup) (fresh : ℕ) (compares : Bool) (says : Result Message MessageError) (m : NodeState) (x : StepError) → Shows s fresh compares says (step_verdict x) m
 step-shows s fresh compares says m error.NoMemory = tt
 step-shows s fresh compares says m x = tt
 
 -- what each verdict shows, where there is one
-abbrev AllShow : Setup → ℕ → Bool → Content → NodeState → Option Taken → Type 0
+abbrev AllShow : Setup → ℕ → Bool → Result Message MessageError → NodeState → Option Taken → Type 0
 AllShow s fresh compares says m verdict = IfSome verdict (λ t. Shows s fresh compares says t m)
 
 -- a node that is another one than this is up at no verdict
-never-up : {s : Setup} {fresh : ℕ} {compares : Bool} {says : Content} (m k : NodeState) (e : End) → m ≡ k → only k ≡ Some e → ((kept : UpRecord) → e ≡ ends.Up kept → ⊥) → ShowsEnd taken.Up (only m) → Shows s fresh compares says taken.Up m
+never-up : {s : Setup} {fresh : ℕ} {compares : Bool} {says : Result Message MessageError} (m k : NodeState) (e : End) → m ≡ k → only k ≡ Some e → ((kept : UpRecord) → e ≡ ends.Up kept → ⊥) → ShowsEnd taken.Up (only m) → Shows s fresh compares says taken.Up m
 never-up m k e is at apart h = absurd (apart h.0 (let same : ◌≡◌ {A = Option End} (Some e) (Some (ends.Up h.0)) = sym at ∙ sym (ap only is) ∙ h.1 in cc))
 
-shut-up : {s : Setup} {fresh : ℕ} {compares : Bool} {says : Content} (o : Setup) (steps : ℕ) (m : NodeState) → IsShut o steps m → ShowsEnd taken.Up (only m) → Shows s fresh compares says taken.Up m
+shut-up : {s : Setup} {fresh : ℕ} {compares : Bool} {says : Result Message MessageError} (o : Setup) (steps : ℕ) (m : NodeState) → IsShut o steps m → ShowsEnd taken.Up (only m) → Shows s fresh compares says taken.Up m
 shut-up o steps m shut = never-up m (alone o (steps + 1) (ends.Closed shut.0)) (ends.Closed shut.0) shut.1 refl (λ kept e. absurd cc)
 
 -- ---- a body that was handed on
 
-module _ (s : Setup) (fresh : ℕ) (compares : Bool) (says : Content) (body : List ℕ) (n m : NodeState) (old new : StreamState) (turns left : ℕ) (verdict : Option Taken) where
+module _ (s : Setup) (fresh : ℕ) (compares : Bool) (says : Result Message MessageError) (body : List ℕ) (n m : NodeState) (old new : StreamState) (turns left : ℕ) (verdict : Option Taken) where
   lift : (ShowsEnd taken.Up (only m) → Shows s fresh compares says taken.Up m) → (o : Option Taken) → IfSome o (λ t. ShowsEnd t (only m)) → AllShow s fresh compares says m o
   lift up None h = tt
   lift up (Some t) h = put s fresh compares says m up t h
@@ -128,9 +125,9 @@ module _ (s : Setup) (fresh : ℕ) (compares : Bool) (says : Content) (body : Li
 -- ---- the first body
 
 -- behind the first body: its verdict shows how the end stands; where it has none the node awaits the reply of the peer that it named
-pub record First (s : Setup) (steps fresh : ℕ) (compares : Bool) (says : Content) (m : NodeState) (verdict : Option Taken) : Type 0 where
+pub record First (s : Setup) (steps fresh : ℕ) (compares : Bool) (says : Result Message MessageError) (m : NodeState) (verdict : Option Taken) : Type 0 where
   pub shows : AllShow s fresh compares says m verdict
-  pub goes : verdict ≡ None → (peer : Peer) × (says ≡ content.Name peer) × (m ≡ alone s (steps + 1) (named_end fresh peer.flags peer.creation peer.name))
+  pub goes : verdict ≡ None → (peer : Peer) × (says ≡ named_by peer) × (m ≡ alone s (steps + 1) (named_end fresh peer.flags peer.creation peer.name))
 
 module _ (s : Setup) (steps fresh : ℕ) (compares : Bool) (body : List ℕ) (m : NodeState) (old new : StreamState) (turns left : ℕ) (verdict : Option Taken) where
   abbrev unnamed : NodeState
@@ -142,40 +139,40 @@ module _ (s : Setup) (steps fresh : ℕ) (compares : Bool) (body : List ℕ) (m 
   reads : (res : Result Message MessageError) → read Dialler body ≡ res → (r : Reply) → step unnamed (event.Frame only_end body) fresh ≡ Ok (r, m) → IsFirst s steps fresh res m
   reads res is r e = subst (λ (x : Result Message MessageError). IsFirst s steps fresh x m) is (first s steps fresh body r m e)
 
-  shut-first : (says : Content) → ((r : Reply) → step unnamed (event.Frame only_end body) fresh ≡ Ok (r, m) → IsShut s steps m) → Hands → First s steps fresh compares says m verdict
+  shut-first : (says : Result Message MessageError) → ((r : Reply) → step unnamed (event.Frame only_end body) fresh ≡ Ok (r, m) → IsShut s steps m) → Hands → First s steps fresh compares says m verdict
   shut-first says shut hands =
       record {
         shows = handed s fresh compares says body unnamed m old new turns left verdict hands (λ r e. shut-up s steps m (shut r e));
         goes = λ none. absurd (goes-not s fresh compares says body unnamed m old new turns left verdict s steps hands shut none);
       }
 
-  named-up : (peer : Peer) → IsFirst s steps fresh (Ok (message.NewName peer.flags peer.creation peer.name)) m → ShowsEnd taken.Up (only m) → Shows s fresh compares (content.Name peer) taken.Up m
+  named-up : (peer : Peer) → IsFirst s steps fresh (named_by peer) m → ShowsEnd taken.Up (only m) → Shows s fresh compares (named_by peer) taken.Up m
   named-up peer (inl is) = never-up m (alone s (steps + 1) (named_end fresh peer.flags peer.creation peer.name)) (named_end fresh peer.flags peer.creation peer.name) is refl (λ kept e. absurd cc)
   named-up peer (inr shut) = shut-up s steps m shut
 
-  named-goes : (peer : Peer) → read Dialler body ≡ Ok (message.NewName peer.flags peer.creation peer.name) → Hands → verdict ≡ None → m ≡ alone s (steps + 1) (named_end fresh peer.flags peer.creation peer.name)
+  named-goes : (peer : Peer) → read Dialler body ≡ named_by peer → Hands → verdict ≡ None → m ≡ alone s (steps + 1) (named_end fresh peer.flags peer.creation peer.name)
   named-goes peer is (inl h) none = let bad : Some (step_verdict h.cause) ≡ None = sym h.verdict_is ∙ none in absurd cc
-  named-goes peer is (inr h) none = by (reads (Ok (message.NewName peer.flags peer.creation peer.name)) is h.reply h.is)
+  named-goes peer is (inr h) none = by (reads (named_by peer) is h.reply h.is)
     where
-      by : IsFirst s steps fresh (Ok (message.NewName peer.flags peer.creation peer.name)) m → m ≡ alone s (steps + 1) (named_end fresh peer.flags peer.creation peer.name)
+      by : IsFirst s steps fresh (named_by peer) m → m ≡ alone s (steps + 1) (named_end fresh peer.flags peer.creation peer.name)
       by (inl at) = at
-      by (inr shut) = let w = h.writes in absurd (shut-decides s fresh compares (content.Name peer) body unnamed m old new turns left verdict s steps shut w.stop (sym w.verdict_is ∙ none))
+      by (inr shut) = let w = h.writes in absurd (shut-decides s fresh compares (named_by peer) body unnamed m old new turns left verdict s steps shut w.stop (sym w.verdict_is ∙ none))
 
-  first-part : (res : Result Message MessageError) → read Dialler body ≡ res → (c : Bool) → c ≡ compares → TakesUnless fresh body unnamed m old new turns left verdict (own_verdict c (Some awaited.Name) (content_as res)) → First s steps fresh compares (content_as res) m verdict
+  first-part : (res : Result Message MessageError) → read Dialler body ≡ res → (c : Bool) → c ≡ compares → TakesUnless fresh body unnamed m old new turns left verdict (own_verdict c (Some awaited.Name) res) → First s steps fresh compares res m verdict
   first-part (Ok (message.NewName f k p)) is c same hands =
       let peer : Peer = record { flags = f; creation = k; name = p } in
       record {
-        shows = handed s fresh compares (content.Name peer) body unnamed m old new turns left verdict hands (λ r e. named-up peer (reads (Ok (message.NewName f k p)) is r e));
+        shows = handed s fresh compares (named_by peer) body unnamed m old new turns left verdict hands (λ r e. named-up peer (reads (Ok (message.NewName f k p)) is r e));
         goes = λ none. (peer, refl, named-goes peer is hands none);
       }
   first-part (Ok (message.OldName f p)) is c same held =
       record {
-        shows = subst (AllShow s fresh compares content.OldName m) (sym held.2) tt;
+        shows = subst (AllShow s fresh compares (Ok (message.OldName f p)) m) (sym held.2) tt;
         goes = λ none. let bad : Some taken.Unexpected ≡ None = sym held.2 ∙ none in absurd cc;
       }
-  first-part (Ok (message.Reply x y)) is true same hands = shut-first content.Reply (reads (Ok (message.Reply x y)) is) hands
-  first-part (Ok (message.Reply x y)) is false same hands = shut-first content.Reply (reads (Ok (message.Reply x y)) is) hands
-  first-part res is c same hands = shut-first content.Other (reads res is) hands
+  first-part (Ok (message.Reply x y)) is true same hands = shut-first (Ok (message.Reply x y)) (reads (Ok (message.Reply x y)) is) hands
+  first-part (Ok (message.Reply x y)) is false same hands = shut-first (Ok (message.Reply x y)) (reads (Ok (message.Reply x y)) is) hands
+  first-part res is c same hands = shut-first res (reads res is) hands
 
 -- ---- the second body
 
@@ -191,43 +188,38 @@ module _ (s : Setup) (steps fresh : ℕ) (compares : Bool) (peer : Peer) (body :
   HandsReply = HandsOn fresh body awaiting m old new turns left verdict
 
   abbrev Second : Type 0
-  Second = AllShow s fresh compares (content.Name peer) m verdict
+  Second = AllShow s fresh compares (named_by peer) m verdict
 
   reads-reply : (res : Result Message MessageError) → read Dialler body ≡ res → (r : Reply) → step awaiting (event.Frame only_end body) fresh ≡ Ok (r, m) → IsSecond s steps (attempt_of fresh peer) res m
   reads-reply res is r e = subst (λ (x : Result Message MessageError). IsSecond s steps (attempt_of fresh peer) x m) is (second s steps fresh fresh peer.flags peer.creation peer.name body r m e)
 
   shut-second : ((r : Reply) → step awaiting (event.Frame only_end body) fresh ≡ Ok (r, m) → IsShut s steps m) → HandsReply → Second
-  shut-second shut hands = handed s fresh compares (content.Name peer) body awaiting m old new turns left verdict hands (λ r e. shut-up s steps m (shut r e))
+  shut-second shut hands = handed s fresh compares (named_by peer) body awaiting m old new turns left verdict hands (λ r e. shut-up s steps m (shut r e))
 
-  replied-up : (challenge : ℕ) (digest : List ℕ) → compares ≡ true → IsSecond s steps (attempt_of fresh peer) (Ok (message.Reply challenge digest)) m → ShowsEnd taken.Up (only m) → Shows s fresh compares (content.Name peer) taken.Up m
+  replied-up : (challenge : ℕ) (digest : List ℕ) → compares ≡ true → IsSecond s steps (attempt_of fresh peer) (Ok (message.Reply challenge digest)) m → ShowsEnd taken.Up (only m) → Shows s fresh compares (named_by peer) taken.Up m
   replied-up challenge digest does (inl up) h = (
     does,
     (peer, record_of s (attempt_of fresh peer) digest, refl, ap only up.0, record { name = refl; flags = refl; creation = refl; challenge = refl; right = up.1 }),
   )
   replied-up challenge digest does (inr shut) h = shut-up s steps m shut h
 
-  second-part : (res : Result Message MessageError) → read Dialler body ≡ res → (c : Bool) → compares ≡ c → TakesUnless fresh body awaiting m old new turns left verdict (own_verdict c (Some awaited.Reply) (content_as res)) → Second
-  second-part (Ok (message.Reply x y)) is true does hands = handed s fresh compares (content.Name peer) body awaiting m old new turns left verdict hands (λ r e. replied-up x y does (reads-reply (Ok (message.Reply x y)) is r e))
-  second-part (Ok (message.Reply x y)) is false does held = subst (AllShow s fresh compares (content.Name peer) m) (sym held.2) (does, ap (λ (k : NodeState). awaited_of (only k)) held.0)
-  second-part (Ok (message.OldName f p)) is c does held = subst (AllShow s fresh compares (content.Name peer) m) (sym held.2) tt
+  second-part : (res : Result Message MessageError) → read Dialler body ≡ res → (c : Bool) → compares ≡ c → TakesUnless fresh body awaiting m old new turns left verdict (own_verdict c (Some awaited.Reply) res) → Second
+  second-part (Ok (message.Reply x y)) is true does hands = handed s fresh compares (named_by peer) body awaiting m old new turns left verdict hands (λ r e. replied-up x y does (reads-reply (Ok (message.Reply x y)) is r e))
+  second-part (Ok (message.Reply x y)) is false does held = subst (AllShow s fresh compares (named_by peer) m) (sym held.2) (does, ap (λ (k : NodeState). awaited_of (only k)) held.0)
+  second-part (Ok (message.OldName f p)) is c does held = subst (AllShow s fresh compares (named_by peer) m) (sym held.2) tt
   second-part res is c does hands = shut-second (reads-reply res is) hands
 
 -- ---- the talk
 
 -- what was heard in the place of a body shows how the end stands
 instead-shows : (e : Option End) (frame : Came) (t : Taken) → IsHeardAs (awaited_of e) frame (Err t) → ShowsEnd t e
-instead-shows e (came.Body body) t is = subst (λ (v : Taken). ShowsEnd v e) (sym is) tt
+instead-shows e (came.Body body) t is = absurd cc
 instead-shows e (came.Front front) t is = let same : t ≡ taken.Foreign (service_of front) = cc in subst (λ (v : Taken). ShowsEnd v e) (sym same) tt
 instead-shows e (came.Stopped stop count) t is = let same : t ≡ fault_verdict (awaited_of e) stop = cc in subst (λ (v : Taken). ShowsEnd v e) (sym same) (fault-shows (awaited_of e) e refl stop)
 instead-shows e came.NoMemory t is = let same : t ≡ taken.NoMemory = cc in subst (λ (v : Taken). ShowsEnd v e) (sym same) tt
 
--- what was heard as a body says what it reads as
-body-says : (waits : Option Awaited) (frame : Came) (inbound : Inbound) → IsHeardAs waits frame (Ok inbound) → inbound.content ≡ content_as (read Dialler inbound.body)
-body-says waits (came.Body body) inbound is = is.1 ∙ ap (λ (x : List ℕ). content_as (read Dialler x)) (sym is.0)
-body-says waits frame inbound is = absurd cc
-
 -- the last verdict shows what it has to, where each does
-last-shows : (s : Setup) (fresh : ℕ) (compares : Bool) (says : Content) (m : NodeState) (o : Option Taken) → AllShow s fresh compares says m o → Shows s fresh compares says (last_verdict o) m
+last-shows : (s : Setup) (fresh : ℕ) (compares : Bool) (says : Result Message MessageError) (m : NodeState) (o : Option Taken) → AllShow s fresh compares says m o → Shows s fresh compares says (last_verdict o) m
 last-shows s fresh compares says m None h = tt
 last-shows s fresh compares says m (Some t) h = h
 
@@ -235,36 +227,32 @@ module _ (s : Setup) (fresh : ℕ) (compares : Bool) (peer : Peer) (steps : ℕ)
   abbrev named : NodeState
   named = alone s steps (named_end fresh peer.flags peer.creation peer.name)
 
-  decided : (heard : Result Inbound Taken) (frame : Came) (mid : StreamState) (between : ℕ) → IsHeardAs (awaited_of (only named)) frame heard → DecidesBy heard fresh compares named m mid new between left t → Shows s fresh compares (content.Name peer) t m
-  decided (Ok inbound) frame mid between is d =
-      let says = body-says (awaited_of (only named)) frame inbound is in
-      let takes = subst (λ (x : Content). TakesUnless fresh inbound.body named m mid new between left d.verdict (own_verdict compares (Some awaited.Reply) x)) says d.takes in
-      let all = second-part s steps fresh compares peer inbound.body m mid new between left d.verdict (read Dialler inbound.body) refl compares refl takes in
-      subst (λ (v : Taken). Shows s fresh compares (content.Name peer) v m) (sym d.is) (last-shows s fresh compares (content.Name peer) m d.verdict all)
+  decided : (heard : Result (List ℕ) Taken) (frame : Came) (mid : StreamState) (between : ℕ) → IsHeardAs (awaited_of (only named)) frame heard → DecidesBy heard fresh compares named m mid new between left t → Shows s fresh compares (named_by peer) t m
+  decided (Ok body) frame mid between is d =
+      let all = second-part s steps fresh compares peer body m mid new between left d.verdict (read Dialler body) refl compares refl d.takes in
+      subst (λ (v : Taken). Shows s fresh compares (named_by peer) v m) (sym d.is) (last-shows s fresh compares (named_by peer) m d.verdict all)
   decided (Err v) frame mid between is d =
       let shown : ShowsEnd v (only m) = subst (λ (k : NodeState). ShowsEnd v (only k)) (sym d.0) (instead-shows (only named) frame v is) in
-      subst (λ (v : Taken). Shows s fresh compares (content.Name peer) v m) (sym d.2)
-      (put s fresh compares (content.Name peer) m (never-up m named (named_end fresh peer.flags peer.creation peer.name) d.0 refl (λ kept e. absurd cc)) v shown)
+      subst (λ (v : Taken). Shows s fresh compares (named_by peer) v m) (sym d.2)
+      (put s fresh compares (named_by peer) m (never-up m named (named_end fresh peer.flags peer.creation peer.name) d.0 refl (λ kept e. absurd cc)) v shown)
 
-  talked-on : (old : StreamState) (turns : ℕ) → TalksOn fresh compares named m old new turns left t → Shows s fresh compares (content.Name peer) t m
+  talked-on : (old : StreamState) (turns : ℕ) → TalksOn fresh compares named m old new turns left t → Shows s fresh compares (named_by peer) t m
   talked-on old turns h = let hears = h.hears in decided h.heard hears.frame h.mid h.between hears.means h.decides
 
 module _ (s : Setup) (steps fresh : ℕ) (compares : Bool) (body : List ℕ) (m : NodeState) (new : StreamState) (left : ℕ) (t : Taken) where
-  behind : (verdict : Option Taken) (after : NodeState) (mid : StreamState) (between : ℕ) → First s steps fresh compares (content_as (read Dialler body)) after verdict → GoesOn verdict fresh compares after m mid new between left t → Shows s fresh compares (content_as (read Dialler body)) t m
+  behind : (verdict : Option Taken) (after : NodeState) (mid : StreamState) (between : ℕ) → First s steps fresh compares (read Dialler body) after verdict → GoesOn verdict fresh compares after m mid new between left t → Shows s fresh compares (read Dialler body) t m
   behind (Some v) after mid between f g =
-      subst (λ (k : NodeState). Shows s fresh compares (content_as (read Dialler body)) t k) (sym g.0)
-      (subst (λ (v : Taken). Shows s fresh compares (content_as (read Dialler body)) v after) (sym g.2) f.shows)
+      subst (λ (k : NodeState). Shows s fresh compares (read Dialler body) t k) (sym g.0)
+      (subst (λ (v : Taken). Shows s fresh compares (read Dialler body) v after) (sym g.2) f.shows)
   behind None after mid between f g =
       let it = f.goes refl in
       let on = subst (λ (k : NodeState). TalksOn fresh compares k m mid new between left t) it.2 g in
-      subst (λ (x : Content). Shows s fresh compares x t m) (sym it.1) (talked-on s fresh compares it.0 (steps + 1) m new left t mid between on)
+      subst (λ (x : Result Message MessageError). Shows s fresh compares x t m) (sym it.1) (talked-on s fresh compares it.0 (steps + 1) m new left t mid between on)
 
-  talked : (old : StreamState) (turns : ℕ) → Talks fresh compares body (content_as (read Dialler body)) (alone s steps ends.Unnamed) m old new turns left t → Shows s fresh compares (content_as (read Dialler body)) t m
+  talked : (old : StreamState) (turns : ℕ) → Talks fresh compares body (alone s steps ends.Unnamed) m old new turns left t → Shows s fresh compares (read Dialler body) t m
   talked old turns h = behind h.verdict h.after h.mid h.between (first-part s steps fresh compares body h.after old h.mid turns h.between h.verdict (read Dialler body) refl compares refl h.takes) h.behind
 
 -- WHAT A VERDICT SHOWS, from how the talk went
-pub shows : {s : Setup} {fresh : ℕ} {compares : Bool} {body : List ℕ} {says : Content} {n m : NodeState} {old new : StreamState} {turns left : ℕ} {t : Taken} → AwaitsName s n → says ≡ content_as (read Dialler body) → Talks fresh compares body says n m old new turns left t → Shows s fresh compares says t m
-shows {s} {fresh} {compares} {body} {says} {n} {m} {old} {new} {turns} {left} {t} opened is h =
-    let at = subst (λ (x : Content). Talks fresh compares body x n m old new turns left t) is h in
-    let of = subst (λ (k : NodeState). Talks fresh compares body (content_as (read Dialler body)) k m old new turns left t) opened.1 at in
-    subst (λ (x : Content). Shows s fresh compares x t m) (sym is) (talked s opened.0 fresh compares body m new left t old turns of)
+pub shows : {s : Setup} {fresh : ℕ} {compares : Bool} {body : List ℕ} {n m : NodeState} {old new : StreamState} {turns left : ℕ} {t : Taken} → AwaitsName s n → Talks fresh compares body n m old new turns left t → Shows s fresh compares (read Dialler body) t m
+shows {s} {fresh} {compares} {body} {n} {m} {old} {new} {turns} {left} {t} opened h =
+    talked s opened.0 fresh compares body m new left t old turns (subst (λ (k : NodeState). Talks fresh compares body k m old new turns left t) opened.1 h)

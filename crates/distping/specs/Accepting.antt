@@ -31,9 +31,6 @@ use Rattle.dist_probe.specs.declared.asking.Peer.{Peer}
 use Rattle.dist_stream.specs.Stream.{StreamState}
 use Rattle.dist_stream.specs.Turns.{SaysFront}
 use Rattle.dist_stream.specs.declared.turn_error.TurnError.{TurnError}
-use Rattle.distping.specs.declared.links.accepting.Content.{Content}
-use Rattle.distping.specs.declared.links.accepting.Content.TheVariants as content
-use Rattle.distping.specs.declared.links.accepting.Inbound.{Inbound}
 use Rattle.distping_report.specs.declared.taken.Taken.{Taken}
 use Rattle.distping_report.specs.declared.taken.Taken.TheVariants as taken
 use Rattle.distping.specs.Listening.{fault_verdict, own_verdict, step_verdict, written_verdict}
@@ -56,33 +53,27 @@ alone s steps e = record { setup = s; steps = steps; ends = e ∷ [] }
 abbrev pub AwaitsName : Setup → NodeState → Type 0
 AwaitsName s n = (steps : ℕ) × (n ≡ alone s steps ends.Unnamed)
 
--- ---- what a body says
+-- ---- what is received
 
-abbrev pub content_in : Message → Content
-content_in (message.NewName flags creation name) = content.Name (record { flags = flags; creation = creation; name = name })
-content_in (message.OldName flags name) = content.OldName
-content_in (message.Reply challenge digest) = content.Reply
-content_in other = content.Other
-
-abbrev pub content_as : Result Message MessageError → Content
-content_as (Ok m) = content_in m
-content_as (Err e) = content.Other
+-- what a node says about itself in a body that reads so: in the newer form of a name alone
+abbrev pub peer_in : Result Message MessageError → Option Peer
+peer_in (Ok (message.NewName flags creation name)) = Some (record { flags = flags; creation = creation; name = name })
+peer_in other = None
 
 -- the first bytes of a dialling side's messages: n of an older name, N of a newer one, s of a status, c of a complement, r of a reply
 -- (ERTS User's Guide, Distribution Handshake)
 abbrev pub tags : List ℕ
 tags = 0x6e ∷ 0x4e ∷ 0x73 ∷ 0x63 ∷ 0x72 ∷ []
 
--- what is received while the node awaits this: a body and what it says, or the verdict on what came instead
-abbrev pub IsHeardAs : Option Awaited → Came → Result Inbound Taken → Type 0
-IsHeardAs waits (came.Body body) (Ok inbound) = (inbound.body ≡ body) × (inbound.content ≡ content_as (read Dialler body))
-IsHeardAs waits (came.Body body) (Err t) = t ≡ taken.NoMemory
+-- what is received while the node awaits this: a body, or the verdict on what came instead
+abbrev pub IsHeardAs : Option Awaited → Came → Result (List ℕ) Taken → Type 0
+IsHeardAs waits (came.Body body) heard = heard ≡ Ok body
 IsHeardAs waits (came.Front front) heard = heard ≡ Err (taken.Foreign (service_of front))
 IsHeardAs waits (came.Stopped stop count) heard = heard ≡ Err (fault_verdict waits stop)
 IsHeardAs waits came.NoMemory heard = heard ≡ Err taken.NoMemory
 
 -- One body was received while the node awaits this, or the verdict says why none was, within the turns that were left; nothing was written.
-pub record HearsBody (waits : Option Awaited) (old new : StreamState) (turns left : ℕ) (heard : Result Inbound Taken) : Type 0 where
+pub record HearsBody (waits : Option Awaited) (old new : StreamState) (turns left : ℕ) (heard : Result (List ℕ) Taken) : Type 0 where
   pub frame : Came
   pub hears : HearsFrameOf old new turns left tags frame
   pub means : IsHeardAs waits frame heard
@@ -119,10 +110,10 @@ module _ (fresh : ℕ) (body : List ℕ) (n m : NodeState) (old new : StreamStat
   TakesUnless (Some t) = (m ≡ n) × Rests old new turns left × (verdict ≡ Some t)
   TakesUnless None = HandsOn
 
--- WHAT A BODY DOES that says this
-abbrev pub Takes : ℕ → Bool → List ℕ → Content → NodeState → NodeState → StreamState → StreamState → ℕ → ℕ → Option Taken → Type 0
-Takes fresh compares body says n m old new turns left verdict =
-    TakesUnless fresh body n m old new turns left verdict (own_verdict compares (awaited_of (only n)) says)
+-- WHAT A BODY DOES
+abbrev pub Takes : ℕ → Bool → List ℕ → NodeState → NodeState → StreamState → StreamState → ℕ → ℕ → Option Taken → Type 0
+Takes fresh compares body n m old new turns left verdict =
+    TakesUnless fresh body n m old new turns left verdict (own_verdict compares (awaited_of (only n)) (read Dialler body))
 
 -- ---- the talk
 
@@ -132,19 +123,19 @@ last_verdict (Some t) = t
 last_verdict None = taken.Unexpected
 
 -- The body that came after the challenge decides.
-pub record Decides (fresh : ℕ) (compares : Bool) (inbound : Inbound) (n m : NodeState) (old new : StreamState) (turns left : ℕ) (t : Taken) : Type 0 where
+pub record Decides (fresh : ℕ) (compares : Bool) (body : List ℕ) (n m : NodeState) (old new : StreamState) (turns left : ℕ) (t : Taken) : Type 0 where
   pub verdict : Option Taken
-  pub takes : Takes fresh compares inbound.body inbound.content n m old new turns left verdict
+  pub takes : Takes fresh compares body n m old new turns left verdict
   pub is : t ≡ last_verdict verdict
 
 -- what was received after the challenge decides
-abbrev pub DecidesBy : Result Inbound Taken → ℕ → Bool → NodeState → NodeState → StreamState → StreamState → ℕ → ℕ → Taken → Type 0
-DecidesBy (Ok inbound) fresh compares n m old new turns left t = Decides fresh compares inbound n m old new turns left t
+abbrev pub DecidesBy : Result (List ℕ) Taken → ℕ → Bool → NodeState → NodeState → StreamState → StreamState → ℕ → ℕ → Taken → Type 0
+DecidesBy (Ok body) fresh compares n m old new turns left t = Decides fresh compares body n m old new turns left t
 DecidesBy (Err v) fresh compares n m old new turns left t = (m ≡ n) × Rests old new turns left × (t ≡ v)
 
 -- One more body was received, and decides.
 pub record TalksOn (fresh : ℕ) (compares : Bool) (n m : NodeState) (old new : StreamState) (turns left : ℕ) (t : Taken) : Type 0 where
-  pub heard : Result Inbound Taken
+  pub heard : Result (List ℕ) Taken
   pub mid : StreamState
   pub between : ℕ
   pub hears : HearsBody (awaited_of (only n)) old mid turns between heard
@@ -155,15 +146,15 @@ abbrev pub GoesOn : Option Taken → ℕ → Bool → NodeState → NodeState �
 GoesOn (Some v) fresh compares n m old new turns left t = (m ≡ n) × Rests old new turns left × (t ≡ v)
 GoesOn None fresh compares n m old new turns left t = TalksOn fresh compares n m old new turns left t
 
--- THE TALK from the first body on, which says this: the node gets each body, in order, except those that the listener judges itself;
--- what it sends is written before the next body is read; and the verdict is on its end.
-pub record Talks (fresh : ℕ) (compares : Bool) (body : List ℕ) (says : Content) (n m : NodeState)
+-- THE TALK from the first body on: the node gets each body, in order, except those that the listener judges itself; what it sends is
+-- written before the next body is read; and the verdict is on its end.
+pub record Talks (fresh : ℕ) (compares : Bool) (body : List ℕ) (n m : NodeState)
     (old new : StreamState) (turns left : ℕ) (t : Taken) : Type 0 where
   pub verdict : Option Taken
   pub after : NodeState
   pub mid : StreamState
   pub between : ℕ
-  pub takes : Takes fresh compares body says n after old mid turns between verdict
+  pub takes : Takes fresh compares body n after old mid turns between verdict
   pub behind : GoesOn verdict fresh compares after m mid new between left t
 
 -- ---- what a verdict shows
@@ -181,12 +172,16 @@ pub record IsRecordOf (s : Setup) (fresh : ℕ) (peer : Peer) (kept : UpRecord) 
   -- the digest received is that of this node's cookie for the peer, and of that challenge
   pub right : same_bytes kept.digest_received (own_digest s kept.peer fresh) ≡ true
 
--- The node has a record of its end, with what the first body says.
-abbrev pub IsUp : Setup → ℕ → Content → NodeState → Type 0
-IsUp s fresh says n = (peer : Peer) × (kept : UpRecord) × (says ≡ content.Name peer) × (only n ≡ Some (ends.Up kept)) × IsRecordOf s fresh peer kept
+-- the newer form of a name, in which a node says this about itself
+abbrev pub named_by : Peer → Result Message MessageError
+named_by peer = Ok (message.NewName peer.flags peer.creation peer.name)
 
--- WHAT A VERDICT SHOWS OF THE NODE after the talk
-abbrev pub Shows : Setup → ℕ → Bool → Content → Taken → NodeState → Type 0
+-- The node has a record of its end, with what the first body says, which reads so.
+abbrev pub IsUp : Setup → ℕ → Result Message MessageError → NodeState → Type 0
+IsUp s fresh says n = (peer : Peer) × (kept : UpRecord) × (says ≡ named_by peer) × (only n ≡ Some (ends.Up kept)) × IsRecordOf s fresh peer kept
+
+-- WHAT A VERDICT SHOWS OF THE NODE after the talk, whose first body reads so
+abbrev pub Shows : Setup → ℕ → Bool → Result Message MessageError → Taken → NodeState → Type 0
 -- Up: a cookie was compared, and the node has a record of the end
 Shows s fresh compares says taken.Up n = (compares ≡ true) × IsUp s fresh says n
 -- Answered: no cookie was compared, and the end still awaits the reply

@@ -1,7 +1,10 @@
 -- The verdicts on a connection that was taken, as tables.
-use Rattle.std.specs.Prelude.{ℕ, Bool, false, ◌==◌, codes, Option, Some, None, if◌then◌else◌}
+use Rattle.std.specs.Prelude.{Bool, false, ◌==◌, codes, Option, Some, None, Result, Ok, Err, if◌then◌else◌}
 use Rattle.std.specs.List.{starts_with}
 use Rattle.dist_names.specs.Flags.{has_all, name_me}
+use Rattle.dist_messages.specs.declared.message.Message.{Message}
+use Rattle.dist_messages.specs.declared.message.Message.TheVariants as message
+use Rattle.dist_messages.specs.declared.message_error.MessageError.{MessageError}
 use Rattle.dist_core_ends.specs.declared.phase.Awaited.{Awaited}
 use Rattle.dist_core_ends.specs.declared.phase.Awaited.TheVariants as awaited
 use Rattle.dist_core_ends.specs.declared.phase.Still.{Still}
@@ -10,10 +13,9 @@ use Rattle.dist_core_ends.specs.declared.why.Why.{Why}
 use Rattle.dist_core_ends.specs.declared.why.Why.TheVariants as why
 use Rattle.dist_core.specs.declared.step_error.StepError.{StepError}
 use Rattle.dist_core.specs.declared.step_error.StepError.TheVariants as error
+use Rattle.dist_probe.specs.declared.asking.Peer.{Peer}
 use Rattle.dist_stream.specs.declared.turn_error.TurnError.{TurnError}
 use Rattle.dist_stream.specs.declared.turn_error.TurnError.TheVariants as fault
-use Rattle.distping.specs.declared.links.accepting.Content.{Content}
-use Rattle.distping.specs.declared.links.accepting.Content.TheVariants as content
 use Rattle.distping_report.specs.declared.taken.Taken.{Taken}
 use Rattle.distping_report.specs.declared.taken.Taken.TheVariants as taken
 
@@ -65,28 +67,28 @@ abbrev pub reply_verdict : Bool → Option Awaited → Option Taken
 reply_verdict false (Some awaited.Reply) = Some taken.Answered
 reply_verdict compares waits = None
 
--- the bodies that the listener judges itself while the node awaits this: an older name, and a reply if no cookie is compared
-abbrev pub own_verdict : Bool → Option Awaited → Content → Option Taken
-own_verdict compares waits content.OldName = Some taken.Unexpected
-own_verdict compares waits content.Reply = reply_verdict compares waits
-own_verdict compares waits (content.Name peer) = None
-own_verdict compares waits content.Other = None
+-- the messages that the listener judges itself while the node awaits this: an older name, and a reply if no cookie is compared
+abbrev pub message_verdict : Bool → Option Awaited → Message → Option Taken
+message_verdict compares waits (message.OldName flags name) = Some taken.Unexpected
+message_verdict compares waits (message.Reply challenge digest) = reply_verdict compares waits
+message_verdict compares waits other = None
+
+-- the same of a body that reads so
+abbrev pub own_verdict : Bool → Option Awaited → Result Message MessageError → Option Taken
+own_verdict compares waits (Ok m) = message_verdict compares waits m
+own_verdict compares waits (Err e) = None
 
 -- the node asks for a name, instead of sending its own
-abbrev pub wants_name : Content → Bool
-wants_name (content.Name peer) = has_all (let f = peer.flags in f.0) name_me
-wants_name content.OldName = false
-wants_name content.Reply = false
-wants_name content.Other = false
+abbrev pub wants_name : Option Peer → Bool
+wants_name (Some peer) = has_all (let f = peer.flags in f.0) name_me
+wants_name None = false
 
 -- the name is the one that a probe gives itself if it is given no other
-abbrev pub is_probe : Content → Bool
-is_probe (content.Name peer) = starts_with ◌==◌ peer.name (codes "distping@")
-is_probe content.OldName = false
-is_probe content.Reply = false
-is_probe content.Other = false
+abbrev pub is_probe : Option Peer → Bool
+is_probe (Some peer) = starts_with ◌==◌ peer.name (codes "distping@")
+is_probe None = false
 
 -- a node with the name of a probe that left after the challenge may be a probe that tries no cookie
-abbrev pub behind_left : Taken → Content → Taken
-behind_left taken.Left says = if is_probe says then taken.Stopped else taken.Left
-behind_left other says = other
+abbrev pub behind_left : Taken → Option Peer → Taken
+behind_left taken.Left peer = if is_probe peer then taken.Stopped else taken.Left
+behind_left other peer = other

@@ -7,39 +7,22 @@ use dist_cluster::{Half, Pairing, Summary, first_of, pairing_of};
 use distping_report::LineSink;
 use distping_words::Fault;
 
-// Which pairs are printed, and where.
-#[derive(Clone, Copy)]
-struct Pairs<'p> {
-    lines: LineSink<'p>,
-    // Whether good pairs are printed too.
-    all: bool,
+// Whether a pair is printed: each one, or each bad one.
+fn shows(all: bool, pairing: Pairing) -> bool
+    ensures { result ≡ (all || is_bad pairing) }
+{
+    all || pairing.is_bad()
 }
 
-impl Pairs<'_> {
-    // Whether a pair is printed.
-    fn shows(self, pairing: Pairing) -> bool
-        ensures { result ≡ (self.entry.all || is_bad pairing) }
-    {
-        self.all || pairing.is_bad()
-    }
-
-    // Prints what can be said of two nodes, if that is to be printed.
-    fn put(self, first: &Half<'_>, second: &Half<'_>, pairing: Pairing) -> Result<(), Fault> {
-        if self.shows(pairing) {
-            self.lines.put_pair(first.node, second.node, pairing)
-        } else {
-            Ok(())
-        }
-    }
-}
-
-// Prints what can be said of each pair of nodes, and returns the first status that is not 0.
-fn pair_all(pairs: Pairs<'_>, halves: &[Half<'_>]) -> Result<u8, Fault> {
+// Prints what can be said of the pairs that are shown, and returns the first status of any pair that is not 0.
+fn put_pairs(lines: LineSink<'_>, all: bool, halves: &[Half<'_>]) -> Result<u8, Fault> {
     let mut status = 0;
     for at in 0..halves.len() {
         for second in &halves[at + 1..] {
             let pairing = pairing_of(&halves[at], second);
-            pairs.put(&halves[at], second, pairing)?;
+            if shows(all, pairing) {
+                lines.put_pair(halves[at].node, second.node, pairing)?;
+            }
             status = first_of(status, pairing.status());
         }
     }
@@ -62,8 +45,7 @@ pub fn compare(
     ensures first { IfOk result (λ it. status ≢ 0 → it ≡ status) }
 {
     let are_many = halves.len() > 2;
-    let all = all_pairs || !are_many;
-    let status = first_of(status, pair_all(Pairs { lines, all }, halves)?);
+    let status = first_of(status, put_pairs(lines, all_pairs || !are_many, halves)?);
     if are_many {
         put_summary(lines, halves, status)?;
     }

@@ -19,7 +19,7 @@ use common::Context;
 use comparing::compare;
 use dist_cluster::first_of;
 use dist_names::NodeName;
-use dist_program::{HostError, Resolving, lookup_host, mapper_port, words_of};
+use dist_program::{HostError, Resolving, lookup_host, mapper_port, read_words, report};
 use dist_secret::Cookie;
 use distping_capture::read_capture;
 use distping_report::{Caller, LineSink, Listed, Listen};
@@ -77,15 +77,15 @@ const VERSION: &str = "distping 0.2.0, distribution handshake of version 6\n\
 Hosts are found by the C library; in a static program by /etc/hosts and the name servers of /etc/resolv.conf alone.\n";
 
 fn main(rt: HostRuntime) -> ExitCode {
-    match perform(&rt, &rt) {
-        Ok(status) => ExitCode::from(status),
-        Err(refusal) => ExitCode::from(refusal.report_to(&mut rt.stderr())),
-    }
+    ExitCode::from(match perform(&rt, &rt) {
+        Ok(status) => status,
+        Err(refusal) => report(&mut rt.stderr(), "distping", &refusal, refusal.status()),
+    })
 }
 
 // Does what the command line asks for. `resolver` is the same runtime, for calls that may wait for a thread.
 fn perform<R: Resolving + Sync>(rt: &HostRuntime, resolver: &R) -> Result<u8, Refusal> {
-    let words = words_of(rt)?;
+    let words = read_words(rt, "distping")?;
     let mapper_port = mapper_port(rt)?;
     match wanted_of(rt.alloc(), &words, mapper_port) {
         Ok(mut wanted) => follow(rt, resolver, &mut wanted),
@@ -139,7 +139,7 @@ fn carry_out<'x, R: Resolving + Sync>(
 fn cookie_read(rt: &HostRuntime, choices: &Choices<'_>) -> Result<Option<Cookie>, Refusal> {
     match choices.cookie {
         CookieSource::Home if choices.capture.is_some() => Ok(None),
-        _ => cookie_of(rt, choices),
+        _ => Ok(cookie_of(rt, choices)?),
     }
 }
 
@@ -170,7 +170,7 @@ fn place_of<R: Resolving>(context: &Context<'_, R>) -> Result<Option<SocketAddr>
 
 // Takes one connection at this port as the node with this name, prints the result, and returns its status.
 fn listen<R: Resolving>(context: &Context<'_, R>, port: u16, name: &NodeName) -> Result<u8, Fault> {
-    let choices = &context.wanted.choices;
+    let choices = context.wanted.choices;
     let place = place_of(context)?;
     let fresh = draw_challenge(context.rt)?;
     let setup = setup_of(context.rt, name, choices.flags, context.cookie)?;
@@ -178,11 +178,9 @@ fn listen<R: Resolving>(context: &Context<'_, R>, port: u16, name: &NodeName) ->
         setup: &setup,
         port,
         place,
-        patience: choices.patience,
         fresh,
         compares: context.cookie.is_some(),
-        seconds: choices.seconds,
-        turns: choices.turns(),
+        choices,
     };
     print_connection(context.rt, context.screen(), &one)
 }

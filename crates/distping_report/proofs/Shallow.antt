@@ -5,11 +5,11 @@ use Rattle.std.specs.declared.net.socket_addr.SocketAddr.{SocketAddr}
 use Rattle.json.specs.Json.{max_depth}
 use Rattle.dist_cluster.specs.declared.summary.Summary.{Summary}
 use Rattle.dist_cluster.specs.declared.summary.WordCount.{WordCount}
+use Rattle.dist_epmd.specs.declared.message.NodeInfo.{NodeInfo}
 use Rattle.dist_probe.specs.declared.asking.Peer.{Peer}
 use Rattle.dist_probe.specs.declared.verdict.ProbeVerdict.{ProbeVerdict}
 use Rattle.distping_report.specs.declared.asked.Listen.{Listen}
 use Rattle.distping_report.specs.declared.found.ProbeOutcome.{ProbeOutcome}
-use Rattle.distping_report.specs.declared.found.Registration.{Registration}
 use Rattle.distping_report.specs.declared.taken.Caller.{Caller}
 use Rattle.distping_report.specs.declared.taken.Taken.{Taken}
 use Rattle.distping_report.specs.Objects.{Shape, Layout, member, object, objects, layout_levels, layout_of, levels, number_or_null, object_levels, shape_of, text_or_null}
@@ -34,7 +34,7 @@ number : (n : Option ℕ) → levels (number_or_null n) < max_depth
 number None = omega arith
 number (Some n) = omega arith
 
-registration : (r : Option Registration) → levels (registration_shape r) < max_depth
+registration : (r : Option NodeInfo) → levels (registration_shape r) < max_depth
 registration None = omega arith
 registration (Some r) = omega arith
 

@@ -4,6 +4,7 @@ use Rattle.std.specs.Fmt.{digits}
 use Rattle.std.specs.Net.Socket.{socket_ip}
 use Rattle.std.specs.Net.Text.{ip_text}
 use Rattle.std.specs.declared.net.socket_addr.SocketAddr.{SocketAddr}
+use Rattle.dist_epmd.specs.declared.message.NodeInfo.{NodeInfo}
 use Rattle.dist_flags.specs.Names.{flag_of}
 use Rattle.dist_flags.specs.Releases.{missing, release_of, required_by}
 use Rattle.dist_flags.specs.declared.dflag.Dflag.TheVariants as flag
@@ -31,7 +32,6 @@ use Rattle.distping_report.specs.TakenWords.{taken_cause, taken_status, taken_wo
 use Rattle.distping_report.specs.Watched.{word_in_verdict}
 use Rattle.distping_report.specs.declared.asked.Listen.{Listen}
 use Rattle.distping_report.specs.declared.found.ProbeOutcome.{ProbeOutcome}
-use Rattle.distping_report.specs.declared.found.Registration.{Registration}
 use Rattle.distping_report.specs.declared.left_out.LeftOut.{LeftOut}
 use Rattle.distping_report.specs.declared.taken.Caller.{Caller}
 use Rattle.distping_report.specs.declared.taken.Taken.{Taken}
@@ -53,7 +53,7 @@ release_word release.Otp28 = codes "28"
 release_word release.Otp29 = codes "29"
 
 -- what the port mapper knows of a node, or null
-abbrev pub registration_shape : Option Registration → Shape
+abbrev pub registration_shape : Option NodeInfo → Shape
 registration_shape None = nothing
 registration_shape (Some r) =
     object (member (codes "port") (number r.port)

@@ -36,14 +36,10 @@ pub struct Listen<'a> {
     pub port: u16,
     /// The address that it listens at; `None` for all of this host.
     pub place: Option<SocketAddr>,
-    /// The most seconds to wait for a connection, if there is a limit.
-    pub patience: Option<u16>,
     /// Its own challenge.
     pub fresh: u32,
     /// Whether its cookie is compared.
     pub compares: bool,
-    /// The most seconds that the talk may take, at least one.
-    pub seconds: u16,
-    /// The most reads and writes that it may take.
-    pub turns: usize,
+    /// The other options: how long the wait and the talk may take.
+    pub choices: Choices<'a>,
 }

@@ -2,20 +2,10 @@
 
 ghost use Rattle.std.specs.Prelude.{◌≡◌, None};
 
+use dist_epmd::PortInfo;
 use dist_messages::Status;
 use dist_probe::{Peer, ProbeVerdict};
 use std::net::SocketAddr;
-
-/// What the port mapper knows of a node.
-#[derive(Clone, Copy)]
-pub struct Registration {
-    /// Its port.
-    pub port: u16,
-    /// The highest version that it speaks.
-    pub highest: u16,
-    /// The lowest version that it speaks.
-    pub lowest: u16,
-}
 
 /// What was found out about a node at one address of its host.
 #[derive(Drop)]
@@ -23,7 +13,7 @@ pub struct Found {
     /// The address.
     pub address: Option<SocketAddr>,
     /// What the port mapper knows of it.
-    pub registration: Option<Registration>,
+    pub registration: Option<PortInfo>,
     /// The port that was dialled.
     pub port: Option<u16>,
     /// The status that it sent.

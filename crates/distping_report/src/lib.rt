@@ -19,7 +19,7 @@ mod taken;
 mod watched;
 
 pub use asked::{Dial, Listen};
-pub use found::{Found, ProbeOutcome, Registration};
+pub use found::{Found, ProbeOutcome};
 pub use left_out::LeftOut;
 pub use lines::LineSink;
 pub use listed::Listed;

@@ -4,15 +4,13 @@ use Rattle.dist_names.specs.NodeName.{IsNodeName}
 use Rattle.distping_words.specs.declared.command.Wanted.{Wanted}
 use Rattle.distping_words.specs.declared.fault.Fault.{Fault}
 use Rattle.distping_words.specs.declared.fault.Fault.TheVariants as fault
-use Rattle.dist_program.specs.PortTexts.{port_error_status}
-use Rattle.dist_program.specs.declared.text_error.TextError.{TextError}
-use Rattle.dist_program.specs.declared.text_error.TextError.TheVariants as text
+use Rattle.dist_program.specs.declared.word_fault.WordFault.{WordFault}
+use Rattle.dist_program.specs.declared.word_fault.WordFault.TheVariants as word
 use Rattle.distping_words.specs.declared.refusal.Refusal.{Refusal}
 use Rattle.distping_words.specs.declared.refusal.Refusal.TheVariants as refusal
 
 -- 2 if the command line is at fault, else 1
 abbrev pub fault_status : Fault → ℕ
-fault_status fault.BadCommandLine = 2
 fault_status fault.BadName = 2
 fault_status fault.NoNode = 2
 fault_status fault.TwoCookies = 2
@@ -25,15 +23,14 @@ fault_status other = 1
 
 -- the same for all that ends the program early
 abbrev pub refusal_status : Refusal → ℕ
-refusal_status (refusal.BadMapperPort error) = port_error_status error
-refusal_status (refusal.NotPrivate file) = 1
+refusal_status (refusal.NoCookie fault) = 1
 refusal_status (refusal.BadWord sentence) = 2
 refusal_status (refusal.Fault fault) = fault_status fault
 
--- why a text is none, as a fault of the program
-abbrev pub fault_of_text : TextError → Fault
-fault_of_text text.NoText = fault.BadCommandLine
-fault_of_text text.NoMemory = fault.NoMemory
+-- why a word is refused, as what ends the program
+abbrev pub refusal_of : WordFault → Refusal
+refusal_of (word.Bad sentence) = refusal.BadWord sentence
+refusal_of word.NoMemory = refusal.Fault fault.NoMemory
 
 -- WHAT BYTES GIVE: their name, exactly where they are one, unless memory runs out
 abbrev pub GivesName : List ℕ → Result (List ℕ) Fault → Type 0

@@ -14,9 +14,12 @@ use clap::error::ErrorKind;
 use clap::{Arg, ArgAction, ArgMatches, Command, Error};
 use dist_cluster::Target;
 use dist_flags::{Dflag, Release};
-use dist_names::{Flags, NameError, NodeName, number_16, number_in};
-use dist_program::{CONNECT_SECONDS, name_sentence, number_sentence, parser_sentence, with_word};
-use std::alloc::{AllocError, Global};
+use dist_names::{Flags, NameError, NodeName, number_in};
+use dist_program::{
+    CONNECT_SECONDS, WordFault, command_line, name_in, name_sentence, option_number,
+    parser_sentence, with_options, with_word,
+};
+use std::alloc::Global;
 use std::time::Duration;
 
 // How many turns a lookup or a talk may take beside one for each second. A port mapper writes each line of its names by itself, so it
@@ -156,38 +159,14 @@ const VALUES: [&str; 6] = ["name", "cookie", "flags", "address", "nodes", "captu
 // The options that take a number.
 const VALUES_IN_DIGITS: [&str; 6] = ["epmd-port", "port", "listen", "seconds", "watch", "count"];
 
-// The number from 1 to 65,535 of this option, if it is given.
-fn number_of(alloc: Global, matches: &ArgMatches<'_>, id: &str) -> Result<Option<u16>, Refusal> {
-    let Some(word) = matches.get_str(id) else {
-        return Ok(None);
-    };
-    match number_16(word.as_bytes()) {
-        Some(0) | None => Err(refuse(number_sentence(alloc, PROGRAM, id, word))),
-        number => Ok(number),
-    }
-}
-
-// The numbers of all these options, each if it is given.
-fn numbers_in(alloc: Global, matches: &ArgMatches<'_>) -> Result<[Option<u16>; 6], Refusal> {
+// The numbers from 1 to 65,535 of these options, each if it is given.
+fn numbers_in(alloc: Global, matches: &ArgMatches<'_>) -> Result<[Option<u16>; 6], WordFault> {
     let mut numbers = [None; 6];
     for at in 0..6 {
-        numbers[at] = number_of(alloc, matches, VALUES_IN_DIGITS[at])?;
+        let id = VALUES_IN_DIGITS[at];
+        numbers[at] = option_number(alloc, PROGRAM, id, matches.get_str(id))?;
     }
     Ok(numbers)
-}
-
-// The command line with more options, all made in this way.
-fn with_options<'a>(
-    alloc: Global,
-    bare: Command<'a>,
-    words: &[&'a str],
-    action: ArgAction,
-) -> Result<Command<'a>, AllocError> {
-    let mut program = bare;
-    for word in words {
-        program = program.arg(Arg::new(alloc, word).long(word).action(action))?;
-    }
-    Ok(program)
 }
 
 // The command line: the names of the nodes, and the options.
@@ -195,12 +174,7 @@ fn program<'a>(alloc: Global) -> Result<Command<'a>, Refusal> {
     let nodes = Arg::new(alloc, "node")
         .num_args(1..)
         .action(ArgAction::Append);
-    let bare = Command::new(alloc, PROGRAM)
-        .no_binary_name(true)
-        .version("0")
-        .arg(nodes)?;
-    let program = with_options(alloc, bare, &SWITCHES, ArgAction::SetTrue)?;
-    let program = with_options(alloc, program, &VALUES, ArgAction::Set)?;
+    let program = command_line(alloc, PROGRAM, nodes, &SWITCHES, &VALUES)?;
     Ok(with_options(alloc, program, &VALUES_IN_DIGITS, ArgAction::Set)?)
 }
 
@@ -245,14 +219,10 @@ pub fn parse_name(alloc: Global, bytes: &[u8]) -> Result<NodeName, Fault>
 }
 
 // The probe's own name, if one is given.
-fn own_name_in(alloc: Global, matches: &ArgMatches<'_>) -> Result<Option<NodeName>, Refusal> {
-    let Some(word) = matches.get_str("name") else {
-        return Ok(None);
-    };
-    match parse_name(alloc, word.as_bytes()) {
-        Ok(name) => Ok(Some(name)),
-        Err(Fault::BadName) => Err(refuse(name_sentence(alloc, word))),
-        Err(fault) => Err(Refusal::Fault(fault)),
+fn own_name_in(alloc: Global, matches: &ArgMatches<'_>) -> Result<Option<NodeName>, WordFault> {
+    match matches.get_str("name") {
+        Some(word) => Ok(Some(name_in(alloc, word)?)),
+        None => Ok(None),
     }
 }
 
@@ -395,19 +365,13 @@ fn wanted_in<'a>(
     }
 }
 
-// The parser's message, as a sentence.
-fn sentence_of(alloc: Global, error: &Error) -> Result<String, AllocError> {
-    let text = format!(in alloc; "{error}")?;
-    parser_sentence(alloc, PROGRAM, &text)
-}
-
 // What is done if the parser matched nothing.
 fn instead_of(alloc: Global, error: &Error) -> Instead {
     match error.kind() {
         ErrorKind::DisplayHelp => Instead::Help,
         ErrorKind::DisplayVersion => Instead::Version,
         ErrorKind::OutOfMemory => Instead::Refusal(Refusal::Fault(Fault::NoMemory)),
-        _ => Instead::Refusal(refuse(sentence_of(alloc, error))),
+        _ => Instead::Refusal(refuse(parser_sentence(alloc, PROGRAM, error))),
     }
 }
 

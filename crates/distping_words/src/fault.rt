@@ -5,7 +5,6 @@ ghost use Rattle.distping_words.specs.Faults.{fault_status};
 ghost use Rattle.distping_words.specs.declared.fault.Fault.TheVariants.{NoMemory, WriteFailed};
 
 use dist_cluster::WatchError;
-use dist_secret::CookieError;
 use std::alloc::{AllocError, AllocFailed};
 use std::io::ErrorKind;
 use std::{fmt, io};
@@ -14,8 +13,6 @@ use std::{fmt, io};
 /// standard error.
 #[derive(Clone, Copy)]
 pub enum Fault {
-    /// A word of the command line is not UTF-8.
-    BadCommandLine,
     /// No node is named.
     NoNode,
     /// Both `--cookie` and `--no-cookie` are given.
@@ -24,12 +21,6 @@ pub enum Fault {
     BadName,
     /// `--port` or `--address` is given with several nodes.
     OneNodeAlone,
-    /// The cookie's file could not be opened.
-    OpenFailed,
-    /// The cookie's file is a pipe, a socket or a device.
-    NotStored,
-    /// The cookie's file has no cookie.
-    NoCookie(CookieError),
     /// The file of names could not be opened.
     RosterClosed,
     /// The file of names could not be read.
@@ -67,9 +58,7 @@ pub enum Fault {
 impl fmt::Display for Fault {
     fn fmt<W: fmt::Write>(&self, f: &mut fmt::Formatter<W>) -> fmt::Result {
         let text = match self {
-            Fault::NoCookie(error) => return write!(f, "{}: {error}", error.name()),
             Fault::ListenFailed(kind) => return write!(f, "ListenFailed: {kind}"),
-            Fault::BadCommandLine => "bad command line: a word is no UTF-8 (distping --help)",
             Fault::NoNode => "bad command line: no NODE is named (distping --help)",
             Fault::TwoCookies =>
                 "bad command line: --cookie and --no-cookie exclude each other (distping --help)",
@@ -82,8 +71,6 @@ impl fmt::Display for Fault {
             Fault::RosterUnread => "ReadFailed: the file of --nodes",
             Fault::RosterTooLong => "TooLong: the file of --nodes has more than 1048576 bytes",
             Fault::TooManyNodes => "more than 1024 nodes are named",
-            Fault::OpenFailed => "OpenFailed: the cookie's file",
-            Fault::NotStored => "OpenFailed: the cookie's file is a pipe, a socket or a device",
             Fault::NoListenAddress => "ListenFailed: the host of --address has no address",
             Fault::ListenAlone => "--listen goes with --name, and with no NODE",
             Fault::CaptureAlone => "--capture goes with no NODE, and not with --listen or --watch",
@@ -139,8 +126,7 @@ impl Fault {
         ensures { result ≡ fault_status self }
     {
         match self {
-            Fault::BadCommandLine
-            | Fault::NoNode
+            Fault::NoNode
             | Fault::TwoCookies
             | Fault::BadName
             | Fault::OneNodeAlone

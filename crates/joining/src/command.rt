@@ -4,9 +4,8 @@ use crate::fault::Fault;
 use crate::{HELP, VERSION};
 use clap::error::ErrorKind;
 use clap::{Arg, ArgAction, ArgMatches, Command, Error};
-use dist_names::number_16;
-use dist_program::{name_sentence, number_sentence, parser_sentence};
-use distribution::{NameError, NodeName};
+use dist_program::{WordFault, command_line, name_in, option, option_number, parser_sentence};
+use distribution::NodeName;
 use std::alloc::{AllocError, Global};
 
 /// After how many seconds a silent peer is given up. Source: Erlang/OTP, application `kernel`, `net_ticktime`.
@@ -54,48 +53,16 @@ const COOKIE_FILE: &str = "cookie-file";
 // The option that takes no value.
 const UNSAFE: &str = "cookie-unsafe";
 
-// An option.
-fn option<'a>(alloc: Global, word: &'a str, action: ArgAction) -> Arg<'a> {
-    Arg::new(alloc, word).long(word).action(action)
-}
-
-// The command line.
+// The command line: the node, and the options.
 fn program<'a>(alloc: Global) -> Result<Command<'a>, AllocError> {
-    let mut program = bare(alloc)?;
-    program = program.arg(option(alloc, UNSAFE, ArgAction::SetTrue))?;
-    program = program.arg(option(alloc, COOKIE, ArgAction::Set).alias(COOKIE_FILE)?)?;
-    for word in &VALUES {
-        program = program.arg(option(alloc, word, ArgAction::Set))?;
-    }
-    Ok(program)
+    let node = Arg::new(alloc, "node").action(ArgAction::Set);
+    let cookie = option(alloc, COOKIE, ArgAction::Set).alias(COOKIE_FILE)?;
+    command_line(alloc, PROGRAM, node, &[UNSAFE], &VALUES)?.arg(cookie)
 }
 
-// The command line with just the node.
-fn bare<'a>(alloc: Global) -> Result<Command<'a>, AllocError> {
-    Command::new(alloc, PROGRAM)
-        .no_binary_name(true)
-        .version("0")
-        .arg(Arg::new(alloc, "node").action(ArgAction::Set))
-}
-
-// The number from 1 to 65,535 of this option, or the usual one if it is not given.
-fn number_of(alloc: Global, matches: &ArgMatches<'_>, id: &str, usual: u16) -> Result<u16, Fault> {
-    let Some(word) = matches.get_str(id) else {
-        return Ok(usual);
-    };
-    match number_16(word.as_bytes()) {
-        None | Some(0) => Err(Fault::BadWord(number_sentence(alloc, PROGRAM, id, word)?)),
-        Some(number) => Ok(number),
-    }
-}
-
-// The name that a word spells.
-fn name_in(alloc: Global, word: &str) -> Result<NodeName, Fault> {
-    match NodeName::new(alloc, word.as_bytes()) {
-        Ok(name) => Ok(name),
-        Err(NameError::NoMemory) => Err(Fault::NoMemory),
-        Err(_) => Err(Fault::BadWord(name_sentence(alloc, word)?)),
-    }
+// The number from 1 to 65,535 of this option, if it is given.
+fn number_of(alloc: Global, matches: &ArgMatches<'_>, id: &str) -> Result<Option<u16>, WordFault> {
+    option_number(alloc, PROGRAM, id, matches.get_str(id))
 }
 
 // The node's name and ours, which is checked first if it is given, and the node's host. If it is not given, it is one at that host, so
@@ -126,8 +93,8 @@ fn wanted_in<'a>(
     matches: &ArgMatches<'a>,
     usual_port: u16,
 ) -> Result<JoinRequest<'a>, Fault> {
-    let mapper_port = number_of(alloc, matches, "epmd-port", usual_port)?;
-    let net_ticktime = number_of(alloc, matches, "net-ticktime", NET_TICKTIME)?;
+    let mapper_port = number_of(alloc, matches, "epmd-port")?;
+    let net_ticktime = number_of(alloc, matches, "net-ticktime")?;
     let (address, cookie_file) = (matches.get_str("address"), matches.get_str(COOKIE));
     let is_unsafe = matches.get_flag(UNSAFE);
     let (node, name, host) = names_in(alloc, matches)?;
@@ -137,8 +104,8 @@ fn wanted_in<'a>(
         host: address.unwrap_or(host),
         cookie_file,
         is_unsafe,
-        mapper_port,
-        net_ticktime,
+        mapper_port: mapper_port.unwrap_or(usual_port),
+        net_ticktime: net_ticktime.unwrap_or(NET_TICKTIME),
     })
 }
 
@@ -148,10 +115,7 @@ fn request_instead<'a>(alloc: Global, error: &Error) -> Result<Invocation<'a>, F
         ErrorKind::DisplayHelp => Ok(Invocation::Prints(HELP)),
         ErrorKind::DisplayVersion => Ok(Invocation::Prints(VERSION)),
         ErrorKind::OutOfMemory => Err(Fault::NoMemory),
-        _ => {
-            let text = format!(in alloc; "{error}")?;
-            Err(Fault::BadWord(parser_sentence(alloc, PROGRAM, &text)?))
-        }
+        _ => Err(Fault::BadWord(parser_sentence(alloc, PROGRAM, error)?)),
     }
 }
 

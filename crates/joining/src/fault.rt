@@ -3,30 +3,20 @@
 ghost use Rattle.std.specs.Prelude.{◌≡◌};
 ghost use Rattle.joining.specs.Faults.{fault_status};
 
-use dist_program::{HostError, PortError, TextError};
-use distribution::{Awaited, CookieError, LookupError, StepError, TurnError, Why};
+use dist_program::{CookieFault, HostError, WordFault};
+use distribution::{Awaited, LookupError, StepError, TurnError, Why};
 use std::alloc::AllocError;
 use std::{fmt, io};
 
 /// What ends the program before the end of its input. Its `Display` comes after `joining: ` on standard error.
 #[derive(Drop)]
 pub enum Fault {
-    /// A word of the command line is not UTF-8.
-    BadCommandLine,
-    /// A word of the command line is bad: the sentence about it, safe to print.
+    /// A word of the command line, or ERL_EPMD_PORT, is bad: the sentence about it, safe to print.
     BadWord(String),
     /// No node is named.
     NamesNoNode,
-    /// ERL_EPMD_PORT is not a port.
-    BadMapperPort(PortError),
-    /// The cookie's file could not be opened.
-    OpenFailed,
-    /// The cookie's file is a pipe, a socket or a device.
-    NotStored,
-    /// Others than its owner may use the cookie's file: the sentence about it, safe to print.
-    NotPrivate(String),
-    /// The cookie's file has no cookie.
-    NoCookie(CookieError),
+    /// The cookie's file gives no cookie, for this cause.
+    NoCookie(CookieFault),
     /// The node's host has no address, for this cause.
     NoHost(HostError),
     /// The port mapper was not reached.
@@ -56,13 +46,9 @@ impl Fault {
     // The first part of what is printed.
     fn text(&self) -> &str {
         match self {
-            Fault::BadCommandLine => "bad command line: a word is no UTF-8 (joining --help)",
-            Fault::BadWord(sentence) | Fault::NotPrivate(sentence) => sentence.as_str(),
+            Fault::BadWord(sentence) => sentence.as_str(),
             Fault::NamesNoNode => "bad command line: no NODE is named (joining --help)",
-            Fault::BadMapperPort(error) => error.text(),
-            Fault::OpenFailed => "OpenFailed: the cookie's file",
-            Fault::NotStored => "OpenFailed: the cookie's file is a pipe, a socket or a device",
-            Fault::NoCookie(error) => error.name(),
+            Fault::NoCookie(_) => "",
             Fault::NoHost(_) => "NoHost",
             Fault::NoMapper => "ConnectFailed: the port mapper",
             Fault::NotFound(error) => error.name(),
@@ -78,7 +64,6 @@ impl Fault {
     // The second part, unless it is made of what the fault holds.
     fn explanation(&self) -> &'static str {
         match self {
-            Fault::NoHost(error) => host_text(*error),
             Fault::NotFound(LookupError::Limit) => ": the port mapper gave no whole answer in time",
             Fault::NotUp(..) => ": the handshake did not end well",
             Fault::Lost(_) => ": the link is lost",
@@ -91,8 +76,7 @@ impl Fault {
         ensures { result ≡ fault_status self.now }
     {
         match self {
-            Fault::BadCommandLine | Fault::BadWord(_) | Fault::NamesNoNode => 2,
-            Fault::BadMapperPort(error) => error.status(),
+            Fault::BadWord(_) | Fault::NamesNoNode => 2,
             Fault::NoHost(_)
             | Fault::NoMapper
             | Fault::NotFound(_)
@@ -115,17 +99,6 @@ impl Fault {
             Fault::NotUp(why, awaited) => handshake_reach(*why, *awaited),
             _ => 9,
         }
-    }
-}
-
-// Why a host has no address.
-fn host_text(error: HostError) -> &'static str {
-    match error {
-        HostError::NoName => ": the host's name has no address here",
-        HostError::Failed => ": the resolver failed, as where no name server answers it",
-        HostError::Silent => ": the resolver gave no answer in time",
-        HostError::NoDescriptors => ": no descriptor was left to ask the resolver with",
-        HostError::NoMemory => "",
     }
 }
 
@@ -161,7 +134,8 @@ impl fmt::Display for Fault {
         f.write_str(self.text())?;
         f.write_str(self.explanation())?;
         match self {
-            Fault::NoCookie(error) => write!(f, ": {error}"),
+            Fault::NoCookie(fault) => write!(f, "{fault}"),
+            Fault::NoHost(error) => write!(f, ": {}", error.text()),
             Fault::NotFound(error) if *error != LookupError::Limit => write!(f, ": {error}"),
             Fault::NotUp(why, awaited) => f.write_str(missing_text(*why, *awaited)),
             _ => Ok(()),
@@ -169,18 +143,18 @@ impl fmt::Display for Fault {
     }
 }
 
-impl From<TextError> for Fault {
-    fn from(error: TextError) -> Fault {
-        match error {
-            TextError::NoText => Fault::BadCommandLine,
-            TextError::NoMemory => Fault::NoMemory,
+impl From<WordFault> for Fault {
+    fn from(fault: WordFault) -> Fault {
+        match fault {
+            WordFault::Bad(sentence) => Fault::BadWord(sentence),
+            WordFault::NoMemory => Fault::NoMemory,
         }
     }
 }
 
-impl From<PortError> for Fault {
-    fn from(error: PortError) -> Fault {
-        Fault::BadMapperPort(error)
+impl From<CookieFault> for Fault {
+    fn from(fault: CookieFault) -> Fault {
+        Fault::NoCookie(fault)
     }
 }
 

@@ -6,7 +6,6 @@
 #![tactic(auto)]
 
 mod command;
-mod cookie;
 mod dialling;
 mod fault;
 mod handshake;
@@ -14,10 +13,10 @@ mod link;
 mod printing;
 
 use command::{Invocation, JoinRequest, request_of};
-use cookie::cookie_of;
 use dialling::join_node;
 use dist_program::{
-    CONNECT_SECONDS, HostError, Resolving, draw, lookup_host, mapper_port, report, words_of,
+    CONNECT_SECONDS, HostError, Resolving, draw, find_cookie, lookup_host, mapper_port, read_words,
+    report,
 };
 use distribution::{Cookies, Creation, Limits, Release, Setup, Version};
 use fault::Fault;
@@ -64,7 +63,7 @@ fn main(rt: HostRuntime) -> ExitCode {
 
 // Does what the command line asks for. `own` is the same runtime, for calls that may wait.
 fn perform<R: Resolving + Copy + Send + 'static>(rt: HostRuntime, own: R) -> Result<(), Fault> {
-    let words = words_of(&rt)?;
+    let words = read_words(&rt, "joining")?;
     let mapper_port = mapper_port(&rt)?;
     match request_of(rt.alloc(), &words, mapper_port)? {
         Invocation::Prints(text) => print(&rt, text),
@@ -79,7 +78,7 @@ fn perform<R: Resolving + Copy + Send + 'static>(rt: HostRuntime, own: R) -> Res
 fn setup_of(rt: &HostRuntime, wanted: &JoinRequest<'_>) -> Result<Setup, Fault> {
     let alloc = rt.alloc();
     let creation = draw(rt)?;
-    let cookie = cookie_of(rt, wanted)?;
+    let cookie = find_cookie(rt, wanted.cookie_file, wanted.is_unsafe)?;
     Ok(Setup {
         name: wanted.name.try_clone(alloc)?,
         cookies: Cookies::new(alloc, cookie),

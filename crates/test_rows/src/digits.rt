@@ -1,7 +1,5 @@
 //! The words of a row, and bytes in hexadecimal digits. Each word that is reported has a blank after it.
 
-ghost use Rattle.std.specs.Prelude.{◌<◌};
-
 use std::alloc::Global;
 use std::fmt::Write;
 
@@ -39,13 +37,6 @@ fn put_often(bytes: &mut Vec<u8>, part: &[u8], times: usize) -> Option<()> {
         bytes.extend_from_slice(part).ok()?;
     }
     Some(())
-}
-
-/// How many bytes of these pieces come at once.
-pub fn size_of(pieces: &str) -> usize
-    ensures { 0 < result }
-{
-    if pieces == "whole" { usize::MAX } else { 1 }
 }
 
 /// Reports a word.

@@ -34,14 +34,17 @@ fn put_again(alloc: Global, printed: &mut String, message: &Message, side: &str)
     }
 }
 
-// Reports the kind of a message, its flags, its challenge and its creation, each 0 if it has none, and its name or its digest.
+// Reports the kind of a message, its flags, its challenge and its creation, each 0 if it has none; how many bytes its name or its digest
+// has, and these bytes.
 fn put_words(alloc: Global, printed: &mut String, message: &Message) -> Option<()> {
     if let Message::Status(status) = message {
         return write!(printed, "status {status:?}").ok();
     }
     let (kind, flags, challenge, creation) = numbers_of(message);
-    write!(printed, "{kind} {flags:x} {challenge} {creation} ").ok()?;
-    put_back(alloc, printed, back_of(message))
+    let back = back_of(message);
+    let len = back.len();
+    write!(printed, "{kind} {flags:x} {challenge} {creation} {len} ").ok()?;
+    put_bytes(alloc, printed, back)
 }
 
 fn numbers_of(message: &Message) -> (&'static str, u64, u32, u32) {
@@ -79,11 +82,4 @@ fn back_of(message: &Message) -> &[u8] {
         Message::Reply { digest, .. } | Message::Ack { digest } => digest.as_slice(),
         Message::Complement { .. } | Message::Status(_) => &[],
     }
-}
-
-fn put_back(alloc: Global, printed: &mut String, bytes: &[u8]) -> Option<()> {
-    if bytes.len() > 100 {
-        return write!(printed, "of {} bytes", bytes.len()).ok();
-    }
-    put_bytes(alloc, printed, bytes)
 }

@@ -1,6 +1,5 @@
-//! Plays rows of bytes: names, cookies and their digests, frames, packets and handshake messages; and over streams in memory the
-//! registry and a client of the port mapper, and a probe that talks with a node. The rows are files in the folder in which the
-//! program runs.
+//! Plays rows of bytes: names, cookies and their digests, packets and handshake messages; and over streams in memory the registry and a
+//! client of the port mapper, and a probe that talks with a node. The rows are files in the folder in which the program runs.
 //!
 //! What the rows expect is typed from the ERTS User's Guide (EPMD Protocol, Distribution Protocol), from captured handshakes, from
 //! other programs (digests) and from the rules of `docs/PROTOCOL.md`. Each file is played with its bytes in one piece and then byte by
@@ -10,7 +9,6 @@
 mod asked;
 mod cookies;
 mod digits;
-mod frames;
 mod handshake;
 mod mapper;
 mod names;
@@ -27,11 +25,10 @@ use std::process::ExitCode;
 use std::{fs, io};
 
 /// The files of rows, and their subjects.
-const FILES: [(&str, Subject); 15] = [
+const FILES: [(&str, Subject); 14] = [
     ("node_names", Subject::Names),
     ("cookies", Subject::Cookies),
     ("digests", Subject::Cookies),
-    ("frames", Subject::Frames),
     ("packets", Subject::Packets),
     ("handshake_messages", Subject::Handshake),
     ("registry_session", Subject::PortMapper),

@@ -1,11 +1,20 @@
 //! Streams of packets after a handshake: `MOST STREAM`, the longest packet that is accepted, and the bytes.
 
-use crate::digits::{bytes_in, put_bytes, put_number, put_word, size_of, word};
+ghost use Rattle.std.specs.Prelude.{◌<◌};
+
+use crate::digits::{bytes_in, put_bytes, put_number, put_word, word};
 use dist_frames::{PacketError, Packets};
 use std::alloc::Global;
 
 // More packets than any stream has.
 const MOST_PACKETS: usize = 1000;
+
+// How many bytes of these pieces come at once.
+fn size_of(pieces: &str) -> usize
+    ensures { 0 < result }
+{
+    if pieces == "whole" { usize::MAX } else { 1 }
+}
 
 /// Reports the packets of a stream, `-` for a tick, and what comes after them: `.` for nothing yet, or the length of a packet that is
 /// too long.

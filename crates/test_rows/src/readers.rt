@@ -15,15 +15,14 @@ pub struct Scripted<'t> {
     pub reads: u64,
 }
 
-// The most bytes that a call gives, or how it fails.
+// The most bytes that a call gives, none at the end, or how it fails.
 fn most_of(call: &str) -> Result<usize, ErrorKind> {
-    match call {
-        "E" => Ok(0),
-        "F" => Err(ErrorKind::Other),
-        "I" => Err(ErrorKind::Interrupted),
-        "W" => Err(ErrorKind::WouldBlock),
-        "U" => Err(ErrorKind::UnexpectedEof),
-        size => Ok(size.parse::<usize>().unwrap_or(0)),
+    match call.as_bytes().first() {
+        Some(b'F') => Err(ErrorKind::Other),
+        Some(b'I') => Err(ErrorKind::Interrupted),
+        Some(b'W') => Err(ErrorKind::WouldBlock),
+        Some(b'U') => Err(ErrorKind::UnexpectedEof),
+        _ => Ok(call.parse::<usize>().unwrap_or(0)),
     }
 }
 

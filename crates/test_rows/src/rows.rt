@@ -1,7 +1,6 @@
 //! Files of rows. A line that is empty or begins with `#` is no row; any other is `CASE => WANTED`, or just a case if nothing is reported.
 
 use crate::cookies::put_cookie;
-use crate::frames::put_frames;
 use crate::handshake::put_message;
 use crate::mapper::put_mapper_answer;
 use crate::names::put_name;
@@ -15,7 +14,6 @@ use std::alloc::Global;
 pub enum Subject {
     Names,
     Cookies,
-    Frames,
     Packets,
     Handshake,
     PortMapper,
@@ -91,7 +89,6 @@ fn put_answer(
     match subject {
         Subject::Names => put_name(alloc, printed, case),
         Subject::Cookies => put_cookie(alloc, printed, case, pieces),
-        Subject::Frames => put_frames(alloc, printed, case, pieces),
         Subject::Packets => put_packets(alloc, printed, case, pieces),
         Subject::Handshake => put_message(alloc, printed, case),
         Subject::PortMapper => put_mapper_answer(alloc, printed, registry, case, pieces),

@@ -30,12 +30,12 @@ pub fn stream_of(
 
 fn set_pieces(stream: &mut FaultStream, pieces: &str) -> Option<()> {
     let all = usize::MAX;
-    let (heard, taken) = match pieces {
-        "whole" => (all, all),
-        "bytes" => (1, 1),
-        "deaf" => (0, all),
-        "mute" => (all, 0),
-        size => (all, size.parse::<usize>().ok()?),
+    let (heard, taken) = match pieces.as_bytes().first() {
+        Some(b'w') => (all, all),
+        Some(b'b') => (1, 1),
+        Some(b'd') => (0, all),
+        Some(b'm') => (all, 0),
+        _ => (all, pieces.parse::<usize>().ok()?),
     };
     stream.read_sizes.push(heard).ok()?;
     stream.write_sizes.push(taken).ok()

@@ -45,12 +45,17 @@ node = [
 dial = [{ from = "a@h", to = "b@h" }, { from = "a@h", to = "c@h" }, { from = "a@h", to = "d@h" }, { from = "a@h", to = "e@h" }]
 "#;
 
-// Reports the orders that made no dial, and with how many peers each node is up.
-fn put_nodes(text: &mut String, ran: &Ran) -> Option<()> {
+// Reports the orders that made no dial.
+fn put_faults(text: &mut String, ran: &Ran) -> Option<()> {
     for fault in ran.faults.iter() {
         let (number, word) = (fault.number, fault.refusal.name());
         write!(text, "order {number} {word}, ").ok()?;
     }
+    Some(())
+}
+
+// Reports with how many peers each node is up.
+fn put_ups(text: &mut String, ran: &Ran) -> Option<()> {
     text.push_str("up").ok()?;
     for closed in ran.closed.iter() {
         write!(text, " {}", closed.node.ups()).ok()?;
@@ -64,7 +69,8 @@ fn report_of(alloc: Global, ran: &Ran) -> Option<String> {
         Err(error) => error.name(),
     };
     let mut text = String::new(alloc);
-    put_nodes(&mut text, ran)?;
+    put_faults(&mut text, ran)?;
+    put_ups(&mut text, ran)?;
     write!(text, ", audit {audit}").ok()?;
     Some(text)
 }
@@ -87,6 +93,14 @@ where
     }
 }
 
+// Whether a report is this text, or one of several that ` or ` divides.
+fn is_one_of(report: Option<String>, wanted: &str) -> bool {
+    match report {
+        Some(report) => wanted.split(" or ").any(|text| text == report.as_str()),
+        None => false,
+    }
+}
+
 // The fault of a system, and what the run of a dial reports.
 const FAULTS: &str = "\
 random => ReadFailed
@@ -104,29 +118,39 @@ shut 1 => up 0 0, audit holds";
 fn what_is_wrong_is_reported(rt: HostRuntime) {
     for row in FAULTS.lines() {
         let (fault, wanted) = row.split_once(" => ").unwrap_or((row, ""));
-        let ran = run_on(&rt, rt.alloc(), ONE_DIAL, fault);
-        assert_eq!(rt; ran.as_deref(), Some(wanted), "{row}");
+        assert!(rt;
+            is_one_of(run_on(&rt, rt.alloc(), ONE_DIAL, fault), wanted),
+            "{row}"
+        );
     }
 }
 
 #[test]
 fn two_nodes_that_dial_each_other_come_up_once(rt: HostRuntime) {
-    let ran = run_on(&rt, rt.alloc(), CROSSING, "holds");
-    assert_eq!(rt; ran.as_deref(), Some("up 1 1, audit holds"));
+    assert!(rt;
+        is_one_of(
+            run_on(&rt, rt.alloc(), CROSSING, "holds"),
+            "up 1 1, audit holds"
+        )
+    );
 }
 
 // With just one worker, or one lock for both, there is no second order that could go first.
 #[test]
 fn gated_workers(rt: HostRuntime) {
-    let ran = run_on(&rt, rt.alloc(), TWO_PAIRS, "overtakes");
-    assert_eq!(rt; ran.as_deref(), Some("up 1 1 1 1, audit holds"));
+    assert!(rt;
+        is_one_of(
+            run_on(&rt, rt.alloc(), TWO_PAIRS, "overtakes"),
+            "up 1 1 1 1, audit holds"
+        )
+    );
 }
 
 // The first node is up with the one whose connection was not cut.
+const ONE_OF_FOUR: &str = "\
+    up 1 1 0 0 0, audit holds or up 1 0 1 0 0, audit holds or up 1 0 0 1 0, audit holds or up 1 0 0 0 1, audit holds";
+
 #[test]
 fn connections_that_are_cut_leave_one_world(rt: HostRuntime) {
-    let ran = run_on(&rt, rt.alloc(), STAR, "cuts");
-    let text = ran.as_deref().unwrap_or("NoMemory");
-    let is_one_up = text.starts_with("up 1 ") && text.matches(" 1").count() == 2;
-    assert!(rt; is_one_up && text.ends_with(", audit holds"), "{text}");
+    assert!(rt; is_one_of(run_on(&rt, rt.alloc(), STAR, "cuts"), ONE_OF_FOUR));
 }

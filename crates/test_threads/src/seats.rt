@@ -23,11 +23,11 @@ fn seated_node(alloc: Global, tickets: &Arc<Tickets, Global>, letter: &str) -> O
     Some(SeatedNode { node, seats })
 }
 
-// Nodes a, b and c, which draw their tickets from one counter.
+// Nodes a and b, which draw their tickets from one counter.
 fn sides_of(alloc: Global) -> Option<Vec<SeatedNode>> {
     let tickets = Arc::new(alloc, Tickets::new()).ok()?;
     let mut sides = Vec::new(alloc);
-    for letter in ["a", "b", "c"] {
+    for letter in ["a", "b"] {
         let side = seated_node(alloc, &tickets, letter)?;
         sides.push(side).ok()?;
     }
@@ -55,41 +55,27 @@ fn play(
     Some(())
 }
 
-/// Nodes a, b and c after these steps.
+/// Nodes a and b after these steps.
 pub fn sides_after(rt: &impl Wait, alloc: Global, steps: &str) -> Option<Vec<SeatedNode>> {
     let mut sides = sides_of(alloc)?;
     play(rt, alloc, &mut sides, steps, &mut 0)?;
     Some(sides)
 }
 
-fn second(mut sides: Vec<SeatedNode>) -> Option<SeatedNode> {
-    let _ = sides.pop();
-    sides.pop()
-}
-
-/// Node b.
-pub fn node_b(alloc: Global) -> Option<SeatedNode> {
-    second(sides_of(alloc)?)
-}
-
 /// Node b after these steps.
 pub fn node_b_after(rt: &impl Wait, alloc: Global, steps: &str) -> Option<SeatedNode> {
-    second(sides_after(rt, alloc, steps)?)
+    sides_after(rt, alloc, steps)?.pop()
 }
 
-/// The result of `close`: how many lines the history has, how many entries the node has, and how many of its ends are up, and open; or
-/// the refusal.
-pub fn closing(alloc: Global, side: SeatedNode) -> Option<String> {
-    match close(side.node.into_book(), side.seats) {
-        Ok(closed) => counts_of(alloc, &closed),
-        Err((error, _, _)) => format!(in alloc; "{error:?}").ok(),
-    }
+/// The node with its history, once all its steps are made.
+pub fn close_side(side: SeatedNode) -> Option<Closed> {
+    close(side.node.into_book(), side.seats).ok()
 }
 
-fn counts_of(alloc: Global, closed: &Closed) -> Option<String> {
-    let (lines, entries) = (closed.history.len(), closed.node.entries());
-    let (ups, open) = (closed.node.ups(), closed.node.open_ends());
-    format!(in alloc; "{lines} {entries} {ups} {open}").ok()
+/// How many lines the history of a node then has, how many entries it has, and how many of its ends are up, and open.
+pub fn closing(side: SeatedNode) -> Option<[usize; 4]> {
+    let Closed { node, history } = close_side(side)?;
+    Some([history.len(), node.entries(), node.ups(), node.open_ends()])
 }
 
 // Whether the first receipt of the second seat, if it has one, sends the status and the challenge of node b, with its name, flags and
@@ -101,22 +87,27 @@ fn is_greeting(seats: &[Seat]) -> Option<bool> {
     }
 }
 
-// The steps of node b, and the result of `close` after none to all of them.
+// The steps of node b, and the result of `closing` after none to all of them.
 const STEPS: &str = "b incoming, b name, b reply, b incoming";
 
-const CLOSINGS: &str = "0 0 0 0, 1 0 0 1, 2 1 0 1, 3 1 1 1, 4 1 1 2";
+const CLOSINGS: [[usize; 4]; 5] = [
+    [0, 0, 0, 0],
+    [1, 0, 0, 1],
+    [2, 1, 0, 1],
+    [3, 1, 1, 1],
+    [4, 1, 1, 2],
+];
 
-// Whether the second seat has the greeting, and `close` has the right result, for the steps that were made. How many these are at least,
+// Whether the second seat has the greeting, and `closing` the right result, for the steps that were made. How many these are at least,
 // the caller says. `None`: memory was refused to the test itself.
 fn is_closed(rt: &impl Wait, alloc: Global, least: usize) -> Option<bool> {
     let mut sides = sides_of(alloc)?;
     let mut made = 0usize;
     let _ = play(rt, alloc, &mut sides, STEPS, &mut made);
-    let side = second(sides)?;
+    let side = sides.pop()?;
     let is_kept = is_greeting(&side.seats)?;
-    let closing = closing(alloc, side)?;
-    let is_right = CLOSINGS.split(", ").nth(made) == Some(closing.as_str());
-    Some(is_kept && is_right && made >= least)
+    let closing = closing(side)?;
+    Some(is_kept && made >= least && CLOSINGS.get(made) == Some(&closing))
 }
 
 // Each request for memory of a node under a lock is refused in turn, as `rt try --test --fail-alloc N` does for N = 1, 2, ..: a step
@@ -124,21 +115,6 @@ fn is_closed(rt: &impl Wait, alloc: Global, least: usize) -> Option<bool> {
 #[test]
 fn memory_refused_in_a_step(rt: HostRuntime) {
     assert!(rt; is_closed(&rt, rt.alloc(), 0) != Some(false));
-}
-
-// The second seat of node c makes three steps, after two of node b.
-const STEPS_OF_ANOTHER: &str = "\
-    b incoming, b name, a incoming, c incoming, a incoming, c incoming, a incoming, c incoming";
-
-// The result of `close` of node b without its second seat, or with that of node c in its place.
-fn closing_without(rt: &impl Wait, alloc: Global, is_replaced: bool) -> Option<String> {
-    let mut sides = sides_after(rt, alloc, STEPS_OF_ANOTHER)?;
-    let (mut other, mut side) = (sides.pop()?, sides.pop()?);
-    let _ = side.seats.pop();
-    if is_replaced {
-        side.seats.push(other.seats.pop()?).ok()?;
-    }
-    closing(alloc, side)
 }
 
 // The orders 4, 5 and 6 are put into a queue of two, three are taken, 7 is put and taken.
@@ -168,8 +144,4 @@ fn are_in_turn(rt: &impl Wait, alloc: Global) -> Option<bool> {
 fn two_seats_and_orders(rt: HostRuntime) {
     assert!(rt; is_closed(&rt, rt.alloc(), 4) == Some(true));
     assert!(rt; are_in_turn(&rt, rt.alloc()) == Some(true));
-    let missing = closing_without(&rt, rt.alloc(), false);
-    assert_eq!(rt; missing.as_deref(), Some("MissingSeat"));
-    let absent = closing_without(&rt, rt.alloc(), true);
-    assert_eq!(rt; absent.as_deref(), Some("ReceiptAbsent"));
 }

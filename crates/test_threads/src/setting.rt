@@ -1,6 +1,6 @@
-//! What the tests share: three nodes, what a and b send in a handshake, the events, and a source of challenges.
+//! What the tests share: two nodes, what each sends in a handshake, the events, and a source of challenges.
 
-use dist_core::{Event, Node, Opening, Setup, Why};
+use dist_core::{Event, Opening, Setup, Why};
 use dist_drive::Draws;
 use dist_names::{ByteString, NodeName};
 use dist_peers::EndId;
@@ -10,21 +10,19 @@ use std::alloc::Global;
 /// The challenge of node b.
 pub const CHALLENGE: u32 = 123456789;
 
-/// Nodes a, b and c. Node a limits which nodes may connect, so that its list of names is copied where a setup is.
-pub const NODES: &str = "\
+/// Nodes a and b. Node a limits which nodes may connect, so that its list of names is copied where a setup is.
+const NODES: &str = "\
 node a@127.0.0.1 ABCDEFGHIJKLMNOPQRSTUVWXYZabcdefghijklmnopqrstuvwxyz0 401000004 5 allow b@127.0.0.1
 node b@127.0.0.1 ABCDEFGHIJKLMNOPQRSTUVWXYZabcdefghijklmnopqrstuvwxyz0 101000104 6
-node c@127.0.0.1 ABCDEFGHIJKLMNOPQRSTUVWXYZabcdefghijklmnopqrstuvwxyz0 101000104 8
 ";
 
 /// The letters of the nodes, in their order.
-pub const LETTERS: &str = "abc";
+pub const LETTERS: &str = "ab";
 
-// Node a sends its name, a reply to the challenge 123456789, one with a wrong bit, and the status `true`; node b sends the other
-// statuses, this challenge and its acknowledgement; then come a tick and a packet of 5 bytes. The old name is that of a node that only
-// knows version 5, written by hand from the ERTS User's Guide, Distribution Handshake: a tag, the version 5, the flags 4 in four bytes,
-// the name.
-const FRAMES: [(&str, &[u8]); 10] = [
+// Node a sends its name, and a reply to the challenge 123456789; node b sends a status, this challenge and its acknowledgement; then
+// comes a packet of 5 bytes behind a tick. The old name is that of a node that only knows version 5, written by hand from the ERTS User's
+// Guide, Distribution Handshake: a tag, the version 5, the flags 4 in four bytes, the name.
+const FRAMES: [(&str, &[u8]); 8] = [
     (
         "name",
         b"\x00\x1aN\x00\x00\x00\x04\x01\x00\x00\x04\x00\x00\x00\x05\x00\x0ba@127.0.0.1",
@@ -34,11 +32,6 @@ const FRAMES: [(&str, &[u8]); 10] = [
         "reply",
         b"\x00\x15r\x07\x5b\xcd\x15\xd1\x74\xab\x98\xd2\x77\xd9\xf5\xa5\x61\x1c\x2c\x9f\x41\x9d\x9f",
     ),
-    (
-        "wrong_reply",
-        b"\x00\x15r\x07\x5b\xcd\x15\xd1\x74\xab\x98\xd2\x77\xd9\xf5\xa5\x61\x1c\x2c\x9f\x41\x9d\x9e",
-    ),
-    ("true", b"\x00\x05strue"),
     ("ok", b"\x00\x03sok"),
     ("nok", b"\x00\x04snok"),
     (
@@ -80,8 +73,8 @@ pub fn setup_of(alloc: Global, letter: &str) -> Option<Setup> {
 
 // The frame of this name; no bytes for any other word.
 fn frame(word: &str) -> &'static [u8] {
-    for (name, bytes) in FRAMES {
-        if name == word {
+    for (name, bytes) in FRAMES.iter() {
+        if *name == word {
             return bytes;
         }
     }
@@ -97,30 +90,28 @@ pub fn bytes_of(alloc: Global, words: &str) -> Option<Vec<u8>> {
     Some(bytes)
 }
 
-/// The event for a word: a frame; `dial` of node b; the end is `opened`, or is `replaced` or has `ended`; a connection is `incoming`;
-/// for any other word, a tick is due. It is for end 0, or after `1:` for end 1.
+/// The event of end 0 for a word: a frame; `dial` of node b; or what `short_event` says.
 pub fn event(alloc: Global, word: &str) -> Option<Event> {
-    let (end_, word) = match word.strip_prefix("1:") {
-        Some(word) => (EndId(1), word),
-        None => (EndId(0), word),
-    };
     if word == "dial" {
         let peer = NodeName::new(alloc, b"b@127.0.0.1").ok()?;
         let opening = Opening::New;
         return Some(Event::Dial { peer, opening });
     }
     let Some(body) = frame(word).get(2..) else {
-        return Some(short_event(end_, word));
+        return Some(short_event(word));
     };
     let body = ByteString::from_slice(alloc, body).ok()?;
-    Some(Event::Frame { end_, body })
+    Some(Event::Frame {
+        end_: EndId(0),
+        body,
+    })
 }
 
-// An event that takes no memory.
-fn short_event(end_: EndId, word: &str) -> Event {
+// An event that takes no memory: the end is `opened`, or is `replaced` or has `ended`; for any other word, a connection has come.
+fn short_event(word: &str) -> Event {
+    let end_ = EndId(0);
     match word {
         "opened" => Event::Opened { end_, link: 1 },
-        "incoming" => Event::Incoming { link: 1 },
         "ended" => Event::Lost {
             end_,
             why: Why::Ended,
@@ -129,26 +120,8 @@ fn short_event(end_: EndId, word: &str) -> Event {
             end_,
             why: Why::Replaced,
         },
-        _ => Event::Tick { end_ },
+        _ => Event::Incoming { link: 1 },
     }
-}
-
-// Gives a node the events for the words behind its letter. `None`: it refused one.
-fn do_words(alloc: Global, node: &mut Node, text: &str) -> Option<()> {
-    for word in text.split(' ').skip(1) {
-        let event = event(alloc, word)?;
-        if node.step(alloc, &event, CHALLENGE).is_err() {
-            return None;
-        }
-    }
-    Some(())
-}
-
-/// The node with whose letter a text begins, after the words behind it.
-pub fn node_after(alloc: Global, text: &str) -> Option<Node> {
-    let mut node = Node::new(alloc, setup_of(alloc, word(text, 0))?);
-    do_words(alloc, &mut node, text)?;
-    Some(node)
 }
 
 /// The word at this place of a row.

@@ -1,8 +1,8 @@
-//! Two threads at one node under a lock, where each makes steps of its own or drives an end, and at one registry under a lock.
+//! Two threads at one node under a lock, where each makes steps of its own and drives an end, and at one registry under a lock.
 //!
 //! A silent peer delays nothing: no lock is held while a stream is read.
 
-use crate::seats::{closing, node_b, node_b_after};
+use crate::seats::{closing, node_b_after};
 use crate::setting::{CHALLENGE, Rising, bytes_of};
 use dist_core::{Event, Still};
 use dist_drive::{FaultStream, Heard, Mapper, Stream, Took};
@@ -25,33 +25,6 @@ fn come<R: Wait>(rt: &R, node: &LockedNode, seat: &mut Seat) -> u64 {
         }
     }
     pending
-}
-
-// The same of a thread, which has the seat meanwhile.
-fn work<R: Wait>(rt: &R, node: &LockedNode, mut seat: Seat) -> (Seat, u64) {
-    let pending = come(rt, node, &mut seat);
-    (seat, pending)
-}
-
-// Each line of the history has its receipt, and right after each step its end was pending.
-#[test]
-fn two_threads_on_one_node(rt: HostRuntime) {
-    let Some(mut side) = node_b(rt.alloc()) else {
-        panic!(rt; "no memory");
-    };
-    let (Some(two), Some(one)) = (side.seats.pop(), side.seats.pop()) else {
-        panic!(rt; "no seats");
-    };
-    let node = &side.node;
-    let ((one, ones), (two, twos)) = thread::join(
-        &rt,
-        move || work(&rt, node, one),
-        move || work(&rt, node, two),
-    );
-    let _ = side.seats.push(one);
-    let _ = side.seats.push(two);
-    assert!(rt; (ones, twos) == (100, 100));
-    assert_eq!(rt; closing(rt.alloc(), side).as_deref(), Some("200 0 0 200"));
 }
 
 // A stream in memory. When it has no bytes, its read waits until end 1 is up, and looks at most a thousand times.
@@ -109,7 +82,23 @@ fn drive_patiently<R: Wait + Clock>(
     (seat, stream.looks)
 }
 
-// The stream of end 0, whose peer is silent, sees that end 1 has come up, whose peer sends a whole handshake, and then ends.
+// What a thread does, which has the seat meanwhile: it gives the node a hundred connections, and then drives an end. Returns the seat, after
+// how many of these steps their end was pending, and how often the stream looked.
+fn work<R: Wait + Clock>(
+    rt: &R,
+    alloc: Global,
+    node: &LockedNode,
+    mut seat: Seat,
+    end_: EndId,
+    said: Vec<u8>,
+) -> (Seat, u64, u64) {
+    let pending = come(rt, node, &mut seat);
+    let (seat, looks) = drive_patiently(rt, alloc, node, seat, end_, said);
+    (seat, pending, looks)
+}
+
+// Right after each connection its end was pending. The stream of end 0, whose peer is silent, sees that end 1 has come up, whose peer
+// sends a whole handshake, and then ends. Each line of the history has its receipt.
 #[test]
 fn silent_peer(rt: HostRuntime) {
     let alloc = rt.alloc();
@@ -122,16 +111,16 @@ fn silent_peer(rt: HostRuntime) {
     let Some(said) = bytes_of(alloc, "name+reply") else {
         panic!(rt; "no memory");
     };
-    let node = &side.node;
-    let ((one, looks), (two, _)) = thread::join(
+    let (node, unsaid) = (&side.node, Vec::new(alloc));
+    let ((one, ones, looks), (two, twos, _)) = thread::join(
         &rt,
-        move || drive_patiently(&rt, alloc, node, one, EndId(0), Vec::new(alloc)),
-        move || drive_patiently(&rt, alloc, node, two, EndId(1), said),
+        move || work(&rt, alloc, node, one, EndId(0), unsaid),
+        move || work(&rt, alloc, node, two, EndId(1), said),
     );
     let _ = side.seats.push(one);
     let _ = side.seats.push(two);
-    assert!(rt; looks < 1000);
-    assert_eq!(rt; closing(alloc, side).as_deref(), Some("5 1 1 1"));
+    assert!(rt; (ones, twos) == (100, 100) && looks < 1000);
+    assert!(rt; closing(side) == Some([205, 1, 1, 201]));
 }
 
 // Registers node a on this connection. Returns the result, and the creation.

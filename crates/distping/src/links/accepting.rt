@@ -3,21 +3,22 @@
 //! It has no sockets and no clock, and prints nothing. The node decides which message is awaited, which end comes up, and why one is
 //! closed. The listener itself judges two bodies: the older form of a name, and a reply if no cookie is compared.
 
-ghost use Rattle.std.specs.Prelude.{◌≡◌, IfOk, IfErr};
+ghost use Rattle.std.specs.Prelude.{◌≡◌, IfOk};
 ghost use Rattle.dist_messages.specs.Reading.{read};
+ghost use Rattle.dist_messages.specs.Views.{message_of};
 ghost use Rattle.dist_messages.specs.declared.message.Side.TheVariants.{Dialler};
-ghost use Rattle.distping.specs.Accepting.{AwaitsName, HearsBody, Shows, Takes, Talks, TalksOn, Writes, only, content_as, content_in};
-ghost use Rattle.distping.specs.Listening.{close_verdict, fault_verdict, own_verdict, step_verdict, written_verdict};
+ghost use Rattle.distping.specs.Accepting.{AwaitsName, HearsBody, Shows, Takes, Talks, TalksOn, Writes, only, peer_in};
+ghost use Rattle.distping.specs.Listening.{close_verdict, fault_verdict, message_verdict, own_verdict, step_verdict, written_verdict};
 
 use dist_core::{Awaited, Event, Node, StepError, Still, Why};
 use dist_core_setup::Setup;
-use dist_messages::{Message, MessageError, Side, decode};
+use dist_messages::{MessageView, Side, read_in_place};
 use dist_names::ByteString;
 use dist_peers::EndId;
 use dist_probe::{Came, Peer, read_frame_of, service_of};
 use dist_stream::{Limited, Stream, TurnError};
 use distping_report::{Listen, Taken};
-use std::alloc::Global;
+use std::alloc::{AllocError, Global};
 
 // The tags of the dialling side: an older name, a newer one, a status, a complement, a reply. Source: ERTS User's Guide, Distribution
 // Handshake. A length counts only before one of them, as in a probe that dials.
@@ -26,45 +27,23 @@ const TAGS: [u8; 5] = [0x6e, 0x4e, 0x73, 0x63, 0x72];
 /// The node's one end.
 pub const END: EndId = EndId(0);
 
-/// What a body of the dialling side says, as far as the listener looks at it.
-#[derive(Drop)]
-pub enum Content {
-    /// The newer form of a name, in which a node sends its flags and its creation.
-    Name(Peer),
-    /// The older form of a name.
-    OldName,
-    /// A reply to a challenge.
-    Reply,
-    /// Anything else, even if it is not a message.
-    Other,
-}
-
-/// A body that was received, and what it says.
-#[derive(Drop)]
-pub struct Inbound {
-    /// The body.
-    pub body: ByteString,
-    /// What it says.
-    pub content: Content,
-}
-
-// What a message says.
-fn content_in(message: Message) -> Content
-    ensures { result ≡ content_in message }
+/// What a node says about itself in this body: in the newer form of a name alone.
+pub fn peer_in(alloc: Global, body: &[u8]) -> Result<Option<Peer>, AllocError>
+    ensures { IfOk result (λ peer. peer ≡ peer_in (read Dialler body.now)) }
 {
-    match message {
-        Message::NewName {
+    match read_in_place(Side::Dialler, body) {
+        Ok(
+            MessageView::NewName {
+                flags,
+                creation,
+                name,
+            },
+        ) => Ok(Some(Peer {
             flags,
             creation,
-            name,
-        } => Content::Name(Peer {
-            flags,
-            creation,
-            name,
-        }),
-        Message::OldName { .. } => Content::OldName,
-        Message::Reply { .. } => Content::Reply,
-        _ => Content::Other,
+            name: ByteString::from_slice(alloc, name)?,
+        })),
+        _ => Ok(None),
     }
 }
 
@@ -115,36 +94,32 @@ fn written_verdict(stop: Option<TurnError>, still: Still, awaited: Option<Awaite
     }
 }
 
-// The verdict on a body that the listener judges itself, while this is awaited.
-fn own_verdict(compares: bool, awaited: Option<Awaited>, content: &Content) -> Option<Taken>
-    ensures { result ≡ own_verdict compares awaited content.now }
+// The verdict on a message that the listener judges itself, while this is awaited.
+fn message_verdict(
+    compares: bool,
+    awaited: Option<Awaited>,
+    message: &MessageView<'_>,
+) -> Option<Taken>
+    ensures { result ≡ message_verdict compares awaited (message_of message.now) }
 {
-    match (content, awaited) {
-        (Content::OldName, _) => Some(Taken::Unexpected),
-        (Content::Reply, Some(Awaited::Reply)) if !compares => Some(Taken::Answered),
+    match (message, awaited) {
+        (MessageView::OldName { .. }, _) => Some(Taken::Unexpected),
+        (MessageView::Reply { .. }, Some(Awaited::Reply)) if !compares => Some(Taken::Answered),
         _ => None,
     }
 }
 
-// ---- bodies
-
-// A body that was received, with what it says.
-fn read_body(alloc: Global, body: ByteString) -> Result<Inbound, Taken>
-    ensures ok { IfOk result (λ inbound. (inbound.body ≡ body) × (inbound.content ≡ content_as (read Dialler body))) }
-    ensures err { IfErr result (λ t. t ≡ Taken.NoMemory) }
+// The same of a body.
+fn own_verdict(compares: bool, awaited: Option<Awaited>, body: &[u8]) -> Option<Taken>
+    ensures { result ≡ own_verdict compares awaited (read Dialler body.now) }
 {
-    match decode(alloc, Side::Dialler, body.as_slice()) {
-        Ok(message) => Ok(Inbound {
-            body,
-            content: content_in(message),
-        }),
-        Err(MessageError::NoMemory) => Err(Taken::NoMemory),
-        Err(_) => Ok(Inbound {
-            body,
-            content: Content::Other,
-        }),
+    match read_in_place(Side::Dialler, body) {
+        Ok(message) => message_verdict(compares, awaited, &message),
+        Err(_) => None,
     }
 }
+
+// ---- bodies
 
 /// The next body of the dialling side, or the verdict on what came instead, while this is awaited. It writes nothing.
 ///
@@ -153,13 +128,12 @@ pub fn hear<S: Stream>(
     alloc: Global,
     limited: &mut Limited<'_, S>,
     awaited: Option<Awaited>,
-) -> Result<Inbound, Taken>
-    ensures reads { IfOk result (λ inbound. inbound.content ≡ content_as (read Dialler inbound.body)) }
+) -> Result<ByteString, Taken>
     ensures hears { HearsBody awaited (S.meaning limited.old.stream.now) (S.meaning limited.new.stream.now) limited.old.left limited.new.left result }
     ensures loan { limited.new.stream.ghost_name ≡ limited.old.stream.ghost_name }
 {
     match read_frame_of(alloc, limited, &TAGS) {
-        Came::Body(body) => read_body(alloc, body),
+        Came::Body(body) => Ok(body),
         Came::Front(front) => Err(Taken::Foreign(service_of(front))),
         Came::Stopped(fault, _) => Err(fault_verdict(awaited, fault)),
         Came::NoMemory => Err(Taken::NoMemory),
@@ -186,13 +160,12 @@ fn take<S: Stream>(
     node: &mut Node,
     listen: &Listen<'_>,
     body: ByteString,
-    content: &Content,
 ) -> Option<Taken>
-    ensures takes { Takes listen.now.fresh listen.now.compares body content.now node.old node.new
+    ensures takes { Takes listen.now.fresh listen.now.compares body node.old node.new
         (S.meaning limited.old.stream.now) (S.meaning limited.new.stream.now) limited.old.left limited.new.left result }
     ensures loan { limited.new.stream.ghost_name ≡ limited.old.stream.ghost_name }
 {
-    if let Some(taken) = own_verdict(listen.compares, node.awaits(END), content) {
+    if let Some(taken) = own_verdict(listen.compares, node.awaits(END), body.as_slice()) {
         return Some(taken);
     }
     match node.step(alloc, &Event::Frame { end_: END, body }, listen.fresh) {
@@ -227,34 +200,27 @@ fn continue_talk<S: Stream>(
     ensures loan { limited.new.stream.ghost_name ≡ limited.old.stream.ghost_name }
 {
     match hear(alloc, limited, node.awaits(END)) {
-        Ok(inbound) => {
-            let Inbound { body, content } = inbound;
-            take(alloc, limited, node, listen, body, &content).unwrap_or(Taken::Unexpected)
-        }
+        Ok(body) => take(alloc, limited, node, listen, body).unwrap_or(Taken::Unexpected),
         Err(taken) => taken,
     }
 }
 
-/// The verdict of the talk from the first body on, which says this.
+/// The verdict of the talk from the first body on.
 pub fn talk<S: Stream>(
     alloc: Global,
     limited: &mut Limited<'_, S>,
     node: &mut Node,
     listen: &Listen<'_>,
     body: ByteString,
-    content: &Content,
 ) -> Taken
     // `open_node` returned the node.
-    requires opened { AwaitsName listen.now.setup.now node.old }
-
-    // `hear` returned both.
-    requires content { content.now ≡ content_as (read Dialler body) }
-    ensures talks { Talks listen.now.fresh listen.now.compares body content.now node.old node.new
+    requires { AwaitsName listen.now.setup.now node.old }
+    ensures talks { Talks listen.now.fresh listen.now.compares body node.old node.new
         (S.meaning limited.old.stream.now) (S.meaning limited.new.stream.now) limited.old.left limited.new.left result }
-    ensures shows { Shows listen.now.setup.now listen.now.fresh listen.now.compares content.now result node.new }
+    ensures shows { Shows listen.now.setup.now listen.now.fresh listen.now.compares (read Dialler body) result node.new }
     ensures loan { limited.new.stream.ghost_name ≡ limited.old.stream.ghost_name }
 {
-    match take(alloc, limited, node, listen, body, content) {
+    match take(alloc, limited, node, listen, body) {
         Some(taken) => taken,
         None => continue_talk(alloc, limited, node, listen),
     }

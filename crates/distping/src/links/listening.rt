@@ -1,16 +1,14 @@
 //! Takes one connection, as a node takes it, and prints what the other side sends.
 
 ghost use Rattle.std.specs.Prelude.{◌≡◌};
-ghost use Rattle.dist_messages.specs.Reading.{read};
-ghost use Rattle.dist_messages.specs.declared.message.Side.TheVariants.{Dialler};
-ghost use Rattle.distping.specs.Accepting.{AwaitsName, content_as};
+ghost use Rattle.distping.specs.Accepting.{AwaitsName};
 ghost use Rattle.distping.specs.Listening.{behind_left, is_probe, wants_name};
 
-use crate::links::accepting::{Content, END, Inbound, hear, open_node, step_verdict, talk};
+use crate::links::accepting::{END, hear, open_node, peer_in, step_verdict, talk};
 use crate::links::attempt::ProbeStream;
 use crate::links::waiting::{await_caller, bind_listener};
 use dist_core::Node;
-use dist_names::Flags;
+use dist_names::{ByteString, Flags};
 use dist_probe::Peer;
 use dist_program::talk_over;
 use dist_stream::{Limited, SocketStream};
@@ -37,7 +35,7 @@ fn talk_with<'a>(
     from: &SocketAddr,
 ) -> Result<ProbeStream<'a>, Fault> {
     lines.put_taken(from)?;
-    or_fault(talk_over(rt, SocketStream::new(socket), listen.seconds))
+    or_fault(talk_over(rt, SocketStream::new(socket), listen.choices.seconds))
 }
 
 // Listens, and waits for one connection. `None` if no node dialled in time.
@@ -49,7 +47,7 @@ fn accept<'a>(
 ) -> Result<Option<ProbeStream<'a>>, Fault> {
     let listener = or_fault(bind_listener(rt, listen.place, listen.port))?;
     lines.put_listening(listen.port, &listen.setup.name)?;
-    match or_fault(await_caller(rt, &listener, listen.patience))? {
+    match or_fault(await_caller(rt, &listener, listen.choices.patience))? {
         Some((socket, from)) => {
             caller.address = Some(from);
             Ok(Some(talk_with(rt, listen, lines, socket, &from)?))
@@ -59,57 +57,51 @@ fn accept<'a>(
 }
 
 // Whether a node asks for a name, instead of sending its own.
-fn wants_name(content: &Content) -> bool
-    ensures { result ≡ wants_name content.now }
+fn wants_name(peer: &Option<Peer>) -> bool
+    ensures { result ≡ wants_name peer.now }
 {
-    match content {
-        Content::Name(peer) => peer.flags.has(Flags::NAME_ME),
-        _ => false,
+    match peer {
+        Some(peer) => peer.flags.has(Flags::NAME_ME),
+        None => false,
     }
 }
 
 // Whether this is the name that a probe gives itself if it is given no other.
-fn is_probe(content: &Content) -> bool
-    ensures { result ≡ is_probe content.now }
+fn is_probe(peer: &Option<Peer>) -> bool
+    ensures { result ≡ is_probe peer.now }
 {
-    match content {
-        Content::Name(peer) => peer.name.as_slice().starts_with(b"distping@"),
-        _ => false,
+    match peer {
+        Some(peer) => peer.name.as_slice().starts_with(b"distping@"),
+        None => false,
     }
 }
 
 // The result, changed if the node that left may be a probe that tries no cookie.
-fn behind_left(taken: Taken, content: &Content) -> Taken
-    ensures { result ≡ behind_left taken content.now }
+fn behind_left(taken: Taken, peer: &Option<Peer>) -> Taken
+    ensures { result ≡ behind_left taken peer.now }
 {
     match taken {
-        Taken::Left if is_probe(content) => Taken::Stopped,
+        Taken::Left if is_probe(peer) => Taken::Stopped,
         other => other,
     }
 }
 
-// Talks on after the first body. Returns the result, and what the node sent about itself.
+// Talks on after the first body, in which the node said this about itself, and returns the result.
 fn greet(
     alloc: Global,
     limited: &mut Limited<'_, ProbeStream<'_>>,
     node: &mut Node,
     listen: &Listen<'_>,
-    inbound: Inbound,
-) -> (Taken, Option<Peer>)
-    // `open_node` returned the node, and `hear` the body.
-    requires opened { AwaitsName listen.now.setup.now node.old }
-    requires content { inbound.content ≡ content_as (read Dialler inbound.body) }
+    body: ByteString,
+    peer: &Option<Peer>,
+) -> Taken
+    // `open_node` returned the node.
+    requires { AwaitsName listen.now.setup.now node.old }
 {
-    let Inbound { body, content } = inbound;
-    let taken = if wants_name(&content) {
-        Taken::WantsName
-    } else {
-        behind_left(talk(alloc, limited, node, listen, body, &content), &content)
-    };
-    match content {
-        Content::Name(peer) => (taken, Some(peer)),
-        _ => (taken, None),
+    if wants_name(peer) {
+        return Taken::WantsName;
     }
+    behind_left(talk(alloc, limited, node, listen, body), peer)
 }
 
 // Talks as this node with the one that dialled, prints what that sent about itself, and returns the result.
@@ -123,16 +115,18 @@ fn meet(
     // `open_node` returned the node.
     requires { AwaitsName listen.now.setup.now node.old }
 {
-    let inbound = match hear(lines.alloc, limited, node.awaits(END)) {
-        Ok(inbound) => inbound,
+    let body = match hear(lines.alloc, limited, node.awaits(END)) {
+        Ok(body) => body,
         Err(taken) => return Ok(taken),
     };
-    if let Content::Name(peer) = &inbound.content {
+    match peer_in(lines.alloc, body.as_slice()) {
+        Ok(peer) => caller.peer = peer,
+        Err(_) => return Ok(Taken::NoMemory),
+    }
+    if let Some(peer) = &caller.peer {
         lines.put_peer(peer.name.as_slice(), peer.flags, peer.creation)?;
     }
-    let (taken, peer) = greet(lines.alloc, limited, node, listen, inbound);
-    caller.peer = peer;
-    Ok(taken)
+    Ok(greet(lines.alloc, limited, node, listen, body, &caller.peer))
 }
 
 // Talks with the node that dialled, and returns the result.
@@ -142,7 +136,7 @@ fn attend(
     lines: LineSink<'_>,
     caller: &mut Caller,
 ) -> Result<Taken, Fault> {
-    let left = listen.turns;
+    let left = listen.choices.turns();
     let mut limited = Limited { stream, left };
     match open_node(lines.alloc, listen.setup) {
         Ok(mut node) => meet(&mut limited, &mut node, listen, lines, caller),

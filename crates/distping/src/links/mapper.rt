@@ -11,7 +11,6 @@ use dist_names::ByteString;
 use dist_probe::{ProbeVerdict, mapper_verdict};
 use dist_program::{TimedStep, at_port};
 use dist_stream::connect_by;
-use distping_report::Registration;
 use distping_words::Fault;
 use std::net::SocketAddr;
 use std::time::Instant;
@@ -133,16 +132,13 @@ impl<'a> AddressAttempt<'a> {
         answer
     }
 
-    // Keeps the node's registration, prints it, and returns its port.
-    fn take_registration(&mut self, info: &PortInfo) -> Result<u16, Fault> {
-        self.found.registration = Some(Registration {
-            port: info.port,
-            highest: info.highest,
-            lowest: info.lowest,
-        });
-        let port = self.dial.choices.mapper_port;
-        self.dial.lines.put_registration(port, info)?;
-        Ok(info.port)
+    // Prints the node's registration, keeps it, and returns its port.
+    fn take_registration(&mut self, info: PortInfo) -> Result<u16, Fault> {
+        let port = info.port;
+        let lines = self.dial.lines;
+        lines.put_registration(self.dial.choices.mapper_port, &info)?;
+        self.found.registration = Some(info);
+        Ok(port)
     }
 
     // Asks the port mapper for the node's port.
@@ -150,7 +146,7 @@ impl<'a> AddressAttempt<'a> {
         let front = self.connect_to_mapper()?;
         let until = front.stream.deadline();
         match self.look_up(front) {
-            Ok(info) => Ok(self.take_registration(&info)?),
+            Ok(info) => Ok(self.take_registration(info)?),
             Err(error) => {
                 self.put_unregistered(error, until)?;
                 Err(Stop::Verdict(lookup_verdict(error)))

@@ -8,7 +8,7 @@ use crate::links::mapper::Names;
 use crate::links::outcomes::no_host;
 use crate::links::tries::Tries;
 use dist_probe::is_found;
-use dist_program::{Addresses, Budget};
+use dist_program::Addresses;
 use distping_report::{Dial, ProbeOutcome};
 use distping_words::Fault;
 use std::net::SocketAddr;
@@ -16,24 +16,15 @@ use std::net::SocketAddr;
 /// The names that the port mapper of a host knows, or the result if it gave none.
 pub type Census = Result<Names, ProbeOutcome>;
 
-// The time of each step, for all these addresses together.
-fn budget_for(dial: &Dial<'_>, addresses: &[SocketAddr]) -> Budget {
-    let count = u32::try_from(addresses.len()).unwrap_or(u32::MAX);
-    Budget::new(dial.choices.seconds, count)
-}
-
 // Tries each address, until the node is found at one.
 fn find_node(dial: &Dial<'_>, addresses: &[SocketAddr], all: &mut Tries) -> Result<(), Fault> {
-    let mut budget = budget_for(dial, addresses);
     for address in addresses {
-        let mut attempt = AddressAttempt::begin(dial, address, addresses, budget)?;
+        let mut attempt = AddressAttempt::begin(dial, address, addresses, all.budget)?;
         let verdict = match attempt.probe_node() {
             Ok(verdict) | Err(Stop::Verdict(verdict)) => verdict,
             Err(Stop::Fault(fault)) => return Err(fault),
         };
-        budget = attempt.budget;
-        budget.go_on();
-        all.push(attempt.found, verdict)?;
+        all.push(attempt, verdict)?;
         if is_found(verdict) {
             break;
         }
@@ -47,17 +38,14 @@ fn find_names(
     addresses: &[SocketAddr],
     all: &mut Tries,
 ) -> Result<Option<Names>, Fault> {
-    let mut budget = budget_for(dial, addresses);
     for address in addresses {
-        let mut attempt = AddressAttempt::begin(dial, address, addresses, budget)?;
+        let mut attempt = AddressAttempt::begin(dial, address, addresses, all.budget)?;
         let verdict = match attempt.ask_for_names() {
             Ok(names) => return Ok(Some(names)),
             Err(Stop::Verdict(verdict)) => verdict,
             Err(Stop::Fault(fault)) => return Err(fault),
         };
-        budget = attempt.budget;
-        budget.go_on();
-        all.push(attempt.found, verdict)?;
+        all.push(attempt, verdict)?;
     }
     Ok(None)
 }
@@ -72,7 +60,7 @@ pub fn probe(dial: &Dial<'_>, addresses: Addresses) -> Result<ProbeOutcome, Faul
         Ok(addresses) => addresses,
         Err(error) => return Ok(no_host(dial.lines.alloc, &dial.choices, error)),
     };
-    let mut all = Tries::nothing(dial.lines.alloc);
+    let mut all = Tries::nothing(dial, &addresses);
     find_node(dial, &addresses, &mut all)?;
     Ok(all.into_outcome(addresses))
 }
@@ -87,7 +75,7 @@ pub fn ask_census(dial: &Dial<'_>, addresses: Addresses) -> Result<Census, Fault
         Ok(addresses) => addresses,
         Err(error) => return Ok(Err(no_host(dial.lines.alloc, &dial.choices, error))),
     };
-    let mut all = Tries::nothing(dial.lines.alloc);
+    let mut all = Tries::nothing(dial, &addresses);
     match find_names(dial, &addresses, &mut all)? {
         Some(names) => Ok(Ok(names)),
         None => Ok(Err(all.into_outcome(addresses))),

@@ -2,9 +2,12 @@
 
 ghost use Rattle.std.specs.Prelude.{◌≡◌, ◌++◌, ◌∷◌, [], length, OnOk};
 
+use crate::links::attempt::AddressAttempt;
 use dist_probe::ProbeVerdict;
-use distping_report::Found;
-use std::alloc::{AllocError, Global};
+use dist_program::Budget;
+use distping_report::{Dial, Found};
+use std::alloc::AllocError;
+use std::net::SocketAddr;
 
 /// What was found out at each address so far, and the verdict on it.
 #[derive(Drop)]
@@ -13,28 +16,38 @@ pub struct Tries {
     pub found: Vec<Found>,
     /// The verdict on each.
     pub verdicts: Vec<ProbeVerdict>,
+    /// What is left of the time of each step, for the addresses that are still to be tried.
+    pub budget: Budget,
     // Both have the same length.
     pub ghost paired: { length found.items ≡ length verdicts.items },
 }
 
 impl Tries {
-    /// No address yet.
-    pub fn nothing(alloc: Global) -> Tries
+    /// None of these addresses yet.
+    pub fn nothing(dial: &Dial<'_>, addresses: &[SocketAddr]) -> Tries
         ensures { result.verdicts.items ≡ [] }
     {
+        let count = u32::try_from(addresses.len()).unwrap_or(u32::MAX);
         Tries {
-            found: Vec::new(alloc),
-            verdicts: Vec::new(alloc),
+            found: Vec::new(dial.lines.alloc),
+            verdicts: Vec::new(dial.lines.alloc),
+            budget: Budget::new(dial.choices.seconds, count),
         }
     }
 
     /// Adds an address.
-    pub fn push(&mut self, found: Found, verdict: ProbeVerdict) -> Result<(), AllocError>
-        ensures found { OnOk result (self.new.found.items ≡ self.old.found.items ++ found ∷ []) }
+    pub fn push(
+        &mut self,
+        attempt: AddressAttempt<'_>,
+        verdict: ProbeVerdict,
+    ) -> Result<(), AllocError>
+        ensures found { OnOk result (self.new.found.items ≡ self.old.found.items ++ attempt.entry.found ∷ []) }
         ensures verdict { OnOk result (self.new.verdicts.items ≡ self.old.verdicts.items ++ verdict ∷ []) }
     {
+        self.budget = attempt.budget;
+        self.budget.go_on();
         self.verdicts.push(verdict)?;
-        match self.found.push(found) {
+        match self.found.push(attempt.found) {
             Ok(()) => Ok(()),
             Err(error) => {
                 self.verdicts.pop();

@@ -43,7 +43,7 @@ fn put_node<'x>(
     let (found, verdict) = (&outcome.found, outcome.verdict);
     let lacking = lacking_flags(verdict, &found.peer);
     put_members(alloc, out, &name_members(node, name, found))?;
-    put_registration(alloc, out, found.registration)?;
+    put_registration(alloc, out, &found.registration)?;
     put_members(alloc, out, &answer_members(found))?;
     put_peer(alloc, out, &found.peer)?;
     put_members(alloc, out, &verdict_members(lacking, verdict))?;

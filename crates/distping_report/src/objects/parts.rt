@@ -6,11 +6,12 @@ ghost use Rattle.distping_report.specs.Layouts.{lacking_flags, peer_lacks, peer_
 ghost use Rattle.distping_report.specs.Objects.{PutsMembers, PutsObjects, PutsValue, layout_of};
 ghost use Rattle.distping_report.specs.Objects.{member, no_member, number_or_null, object, objects, text_or_null};
 
-use crate::found::{Found, ProbeOutcome, Registration};
+use crate::found::{Found, ProbeOutcome};
 use crate::objects::member::{Member, Value, put_inner, put_members, put_object};
 use crate::objects::values::{
     answer_or_null, number_or_null, release_word, small_number, status_or_null,
 };
+use dist_epmd::PortInfo;
 use dist_flags::{Dflag, Release, missing, release_of};
 use dist_names::Flags;
 use dist_probe::{Peer, ProbeVerdict};
@@ -42,9 +43,9 @@ pub fn lacking_flags(verdict: ProbeVerdict, peer: &Option<Peer>) -> Flags
 pub fn put_registration(
     alloc: Global,
     out: &mut Writer,
-    registration: Option<Registration>,
+    registration: &Option<PortInfo>,
 ) -> Result<(), AllocError>
-    ensures { OnOk result (PutsMembers (member (codes "epmd") (registration_shape registration) no_member)
+    ensures { OnOk result (PutsMembers (member (codes "epmd") (registration_shape registration.now) no_member)
         out.old out.new) }
 {
     match registration {

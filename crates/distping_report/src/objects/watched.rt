@@ -8,7 +8,7 @@ ghost use Rattle.distping_report.specs.Objects.{IsObjectLine, shape_of, text_or_
 
 use crate::objects::member::{Value, object_line};
 use crate::watched::{Answers, Seen, verdict_word_in};
-use dist_cluster::{LatencySummary, VerdictChange};
+use dist_cluster::VerdictChange;
 use std::alloc::{AllocError, Global};
 
 // The word of the verdict before, or null.
@@ -53,17 +53,14 @@ pub fn change_object(
     object_of_change(alloc, time, seen, change)
 }
 
-// How long the answers of this node took in so many rounds, as one line.
-fn times_object(
-    alloc: Global,
-    node: &[u8],
-    rounds: u64,
-    summary: Option<LatencySummary>,
-) -> Result<String, AllocError>
-    ensures { IfOk result (λ line. IsObjectLine (latency_layout node.now rounds summary) (string_bytes line)) }
+/// How long a watched node's answers took, as one line.
+pub fn latency_object(alloc: Global, answers: &Answers<'_>) -> Result<String, AllocError>
+    ensures { IfOk result
+        (λ line. IsObjectLine (latency_layout answers.now.node.now answers.now.rounds answers.now.summary) (string_bytes line)) }
 {
-    let (node, rounds) = (Value::Name(node), Value::Number(rounds));
-    match summary {
+    let node = Value::Name(answers.node.bytes());
+    let rounds = Value::Number(answers.rounds);
+    match answers.summary {
         Some(it) => {
             let members = [
                 ("node", node),
@@ -87,12 +84,4 @@ fn times_object(
             object_line(alloc, &members)
         }
     }
-}
-
-/// How long a watched node's answers took, as one line.
-pub fn latency_object(alloc: Global, answers: &Answers<'_>) -> Result<String, AllocError>
-    ensures { IfOk result
-        (λ line. IsObjectLine (latency_layout answers.now.node.now answers.now.rounds answers.now.summary) (string_bytes line)) }
-{
-    times_object(alloc, answers.node.bytes(), answers.rounds, answers.summary)
 }

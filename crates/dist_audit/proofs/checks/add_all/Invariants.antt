@@ -1,7 +1,4 @@
-use Rattle.std.proofs.Common.{◌≡◌, ℕ, ◌||◌, drop}
-use Rattle.std.specs.Ordering.{nat_cmp}
-use Rattle.std.specs.BTreeSet.{contains}
-use Rattle.dist_audit.specs.Faults.{has_ticket}
+use Rattle.dist_audit.proofs.Words.{◌≡◌, ℕ, ◌||◌, drop, nat_cmp, contains, has_ticket}
 use Rattle.dist_audit.proofs.checks.add_all.Given as goal
 
 -- with those that are left they are all

@@ -1,5 +1,4 @@
-use Rattle.std.proofs.Common.{◌≡◌, drop}
-use Rattle.dist_audit.specs.Faults.{falls}
+use Rattle.dist_audit.proofs.Words.{◌≡◌, drop, falls}
 use Rattle.dist_audit.proofs.checks.falls.Given as goal
 
 -- what is left decides

@@ -1,8 +1,4 @@
-use Rattle.std.proofs.Common.{◌≡◌, drop}
-use Rattle.std.specs.List.{list_any}
-use Rattle.std.specs.Ordering.{nat_cmp}
-use Rattle.std.specs.BTreeSet.{contains}
-use Rattle.dist_locked_book.specs.declared.line.Line.{Line}
+use Rattle.dist_audit.proofs.Words.{◌≡◌, drop, nat_cmp, contains, list_any, Line}
 use Rattle.dist_audit.proofs.checks.has_one_of.Given as goal
 
 -- what is left decides

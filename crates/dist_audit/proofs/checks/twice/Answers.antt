@@ -1,4 +1,4 @@
-use Rattle.std.proofs.Common.{sym, ◌∙◌}
+use Rattle.dist_audit.proofs.Words.{sym, ◌∙◌}
 use Rattle.dist_audit.proofs.Tickets.{twice_part, twice_found, known_more}
 use Rattle.dist_audit.proofs.checks.twice.Goals as goal
 

@@ -1,7 +1,4 @@
-use Rattle.std.proofs.Common.{◌≡◌, ℕ, false, drop}
-use Rattle.std.specs.Ordering.{nat_cmp}
-use Rattle.std.specs.BTreeSet.{contains}
-use Rattle.dist_audit.specs.Faults.{twice, has_ticket_in}
+use Rattle.dist_audit.proofs.Words.{◌≡◌, ℕ, false, drop, nat_cmp, contains, has_ticket_in, twice}
 use Rattle.dist_audit.proofs.checks.twice.Given as goal
 
 -- no ticket of those passed stands twice, and their tickets are known

@@ -1,4 +1,4 @@
-use Rattle.std.proofs.Common.{rules}
+use Rattle.dist_audit.proofs.Words.{rules}
 use Rattle.dist_audit.proofs.happenings.own.Goals as goal
 
 pub returns : goal.returns

@@ -1,5 +1,4 @@
-use Rattle.std.proofs.Common.{◌≡◌, ◌++◌, drop}
-use Rattle.dist_audit.specs.Lines.{lines_at}
+use Rattle.dist_audit.proofs.Words.{◌≡◌, ◌++◌, drop, lines_at}
 use Rattle.dist_audit.proofs.lines.add_lines.Given as goal
 
 -- those that were looked at stand behind what there was

@@ -1,5 +1,4 @@
-use Rattle.std.proofs.Common.{◌≡◌, ◌++◌, drop}
-use Rattle.dist_audit.specs.Lines.{lines_from, lines_by_node}
+use Rattle.dist_audit.proofs.Words.{◌≡◌, ◌++◌, drop, lines_by_node, lines_from}
 use Rattle.dist_audit.proofs.lines.lines_by_node.Given as goal
 
 -- with those that are left it is the whole

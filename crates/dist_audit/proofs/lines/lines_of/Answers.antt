@@ -1,7 +1,5 @@
-use Rattle.std.proofs.Common.{subst, rules}
-use Rattle.std.specs.List.Sorted.{IsPermutation}
+use Rattle.dist_audit.proofs.Words.{IsPermutation, subst, rules, ticket_of}
 use Rattle.std.proofs.lemmas.List.Sorted.{IsNonDecreasingBy-from_sort_by_key}
-use Rattle.dist_audit.specs.Lines.{ticket_of}
 use Rattle.dist_audit.proofs.lines.lines_of.Goals as goal
 
 pub returns : goal.returns

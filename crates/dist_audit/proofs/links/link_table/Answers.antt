@@ -1,4 +1,4 @@
-use Rattle.std.proofs.Common.{◌∙◌}
+use Rattle.dist_audit.proofs.Words.{◌∙◌}
 use Rattle.dist_audit.proofs.Linking.{knows_more, repeat_part, repeat_found}
 use Rattle.dist_audit.proofs.links.link_table.Goals as goal
 

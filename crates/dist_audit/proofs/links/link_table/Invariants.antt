@@ -1,6 +1,4 @@
-use Rattle.std.proofs.Common.{◌≡◌, false, drop}
-use Rattle.dist_audit.specs.Faults.{links_repeat}
-use Rattle.dist_audit.specs.Kept.{Knows}
+use Rattle.dist_audit.proofs.Words.{◌≡◌, false, drop, links_repeat, Knows}
 use Rattle.dist_audit.proofs.links.link_table.Given as goal
 
 -- what those passed say is known, and no link of them stands twice

@@ -1,7 +1,4 @@
-use Rattle.std.proofs.Common.{◌≡◌, false, IfErr, OnOk, sym, subst}
-use Rattle.std.proofs.lemmas.Result.{IfOk-weaker}
-use Rattle.dist_audit.specs.Lines.{AreLinesOf}
-use Rattle.dist_audit.specs.Faults.{Unpairs}
+use Rattle.dist_audit.proofs.Words.{◌≡◌, false, IfErr, OnOk, sym, subst, IfOk-weaker, Unpairs, AreLinesOf}
 use Rattle.dist_audit.proofs.Pairs.{unpaired-alike}
 use Rattle.dist_audit.proofs.pairing.paired_lines.Goals as goal
 

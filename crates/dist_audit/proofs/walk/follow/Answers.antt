@@ -1,7 +1,4 @@
-use Rattle.std.proofs.Common.{rules, subst}
-use Rattle.std.specs.Prelude.{IfErr}
-use Rattle.dist_audit.specs.Audit.{RefusesLine, UnlessShort}
-use Rattle.dist_audit.specs.Lines.{NodeLine}
+use Rattle.dist_audit.proofs.Words.{IfErr, subst, rules, RefusesLine, UnlessShort, NodeLine}
 use Rattle.dist_audit.proofs.walk.follow.Goals as goal
 
 pub returns-clause-which : goal.returns-clause-which

@@ -1,5 +1,4 @@
-use Rattle.std.proofs.Common.{◌≡◌, ap, sym, ◌∙◌, arith, slice_get}
-use Rattle.dist_frames.specs.Stream.{bodies}
+use Rattle.dist_c_guest.proofs.Common.{◌≡◌, slice_get, sym, ap, ◌∙◌, arith, bodies}
 use Rattle.dist_c_guest.proofs.Places.{first_there}
 use Rattle.dist_c_guest.proofs.bodies.body_at.Goals as goal
 

@@ -1,5 +1,4 @@
-use Rattle.std.proofs.Common.{◌≡◌, slice_get}
-use Rattle.dist_frames.specs.Stream.{bodies}
+use Rattle.dist_c_guest.proofs.Common.{◌≡◌, slice_get, bodies}
 use Rattle.dist_c_guest.proofs.bodies.body_at.Given as goal
 
 -- what is looked for is at this place of what is left

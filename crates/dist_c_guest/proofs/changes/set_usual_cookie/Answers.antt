@@ -1,5 +1,4 @@
-use Rattle.std.proofs.Common.{inl}
-use Rattle.dist_core.specs.declared.changing.Change.TheVariants.{UsualCookie}
+use Rattle.dist_c_guest.proofs.Common.{inl, UsualCookie}
 use Rattle.dist_c_guest.proofs.changes.set_usual_cookie.Goals as goal
 
 pub returns-in-Ok : goal.returns-in-Ok

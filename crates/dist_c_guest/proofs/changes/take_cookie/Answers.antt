@@ -1,5 +1,4 @@
-use Rattle.std.proofs.Common.{None, inl}
-use Rattle.dist_core.specs.declared.changing.Change.TheVariants.{Cookie}
+use Rattle.dist_c_guest.proofs.Common.{None, inl, Cookie}
 use Rattle.dist_c_guest.proofs.changes.take_cookie.Goals as goal
 
 pub returns-in-Ok : goal.returns-in-Ok

@@ -1,5 +1,4 @@
-use Rattle.std.proofs.Common.{sym, arith, ℕ}
-use Rattle.std.proofs.lemmas.List.FromFn.{map-range_with_len_more}
+use Rattle.std.proofs.{Common.sym, Common.arith, Common.ℕ, lemmas.List.FromFn.map-range_with_len_more}
 use Rattle.dist_capture.specs.Streams.{first_of, known_at, byte_at}
 use Rattle.dist_capture.proofs.stream.lay.Goals as goal
 

@@ -1,5 +1,4 @@
-use Rattle.std.proofs.Common.{◌≡◌, ◌-◌, ◌+◌, ◌*◌, ◌^◌, suc, sym, ap, ◌∙◌, arith}
-use Rattle.std.proofs.Math.Nat.{pow-suc}
+use Rattle.std.proofs.Common.{◌≡◌, ◌-◌, ◌+◌, ◌*◌, ◌^◌, suc, sym, ap, ◌∙◌, arith, pow-suc}
 use Rattle.dist_capture.proofs.unit.tick_of.Goals as goal
 
 pub loop-preserved : goal.loop-preserved

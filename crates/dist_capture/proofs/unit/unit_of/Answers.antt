@@ -1,6 +1,5 @@
-use Rattle.std.proofs.Common.{sym, subst}
+use Rattle.std.proofs.Common.{sym, subst, length}
 use Rattle.dist_capture.proofs.Units.{Within, block_within}
-use Rattle.std.proofs.Common.{length}
 use Rattle.dist_capture.proofs.unit.unit_of.Goals as goal
 
 pub returns-in-Pcapng-clause-within : goal.returns-in-Pcapng-clause-within

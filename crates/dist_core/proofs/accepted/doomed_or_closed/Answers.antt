@@ -1,4 +1,4 @@
-use Rattle.std.proofs.Common.{rules}
+use Rattle.dist_core.proofs.Words.{rules}
 use Rattle.dist_core.proofs.accepted.doomed_or_closed.Goals as goal
 
 pub returns-in_ok-attempt_in-in-AwaitStatus : goal.returns-in_ok-attempt_in-in-AwaitStatus

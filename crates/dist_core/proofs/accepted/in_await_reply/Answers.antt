@@ -1,4 +1,4 @@
-use Rattle.std.proofs.Common.{rules}
+use Rattle.dist_core.proofs.Words.{rules}
 use Rattle.dist_core.proofs.accepted.in_await_reply.Goals as goal
 
 pub returns-clause-effect : goal.returns-clause-effect

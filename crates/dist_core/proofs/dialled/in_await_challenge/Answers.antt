@@ -1,5 +1,4 @@
-use Rattle.std.proofs.Common.{◌≡◌, ◌∙◌, true, false, sym}
-use Rattle.dist_core.proofs.Words.{knows_six, opens_new}
+use Rattle.dist_core.proofs.Words.{◌≡◌, true, false, sym, ◌∙◌, knows_six, opens_new}
 use Rattle.dist_core.proofs.dialled.in_await_challenge.Goals as goal
 
 pub returns-in-NewChallenge-clause-effect : goal.returns-in-NewChallenge-clause-effect

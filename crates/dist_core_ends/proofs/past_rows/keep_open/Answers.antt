@@ -1,8 +1,4 @@
-use Rattle.std.proofs.Common.{◌∙◌, ap, ℕ, rules, eqb}
-use Rattle.std.specs.Map.{lookup}
-use Rattle.std.proofs.lemmas.Map.Made.{filter_same_pairs}
-use Rattle.dist_core_ends.specs.declared.slots.EndPlace.{EndPlace}
-use Rattle.dist_core_ends.specs.Places.{stays_kept}
+use Rattle.dist_core_ends.proofs.Words.{ℕ, eqb, ap, ◌∙◌, rules, filter_same_pairs, lookup, stays_kept, EndPlace}
 use Rattle.dist_core_ends.proofs.Places.{places-kept}
 use Rattle.dist_core_ends.proofs.past_rows.keep_open.Goals as goal
 

@@ -1,4 +1,4 @@
-use Rattle.std.proofs.Common.{◌<◌, ◌+◌, ◌∙◌, arith, sym, length}
+use Rattle.dist_core_ends.proofs.Words.{◌+◌, ◌<◌, length, sym, ◌∙◌, arith}
 use Rattle.dist_core_ends.proofs.Recent.{forgotten-none, forgotten-next, forgotten-upto}
 use Rattle.dist_core_ends.proofs.rows.forget_first.Goals as goal
 

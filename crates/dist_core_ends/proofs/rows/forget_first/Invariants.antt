@@ -1,5 +1,4 @@
-use Rattle.std.proofs.Common.{◌≡◌}
-use Rattle.dist_core_ends.specs.Keeping.{rows_forgotten}
+use Rattle.dist_core_ends.proofs.Words.{◌≡◌, rows_forgotten}
 use Rattle.dist_core_ends.proofs.rows.forget_first.Given as goal
 
 abbrev pub invariant-loop-i : goal.invariant-loop-i

@@ -1,4 +1,4 @@
-use Rattle.std.proofs.Common.{◌≡◌, ◌≤◌, ◌+◌, ◌++◌, length, take}
+use Rattle.dist_core_ends.proofs.Words.{◌≡◌, ◌+◌, ◌≤◌, ◌++◌, length, take}
 use Rattle.dist_core_ends.proofs.rows.push_all.Given as goal
 
 abbrev pub invariant-loop-row : goal.invariant-loop-row

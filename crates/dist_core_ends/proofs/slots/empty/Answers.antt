@@ -1,4 +1,4 @@
-use Rattle.std.proofs.Common.{rules}
+use Rattle.dist_core_ends.proofs.Words.{rules}
 use Rattle.dist_core_ends.proofs.slots.empty.Goals as goal
 
 pub returns-clause-empty : goal.returns-clause-empty

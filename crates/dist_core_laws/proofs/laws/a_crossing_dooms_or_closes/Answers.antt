@@ -1,5 +1,4 @@
-use Rattle.std.proofs.Common.{refl, ap, ◌∙◌, slice_get}
-use Rattle.dist_core.proofs.Words.{eq-eqb, names, Out}
+use Rattle.dist_core.proofs.Words.{Out, slice_get, refl, ap, ◌∙◌, eq-eqb, names}
 use Rattle.dist_core_laws.proofs.Crossings.{by-end}
 use Rattle.dist_core_laws.proofs.laws.a_crossing_dooms_or_closes.Goals as goal
 

@@ -1,6 +1,5 @@
-use Rattle.std.proofs.Common.{inr, rules}
-use Rattle.dist_drive.proofs.Steps.{newest}
-use Rattle.dist_drive.proofs.Shown.{says_as}
+use Rattle.dist_drive.proofs.Words.{inr, rules}
+use Rattle.dist_drive.proofs.{Shown.says_as, Steps.newest}
 use Rattle.dist_drive.proofs.driving.hand_on.Goals as goal
 
 pub returns-clause-hands : goal.returns-clause-hands

@@ -1,8 +1,6 @@
-use Rattle.std.proofs.Common.{◌≡◌, ◌∙◌, refl, inl, sym, ap, subst, arith}
-use Rattle.dist_drive.proofs.Words.{without_next, Place, EndsSo, Runs, after_step}
-use Rattle.dist_drive.proofs.Keeping.{FrameLaws, none_linked}
+use Rattle.dist_drive.proofs.Words.{◌≡◌, sym, refl, ap, ◌∙◌, subst, inl, arith, without_next, EndsSo, Place, Runs, after_step}
+use Rattle.dist_drive.proofs.{Carrying.finish_at, Carrying.lacks, Carrying.stops, Carrying.moves_on, Carrying.rises_on, Keeping.FrameLaws, Keeping.none_linked}
 use Rattle.dist_drive.proofs.Shown.{at_end, at_err}
-use Rattle.dist_drive.proofs.Carrying.{finish_at, lacks, stops, moves_on, rises_on}
 use Rattle.dist_drive.proofs.driving.hand_on_all.Goals as goal
 
 pub returns-in_err-body-clause-ends : goal.returns-in_err-body-clause-ends

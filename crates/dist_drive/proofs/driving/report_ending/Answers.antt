@@ -1,5 +1,4 @@
-use Rattle.std.proofs.Common.{◌≡◌, List, ◌++◌, refl, sym, subst}
-use Rattle.dist_drive.proofs.Words.{Ending, Step, ReportsLoss}
+use Rattle.dist_drive.proofs.Words.{◌≡◌, List, ◌++◌, sym, refl, subst, Step, ReportsLoss, Ending}
 use Rattle.dist_drive.proofs.Shown.{notes}
 use Rattle.dist_drive.proofs.driving.report_ending.Goals as goal
 

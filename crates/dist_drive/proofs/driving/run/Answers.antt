@@ -1,8 +1,6 @@
-use Rattle.std.proofs.Common.{ℕ, Bool, true, rules, refl, sym, ap, subst, ◌∙◌}
-use Rattle.std.specs.Prelude.{IfErr}
-use Rattle.dist_drive.proofs.Words.{Reader, to_come, Ending, Start, IsOnlyGone, LeavesUnread, Carries, Place, Runs, Goes, after_step}
-use Rattle.dist_drive.proofs.Shown.{first_cut, begins_so, gone_unread, not_refused, at_err}
-use Rattle.dist_drive.proofs.Keeping.{none_linked}
+use Rattle.dist_drive.proofs.Words.{ℕ, Bool, true, IfErr, sym, refl, ap, ◌∙◌, subst, rules, Reader, to_come, Carries, IsOnlyGone, LeavesUnread, Start, Goes}
+use Rattle.dist_drive.proofs.Words.{Place, Runs, after_step, Ending}
+use Rattle.dist_drive.proofs.{Keeping.none_linked, Shown.first_cut, Shown.begins_so, Shown.gone_unread, Shown.not_refused, Shown.at_err}
 use Rattle.dist_drive.proofs.driving.run.Goals as goal
 
 pub returns-in-Err-clause-carries : goal.returns-in-Err-clause-carries

@@ -1,4 +1,4 @@
-use Rattle.std.proofs.Common.{rules}
+use Rattle.dist_drive.proofs.Words.{rules}
 use Rattle.dist_drive.proofs.driving.say_reply.Goals as goal
 
 pub returns-in_err-after_reply-clause-says : goal.returns-in_err-after_reply-clause-says

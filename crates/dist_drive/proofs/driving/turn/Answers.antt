@@ -1,10 +1,6 @@
-use Rattle.std.proofs.Common.{◌≡◌, Bool, arith, [], sym, subst}
-use Rattle.dist_drive.proofs.Words.{EndId, to_come, Ending, Finish, Place, EndsSo, GoesOn}
+use Rattle.dist_drive.proofs.Words.{◌≡◌, Bool, [], sym, subst, arith, IfErr-weaker, IfOk-weaker, to_come, EndId, Finish, EndsSo, GoesOn, Place, Ending}
 use Rattle.dist_core_ends.specs.declared.phase.Still.TheVariants as still
-use Rattle.dist_drive.proofs.Keeping.{FrameLaws}
-use Rattle.dist_drive.proofs.Shown.{ok_so}
-use Rattle.std.proofs.lemmas.Result.{IfErr-weaker, IfOk-weaker}
-use Rattle.dist_drive.proofs.Carrying.{gone, piece_ends, piece_comes}
+use Rattle.dist_drive.proofs.{Carrying.gone, Carrying.piece_ends, Carrying.piece_comes, Keeping.FrameLaws, Shown.ok_so}
 use Rattle.dist_drive.proofs.driving.turn.Goals as goal
 
 pub returns-in-Gone-clause-ends : goal.returns-in-Gone-clause-ends

@@ -1,10 +1,7 @@
-use Rattle.std.proofs.Common.{refl, inl}
+use Rattle.dist_drive.proofs.Words.{refl, inl, Start, Place}
 use Rattle.dist_core_ends.specs.declared.why.Why.TheVariants as why
 use Rattle.dist_drive.specs.declared.outcome.Ending.TheVariants as ending
-use Rattle.dist_drive.proofs.Words.{Start, Place}
-use Rattle.dist_drive.proofs.Keeping.{FrameLaws}
-use Rattle.dist_drive.proofs.Carrying.{lacks}
-use Rattle.dist_drive.proofs.Handshakes.{comes_up}
+use Rattle.dist_drive.proofs.{Carrying.lacks, Handshakes.comes_up, Keeping.FrameLaws}
 use Rattle.dist_drive.proofs.handshaking.handshake.Goals as goal
 
 pub newest_record-requires : goal.newest_record-requires

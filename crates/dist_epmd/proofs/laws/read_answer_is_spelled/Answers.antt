@@ -1,5 +1,4 @@
-use Rattle.std.proofs.Common.{subst}
-use Rattle.dist_epmd.specs.Layout.{SpellsAnswer, AnswerFits}
+use Rattle.dist_epmd.proofs.Words.{subst, AnswerFits, SpellsAnswer}
 use Rattle.dist_epmd.proofs.Messages.{IsReading, answer_again, answer_reading}
 use Rattle.dist_epmd.proofs.laws.read_answer_is_spelled.Goals as goal
 

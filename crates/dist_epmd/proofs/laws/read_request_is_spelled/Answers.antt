@@ -1,5 +1,4 @@
-use Rattle.std.proofs.Common.{subst}
-use Rattle.dist_epmd.specs.Layout.{SpellsRequest, RequestFits}
+use Rattle.dist_epmd.proofs.Words.{subst, RequestFits, SpellsRequest}
 use Rattle.dist_epmd.proofs.Messages.{IsReading, request_again, request_reading}
 use Rattle.dist_epmd.proofs.laws.read_request_is_spelled.Goals as goal
 

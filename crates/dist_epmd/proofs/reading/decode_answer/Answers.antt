@@ -1,6 +1,4 @@
-use Rattle.std.proofs.Common.{arith, subst}
-use Rattle.dist_epmd.specs.Answering.{Answers}
-use Rattle.dist_epmd.specs.Layout.{SpellsAnswer, AnswerFits}
+use Rattle.dist_epmd.proofs.Words.{subst, arith, Answers, AnswerFits, SpellsAnswer}
 use Rattle.dist_epmd.proofs.Messages.{found, refused, answer_again, answer_reading}
 use Rattle.dist_epmd.proofs.reading.decode_answer.Goals as goal
 

@@ -1,6 +1,4 @@
-use Rattle.std.proofs.Common.{arith, subst}
-use Rattle.dist_epmd.specs.Answering.{Answers}
-use Rattle.dist_epmd.specs.Layout.{SpellsRequest, RequestFits}
+use Rattle.dist_epmd.proofs.Words.{subst, arith, Answers, RequestFits, SpellsRequest}
 use Rattle.dist_epmd.proofs.Messages.{found, refused, request_again, request_reading}
 use Rattle.dist_epmd.proofs.reading.decode_request.Goals as goal
 

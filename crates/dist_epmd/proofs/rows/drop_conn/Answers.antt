@@ -1,9 +1,4 @@
-use Rattle.std.proofs.Common.{◌≡◌, ◌∙◌, ap, sym, subst, rules, not}
-use Rattle.std.specs.Prelude.{filter}
-use Rattle.std.specs.Map.{values_of}
-use Rattle.std.proofs.lemmas.Map.Made.{filter_same_pairs}
-use Rattle.dist_epmd.specs.Registrations.{is_of}
-use Rattle.dist_epmd.specs.Named.{StandAtNames}
+use Rattle.dist_epmd.proofs.Words.{◌≡◌, not, filter, sym, ap, ◌∙◌, subst, rules, filter_same_pairs, values_of, StandAtNames, is_of}
 use Rattle.dist_epmd.proofs.Named.{dropped_rows}
 use Rattle.dist_epmd.proofs.rows.drop_conn.Goals as goal
 

@@ -1,8 +1,4 @@
-use Rattle.std.proofs.Common.{◌∙◌, ap, sym, subst}
-use Rattle.std.specs.BTreeMap.{values}
-use Rattle.std.specs.Map.{values_of}
-use Rattle.dist_epmd.specs.Named.{StandAtNames}
-use Rattle.dist_epmd.specs.Registrations.{is_own}
+use Rattle.dist_epmd.proofs.Words.{sym, ap, ◌∙◌, subst, values, values_of, StandAtNames, is_own}
 use Rattle.dist_epmd.proofs.Own.{own_dropped, own_left, none_dropped}
 use Rattle.dist_epmd.proofs.rows.drop_own.Goals as goal
 

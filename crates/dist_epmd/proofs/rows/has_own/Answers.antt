@@ -1,7 +1,4 @@
-use Rattle.std.proofs.Common.{false, sym, ap, ◌∙◌}
-use Rattle.std.specs.Option.{option_map_or}
-use Rattle.std.specs.BTreeMap.{values}
-use Rattle.dist_epmd.specs.Registrations.{is_of}
+use Rattle.dist_epmd.proofs.Words.{false, sym, ap, ◌∙◌, values, option_map_or, is_of}
 use Rattle.dist_epmd.proofs.Own.{own_is}
 use Rattle.dist_epmd.proofs.rows.has_own.Goals as goal
 

@@ -1,5 +1,4 @@
-use Rattle.std.proofs.lemmas.Grind.{common_steps}
-use Rattle.std.proofs.Common.{arith}
+use Rattle.dist_epmd.proofs.Words.{arith, common_steps}
 use Rattle.dist_epmd.proofs.rows.push_lines.Goals as goal
 
 pub loop-row-preserved : goal.loop-row-preserved

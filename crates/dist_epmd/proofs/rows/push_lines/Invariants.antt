@@ -1,7 +1,5 @@
 -- The lines written and the lines of the rows that are left are together all lines.
-use Rattle.std.proofs.Common.{◌≡◌, ◌++◌, flat_map}
-use Rattle.std.specs.BTreeMap.{values}
-use Rattle.dist_epmd.specs.Registrations.{line_of}
+use Rattle.dist_epmd.proofs.Words.{◌≡◌, ◌++◌, flat_map, values, line_of}
 use Rattle.dist_epmd.proofs.rows.push_lines.Given as goal
 
 abbrev pub invariant-loop-row : goal.invariant-loop-row

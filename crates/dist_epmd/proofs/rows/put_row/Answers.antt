@@ -1,6 +1,4 @@
-use Rattle.std.proofs.Common.{◌∙◌, ap, sym, subst}
-use Rattle.std.specs.Map.{values_of}
-use Rattle.dist_epmd.specs.Named.{StandAtNames}
+use Rattle.dist_epmd.proofs.Words.{sym, ap, ◌∙◌, subst, values_of, StandAtNames}
 use Rattle.dist_epmd.proofs.Named.{put_rows}
 use Rattle.dist_epmd.proofs.rows.put_row.Goals as goal
 

@@ -1,7 +1,6 @@
-use Rattle.std.proofs.Common.{sym, subst}
+use Rattle.dist_epmd_calls.proofs.Words.{sym, subst, read_answer, AsksFor, Settles, names_meant}
 use Rattle.dist_epmd.specs.declared.message.Asked.TheVariants as asked
 use Rattle.dist_epmd.specs.declared.message.Request.TheVariants as request
-use Rattle.dist_epmd_calls.proofs.Words.{read_answer, AsksFor, Settles, names_meant}
 use Rattle.dist_epmd_calls.proofs.Asks.{reported, answer_of, refusal_of}
 use Rattle.dist_epmd_calls.proofs.ask.ask_names.Goals as goal
 

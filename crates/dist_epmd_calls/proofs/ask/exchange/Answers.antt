@@ -1,5 +1,4 @@
-use Rattle.std.proofs.Common.{rules, Ok, sym, subst}
-use Rattle.dist_epmd_calls.proofs.Words.{written_request}
+use Rattle.dist_epmd_calls.proofs.Words.{Ok, sym, subst, rules, written_request}
 use Rattle.dist_epmd_calls.proofs.Asks.{Exchanges, reported, asks_in_part, exchange_unheard, exchange_whole, exchange_framed, exchange_none}
 use Rattle.dist_epmd_calls.proofs.ask.exchange.Goals as goal
 

@@ -1,4 +1,4 @@
-use Rattle.std.proofs.Common.{rules}
+use Rattle.dist_epmd_calls.proofs.Words.{rules}
 use Rattle.dist_epmd_calls.proofs.ask.frame_of.Goals as goal
 
 pub returns-in-Err : goal.returns-in-Err

@@ -1,5 +1,5 @@
-use Rattle.std.proofs.Common.{arith, ◌≡◌, false, length, ltb, suc, Ok, Err, sym, subst}
-use Rattle.dist_epmd_calls.proofs.Words.{le-ltb, written_request, read_answer, AsksFor, Settles, info_meant}
+use Rattle.dist_epmd_calls.proofs.Words.{◌≡◌, suc, false, ltb, length, Ok, Err, sym, subst, arith, le-ltb, written_request, read_answer, AsksFor, Settles}
+use Rattle.dist_epmd_calls.proofs.Words.{info_meant}
 use Rattle.dist_epmd.specs.declared.message.Asked.TheVariants as asked
 use Rattle.dist_epmd.specs.declared.message.Request.TheVariants as request
 use Rattle.dist_epmd_calls.proofs.Asks.{Exchanges, reported, unsent, asks_none, fits_frame, answer_of, refusal_of}

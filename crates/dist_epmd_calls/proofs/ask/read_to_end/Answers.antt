@@ -1,5 +1,4 @@
-use Rattle.std.proofs.Common.{◌++◌, take, None, refl}
-use Rattle.dist_epmd_calls.proofs.Words.{Hears-trans}
+use Rattle.dist_epmd_calls.proofs.Words.{◌++◌, take, None, refl, Hears-trans}
 use Rattle.dist_epmd_calls.proofs.ask.read_to_end.Goals as goal
 
 pub returns-then-is_err-clause-hears : goal.returns-then-is_err-clause-hears

@@ -1,6 +1,5 @@
 -- What was read is appended to what was there.
-use Rattle.std.proofs.Common.{◌≡◌, ℕ, List, ◌++◌, None}
-use Rattle.dist_epmd_calls.proofs.Words.{Hears}
+use Rattle.dist_epmd_calls.proofs.Words.{◌≡◌, ℕ, List, ◌++◌, None, Hears}
 use Rattle.dist_epmd_calls.proofs.ask.read_to_end.Given as goal
 
 abbrev pub invariant-loop-count : goal.invariant-loop-count

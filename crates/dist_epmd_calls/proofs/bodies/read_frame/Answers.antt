@@ -1,5 +1,4 @@
-use Rattle.std.proofs.Common.{◌≡◌, ◌≤◌, length, drop, ◌∙◌, arith}
-use Rattle.dist_epmd_calls.proofs.Words.{take_at}
+use Rattle.dist_epmd_calls.proofs.Words.{◌≡◌, ◌≤◌, length, drop, ◌∙◌, arith, take_at}
 use Rattle.dist_epmd_calls.proofs.Arrivals.{frame_cut, frame_whole}
 use Rattle.dist_epmd_calls.proofs.bodies.read_frame.Goals as goal
 

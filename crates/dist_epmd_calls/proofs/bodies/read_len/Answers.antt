@@ -1,7 +1,5 @@
-use Rattle.std.proofs.Common.{arith, sym, subst}
-use Rattle.dist_epmd_calls.proofs.Words.{HearsLen}
-use Rattle.dist_epmd_calls.proofs.Asks.{reported}
-use Rattle.dist_epmd_calls.proofs.Arrivals.{len_cut, len_whole}
+use Rattle.dist_epmd_calls.proofs.Words.{sym, subst, arith, HearsLen}
+use Rattle.dist_epmd_calls.proofs.{Arrivals.len_cut, Arrivals.len_whole, Asks.reported}
 use Rattle.dist_epmd_calls.proofs.bodies.read_len.Goals as goal
 
 pub returns-in_err-read_exact-clause-hears : goal.returns-in_err-read_exact-clause-hears

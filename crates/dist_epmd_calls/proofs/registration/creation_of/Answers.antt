@@ -1,5 +1,4 @@
-use Rattle.std.proofs.Common.{Result, sym, subst}
-use Rattle.dist_epmd_calls.proofs.Words.{Creation, read_answer, LookupError, Settles, creation_meant}
+use Rattle.dist_epmd_calls.proofs.Words.{Result, sym, subst, Creation, read_answer, Settles, creation_meant, LookupError}
 use Rattle.dist_epmd.specs.declared.message.Asked.TheVariants as asked
 use Rattle.dist_epmd_calls.proofs.Creations.{creation_settles}
 use Rattle.dist_epmd_calls.proofs.registration.creation_of.Goals as goal

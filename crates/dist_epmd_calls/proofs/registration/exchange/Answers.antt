@@ -1,7 +1,5 @@
-use Rattle.std.proofs.Common.{rules, sym, subst, refl}
-use Rattle.dist_epmd_calls.proofs.Words.{Registers}
-use Rattle.dist_epmd_calls.proofs.Asks.{reported}
-use Rattle.dist_epmd_calls.proofs.Registering.{registers_in_part, registers_unheard, registers_whole}
+use Rattle.dist_epmd_calls.proofs.Words.{sym, refl, subst, rules, Registers}
+use Rattle.dist_epmd_calls.proofs.{Asks.reported, Registering.registers_in_part, Registering.registers_unheard, Registering.registers_whole}
 use Rattle.dist_epmd_calls.proofs.registration.exchange.Goals as goal
 
 pub returns-in_err-write_all : goal.returns-in_err-write_all

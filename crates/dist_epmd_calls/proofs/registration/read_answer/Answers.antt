@@ -1,4 +1,4 @@
-use Rattle.std.proofs.Common.{◌+◌, ◌-◌, ◌++◌, drop, get_or}
+use Rattle.dist_epmd_calls.proofs.Words.{◌+◌, ◌-◌, ◌++◌, get_or, drop}
 use Rattle.dist_epmd_calls.proofs.Asks.{reported}
 use Rattle.dist_epmd_calls.proofs.Registering.{answer_none, answer_cut, answer_whole, answer_is, first_len, more_len, rest_few}
 use Rattle.dist_epmd_calls.proofs.registration.read_answer.Goals as goal

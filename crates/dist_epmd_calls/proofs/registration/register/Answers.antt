@@ -1,8 +1,6 @@
-use Rattle.std.proofs.Common.{sym, subst}
-use Rattle.dist_epmd_calls.proofs.Words.{written_request, RegistersFor}
+use Rattle.dist_epmd_calls.proofs.Words.{sym, subst, written_request, RegistersFor}
 use Rattle.dist_epmd.specs.declared.message.Request.TheVariants as request
-use Rattle.dist_epmd_calls.proofs.Asks.{reported}
-use Rattle.dist_epmd_calls.proofs.Registering.{registers_unframed, registers_framed}
+use Rattle.dist_epmd_calls.proofs.{Asks.reported, Registering.registers_unframed, Registering.registers_framed}
 use Rattle.dist_epmd_calls.proofs.registration.register.Goals as goal
 
 pub returns-in_err-frame : goal.returns-in_err-frame

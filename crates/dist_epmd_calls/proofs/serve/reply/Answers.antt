@@ -1,5 +1,4 @@
-use Rattle.std.proofs.Common.{[], None, refl, inl}
-use Rattle.dist_epmd_calls.proofs.Words.{Says-none}
+use Rattle.dist_epmd_calls.proofs.Words.{[], None, refl, inl, Says-none}
 use Rattle.dist_epmd_calls.proofs.serve.reply.Goals as goal
 
 pub returns-in_default-clause-says : goal.returns-in_default-clause-says

@@ -1,7 +1,5 @@
-use Rattle.std.proofs.Common.{rules, sym, subst}
-use Rattle.dist_epmd_calls.specs.Serving.{Serves}
-use Rattle.dist_epmd_calls.proofs.Asks.{reported}
-use Rattle.dist_epmd_calls.proofs.Serves.{serves_none, serves_asked}
+use Rattle.dist_epmd_calls.proofs.Words.{sym, subst, rules, Serves}
+use Rattle.dist_epmd_calls.proofs.{Asks.reported, Serves.serves_none, Serves.serves_asked}
 use Rattle.dist_epmd_calls.proofs.serve.serve_registry.Goals as goal
 
 pub returns-in_err-request : goal.returns-in_err-request

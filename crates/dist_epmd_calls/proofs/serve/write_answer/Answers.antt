@@ -1,6 +1,5 @@
-use Rattle.std.proofs.Common.{ap}
-use Rattle.dist_epmd_calls.proofs.Asks.{bad, reported}
-use Rattle.dist_epmd_calls.proofs.Serves.{answer_cut, answer_unsaid, says_as}
+use Rattle.dist_epmd_calls.proofs.Words.{ap}
+use Rattle.dist_epmd_calls.proofs.{Asks.bad, Asks.reported, Serves.answer_cut, Serves.answer_unsaid, Serves.says_as}
 use Rattle.dist_epmd_calls.proofs.serve.write_answer.Goals as goal
 
 pub returns-in-Err-clause-says : goal.returns-in-Err-clause-says

@@ -1,4 +1,4 @@
-use Rattle.std.specs.Int.{w16}
+use Rattle.std.proofs.Common.{w16}
 use Rattle.dist_frames.proofs.Splitting.{wide16, first_framed, after_framed, first_alone, after_alone}
 use Rattle.dist_frames.proofs.laws.frame_in_front.Goals as goal
 

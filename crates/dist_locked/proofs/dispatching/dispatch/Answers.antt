@@ -1,6 +1,5 @@
 use Rattle.std.proofs.Common.{◌+◌, List, [], ◌∷◌, ◌++◌, sym, ap, ◌∙◌, add-one, rules}
-use Rattle.dist_locked.specs.declared.rule.DialOrder.{DialOrder}
-use Rattle.dist_locked.specs.Orders.{orders_below}
+use Rattle.dist_locked.specs.{Orders.orders_below, declared.rule.DialOrder.DialOrder}
 use Rattle.dist_locked.proofs.dispatching.dispatch.Goals as goal
 
 pub loop-number-init : goal.loop-number-init

@@ -1,6 +1,6 @@
 use Rattle.std.proofs.Common.{◌≡◌, [], ap, sym, subst, ◌∙◌}
-use Rattle.dist_locked.specs.Desks.{DeskState, desk_of, seat_facts}
 use Rattle.dist_drive.specs.Driven.{Drives}
+use Rattle.dist_locked.specs.Desks.{DeskState, desk_of, seat_facts}
 use Rattle.dist_locked.proofs.driven.drive_end.Goals as goal
 
 -- the desk as it was made, and as the driver left it

@@ -1,8 +1,6 @@
 use Rattle.std.proofs.Common.{◌≡◌, ◌≤◌, ◌+◌, [], ◌∷◌, ◌++◌, false, Ok, sym, subst, ◌∙◌, arith, rules, vec_len, vec_capacity}
-use Rattle.dist_core.specs.Losses.{is_loss}
-use Rattle.dist_core.specs.Step.{step}
-use Rattle.dist_locked_book.specs.declared.line.Line.{Line}
-use Rattle.dist_locked_book.specs.Opens.{open_count}
+use Rattle.dist_core.specs.{Losses.is_loss, Step.step}
+use Rattle.dist_locked_book.specs.{Opens.open_count, declared.line.Line.Line}
 use Rattle.dist_locked_book.proofs.Histories.{legal-push, room-step}
 use Rattle.dist_locked_book.proofs.book.step_on.Goals as goal
 

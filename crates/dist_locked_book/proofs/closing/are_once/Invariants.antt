@@ -1,5 +1,4 @@
-use Rattle.std.proofs.Common.{◌≡◌, ◌<◌, ℕ, ◌==◌}
-use Rattle.std.specs.List.{count_by}
+use Rattle.std.proofs.Common.{◌≡◌, ◌<◌, ℕ, ◌==◌, count_by}
 use Rattle.dist_locked_book.specs.History.{SeatState}
 use Rattle.dist_locked_book.proofs.closing.are_once.Given as goal
 

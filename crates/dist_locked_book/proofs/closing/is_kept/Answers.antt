@@ -1,7 +1,5 @@
-use Rattle.std.proofs.lemmas.Grind.{common_steps}
-use Rattle.std.proofs.Common.{◌≡◌, ◌↔◌, IsTrue, List, length, nat_eq, subst, arith}
-use Rattle.dist_locked_book.specs.declared.seat.Receipt.{Receipt}
-use Rattle.dist_locked_book.specs.Closing.{receipts_of}
+use Rattle.std.proofs.{Common.◌≡◌, Common.◌↔◌, Common.IsTrue, Common.List, Common.length, Common.nat_eq, Common.subst, Common.arith, lemmas.Grind.common_steps}
+use Rattle.dist_locked_book.specs.{Closing.receipts_of, declared.seat.Receipt.Receipt}
 use Rattle.dist_locked_book.proofs.Closings.{all_seen}
 use Rattle.dist_locked_book.proofs.closing.is_kept.Goals as goal
 

@@ -1,4 +1,4 @@
-use Rattle.std.proofs.Common.{Ok, Err}
+use Rattle.dist_messages.proofs.Words.{Ok, Err}
 use Rattle.dist_messages.specs.declared.message_error.MessageError.TheVariants as errors
 use Rattle.dist_messages.proofs.Writings.{answers_law}
 use Rattle.dist_messages.proofs.laws.causes_of_writing.Goals as goal

@@ -1,6 +1,5 @@
-use Rattle.std.proofs.Common.{arith}
-use Rattle.dist_messages.proofs.Messages.{found_from, only_from}
-use Rattle.dist_messages.proofs.Refusals.{refused_from}
+use Rattle.dist_messages.proofs.Words.{arith}
+use Rattle.dist_messages.proofs.{Messages.found_from, Messages.only_from, Refusals.refused_from}
 use Rattle.dist_messages.proofs.reading.decode.Goals as goal
 
 pub returns-clause-found : goal.returns-clause-found

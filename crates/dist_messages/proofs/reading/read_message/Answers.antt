@@ -1,5 +1,4 @@
-use Rattle.std.proofs.Common.{refl, arith}
-use Rattle.dist_messages.specs.Views.{message_of}
+use Rattle.dist_messages.proofs.Words.{refl, arith, message_of}
 use Rattle.dist_messages.proofs.Messages.{named_has_tag}
 use Rattle.dist_messages.proofs.reading.read_message.Goals as goal
 

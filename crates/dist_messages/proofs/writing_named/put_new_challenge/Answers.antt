@@ -1,5 +1,4 @@
-use Rattle.std.proofs.Common.{◌∷◌, [], ◌++◌, length}
-use Rattle.std.specs.Int.{w16, w32, w64, to_be_bytes}
+use Rattle.dist_messages.proofs.Words.{[], ◌∷◌, ◌++◌, length, w16, w32, w64, to_be_bytes}
 use Rattle.dist_messages.proofs.Putting.{more, last}
 use Rattle.dist_messages.proofs.writing_named.put_new_challenge.Goals as goal
 

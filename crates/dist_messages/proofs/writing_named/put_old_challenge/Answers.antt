@@ -1,6 +1,4 @@
-use Rattle.std.proofs.Common.{◌∷◌, [], ◌++◌}
-use Rattle.std.specs.Int.{w16, w32, to_be_bytes}
-use Rattle.dist_messages.specs.Canonical.{written_version}
+use Rattle.dist_messages.proofs.Words.{[], ◌∷◌, ◌++◌, w16, w32, to_be_bytes, written_version}
 use Rattle.dist_messages.proofs.Putting.{more, last_slice}
 use Rattle.dist_messages.proofs.writing_named.put_old_challenge.Goals as goal
 

@@ -1,6 +1,5 @@
 -- What is written, then the escapes of the bytes that are left: together the escapes of all.
-use Rattle.std.proofs.Common.{◌≡◌, ◌++◌, drop}
-use Rattle.std.specs.String.{string_bytes}
+use Rattle.std.proofs.Common.{◌≡◌, ◌++◌, drop, string_bytes}
 use Rattle.dist_names.specs.Escaped.{escapes_of}
 use Rattle.dist_names.proofs.escaping.escape.Given as goal
 

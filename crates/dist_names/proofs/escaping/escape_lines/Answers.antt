@@ -1,6 +1,4 @@
-use Rattle.std.proofs.Common.{◌<◌, arith}
-use Rattle.std.specs.String.{string_bytes}
-use Rattle.std.proofs.lemmas.List.Elements.{All-from_get_or}
+use Rattle.std.proofs.{Common.◌<◌, Common.arith, Common.string_bytes, lemmas.List.Elements.All-from_get_or}
 use Rattle.dist_names.proofs.Printable.{all_printable_in_lines}
 use Rattle.dist_names.proofs.escaping.escape_lines.Goals as goal
 

@@ -1,7 +1,4 @@
-use Rattle.std.proofs.Common.{◌<◌, arith}
-use Rattle.std.proofs.lemmas.Grind.{common_steps}
-use Rattle.std.specs.String.{string_bytes}
-use Rattle.std.proofs.lemmas.List.Elements.{All-from_get_or}
+use Rattle.std.proofs.{Common.◌<◌, Common.arith, Common.string_bytes, lemmas.Grind.common_steps, lemmas.List.Elements.All-from_get_or}
 use Rattle.dist_names.proofs.Printable.{all_printable_in_quotes}
 use Rattle.dist_names.proofs.escaping.quote.Goals as goal
 

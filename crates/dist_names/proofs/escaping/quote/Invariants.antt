@@ -1,6 +1,5 @@
 -- What is written, then the escapes of the bytes that are left: together a double quote and the escapes of all.
-use Rattle.std.proofs.Common.{◌≡◌, ◌++◌, codes, drop, flat_map}
-use Rattle.std.specs.String.{string_bytes}
+use Rattle.std.proofs.Common.{◌≡◌, ◌++◌, codes, drop, flat_map, string_bytes}
 use Rattle.dist_names.specs.Escaped.{escape_in_quotes}
 use Rattle.dist_names.proofs.escaping.quote.Given as goal
 

@@ -1,7 +1,6 @@
-use Rattle.std.proofs.Common.{◌∙◌}
-use Rattle.std.specs.Ordering.{nat_cmp}
-use Rattle.dist_names.proofs.Fronts.{eight_decide, behind_eight}
+use Rattle.std.proofs.Common.{◌∙◌, nat_cmp}
 use Rattle.dist_names.specs.Order.{name_cmp}
+use Rattle.dist_names.proofs.Fronts.{eight_decide, behind_eight}
 use Rattle.dist_names.proofs.order.+order_of.Goals as goal
 
 pub returns-in-Equal : goal.returns-in-Equal

@@ -1,7 +1,6 @@
 use Rattle.std.proofs.Common.{rules, tests, ◌∙◌}
-use Rattle.std.specs.BTreeMap.Range.{entries_between}
-use Rattle.std.specs.declared.ops.Bound.TheVariants.{Excluded, Unbounded}
 use Rattle.std.proofs.lemmas.Iterator.Consumers.{nth_from_yields_List, YieldsList-from_filter_map, YieldsList-from_rest, YieldsList-at}
+use Rattle.std.specs.{BTreeMap.Range.entries_between, declared.ops.Bound.TheVariants.Excluded, declared.ops.Bound.TheVariants.Unbounded}
 use Rattle.dist_names.specs.Order.{name_cmp}
 use Rattle.dist_peers.proofs.Maps.{same-option}
 use Rattle.dist_peers.proofs.by_name.up_behind.Goals as goal

@@ -1,5 +1,5 @@
-use Rattle.dist_stream.specs.Turns.{fault_of}
 use Rattle.dist_core_setup.specs.Saying.{frame_of}
+use Rattle.dist_stream.specs.Turns.{fault_of}
 use Rattle.dist_probe.proofs.asking.leave_alone.Goals as goal
 
 pub returns-clause-says : goal.returns-clause-says

@@ -1,9 +1,7 @@
-use Rattle.std.proofs.Common.{◌+◌, ◌-◌, ◌++◌, rules, arith, length, take, sym, ap, ◌∙◌, subst, le_refl}
-use Rattle.std.proofs.lemmas.Slice.{take-put_mid_below}
-use Rattle.dist_stream.specs.Turns.{Hears}
-use Rattle.dist_stream.proofs.Talks.{Hears-trans}
-use Rattle.dist_stream.proofs.Rooms.{take_split, slice_range-put_mid}
 use borrow.Rule.Slice.PartMut.{put_mid}
+use Rattle.std.proofs.lemmas.Slice.{take-put_mid_below}
+use Rattle.dist_stream.proofs.Rooms.{take_split, slice_range-put_mid}
+use Rattle.dist_epmd_calls.proofs.Words.{le_refl, Hears, Hears-trans, ◌+◌, ◌-◌, ◌++◌, length, take, sym, ap, ◌∙◌, subst, arith, rules}
 use Rattle.dist_probe.proofs.bodies.fill.Goals as goal
 
 pub loop-at-preserved : goal.loop-at-preserved

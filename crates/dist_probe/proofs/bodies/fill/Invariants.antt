@@ -1,6 +1,5 @@
 -- What was read stands at the front of the buffer.
-use Rattle.std.proofs.Common.{◌≡◌, ◌≤◌, None, length, take}
-use Rattle.dist_stream.specs.Turns.{Hears}
+use Rattle.dist_epmd_calls.proofs.Words.{Hears, ◌≡◌, ◌≤◌, length, take, None}
 use Rattle.dist_probe.proofs.bodies.fill.Given as goal
 
 abbrev pub invariant-loop-at : goal.invariant-loop-at

@@ -1,5 +1,4 @@
-use Rattle.dist_script.proofs.Fronts.{on_err}
-use Rattle.dist_script.proofs.Printing.{put_part}
+use Rattle.dist_script.proofs.{Fronts.on_err, Printing.put_part}
 use Rattle.dist_script.proofs.pieces.put.Goals as goal
 
 pub returns-in_err-put_piece-clause-cut : goal.returns-in_err-put_piece-clause-cut

@@ -1,5 +1,4 @@
-use Rattle.std.proofs.Common.{[], arith, refl}
-use Rattle.std.proofs.lemmas.List.{nil_from_length}
+use Rattle.std.proofs.{Common.[], Common.arith, Common.refl, lemmas.List.nil_from_length}
 use Rattle.dist_script.proofs.Fronts.{on_err, front_none, more_put, all_put, part_put, stopped_put, split_here}
 use Rattle.dist_script.proofs.pieces.put_bytes.Goals as goal
 

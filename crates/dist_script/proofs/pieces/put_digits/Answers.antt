@@ -1,6 +1,5 @@
 use Rattle.std.proofs.Common.{arith}
-use Rattle.dist_script.proofs.Printing.{hex_parts, hex_done}
-use Rattle.dist_script.proofs.Fronts.{on_err, more_put, part_put, all_put}
+use Rattle.dist_script.proofs.{Fronts.on_err, Fronts.more_put, Fronts.part_put, Fronts.all_put, Printing.hex_parts, Printing.hex_done}
 use Rattle.dist_script.proofs.pieces.put_digits.Goals as goal
 
 pub loop-rest-preserved : goal.loop-rest-preserved

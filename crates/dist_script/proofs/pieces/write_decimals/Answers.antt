@@ -1,5 +1,4 @@
-use Rattle.std.proofs.Common.{arith}
-use Rattle.std.proofs.lemmas.Fmt.{length-decimal-le}
+use Rattle.std.proofs.{Common.arith, lemmas.Fmt.length-decimal-le}
 use Rattle.dist_script.proofs.pieces.write_decimals.Goals as goal
 
 pub write_digits-requires : goal.write_digits-requires

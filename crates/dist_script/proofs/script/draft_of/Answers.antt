@@ -1,7 +1,6 @@
 use Rattle.std.proofs.Common.{◌≡◌, ◌⊎◌, ℕ, suc, ◌+◌, List, length, Option, Err, ap, ◌∙◌, arith, Bor, option_copied}
+use Rattle.dist_script.specs.{Scripts.nothing, Scripts.with_lines, Words.lines_of, Words.parts_in, Words.bytes_left}
 use Rattle.dist_script.specs.declared.fault.ScriptFault.TheVariants.{NoMemory}
-use Rattle.dist_script.specs.Words.{lines_of, parts_in, bytes_left}
-use Rattle.dist_script.specs.Scripts.{nothing, with_lines}
 use Rattle.dist_script.proofs.Scripts.{line_taken, line_bad, at_fault}
 use Rattle.dist_script.proofs.script.draft_of.Goals as goal
 

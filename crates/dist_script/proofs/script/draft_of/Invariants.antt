@@ -1,7 +1,5 @@
-use Rattle.std.proofs.Common.{◌≡◌, suc, ◌+◌, ◌≤◌, length}
-use Rattle.std.specs.Prelude.{option_copied}
-use Rattle.dist_script.specs.Words.{lines_of, parts_in, bytes_left}
-use Rattle.dist_script.specs.Scripts.{nothing, with_lines}
+use Rattle.std.proofs.Common.{◌≡◌, suc, ◌+◌, ◌≤◌, length, option_copied}
+use Rattle.dist_script.specs.{Scripts.nothing, Scripts.with_lines, Words.lines_of, Words.parts_in, Words.bytes_left}
 use Rattle.dist_script.proofs.script.draft_of.Given as goal
 
 -- what was read so far, and then the lines that are left, are all lines; and a line was counted for a byte at most

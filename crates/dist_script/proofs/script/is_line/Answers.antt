@@ -1,7 +1,7 @@
 use Rattle.dist_script.specs.Words.{words_of}
 use Rattle.dist_script.proofs.Scripts.{an_event, no_event}
-use Rattle.dist_script.proofs.script.is_line.Goals as goal
 use Rattle.dist_script.proofs.script.is_line.Goals.{in-Ok, in-Err-Bad, in-Err-NoMemory}
+use Rattle.dist_script.proofs.script.is_line.Goals as goal
 
 pub returns : goal.returns
 returns c =

@@ -1,4 +1,4 @@
-use Rattle.std.proofs.Common.{sym}
+use Rattle.dist_script_play.proofs.Words.{sym}
 use Rattle.dist_script_play.proofs.Finding.{ok_all}
 use Rattle.dist_script_play.proofs.agreements.later_ones.Goals as goal
 

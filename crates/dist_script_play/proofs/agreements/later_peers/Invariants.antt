@@ -1,4 +1,4 @@
-use Rattle.dist_script_play.specs.Later.{AreLater}
+use Rattle.dist_script_play.proofs.Words.{AreLater}
 use Rattle.dist_script_play.proofs.agreements.later_peers.Given as goal
 
 -- the places of the rows so far

@@ -1,4 +1,4 @@
-use Rattle.dist_script_play.specs.Later.{ArePlaces}
+use Rattle.dist_script_play.proofs.Words.{ArePlaces}
 use Rattle.dist_script_play.proofs.agreements.places.Given as goal
 
 -- the places of those so far

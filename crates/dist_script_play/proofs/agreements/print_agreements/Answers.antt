@@ -1,4 +1,4 @@
-use Rattle.std.proofs.Common.{length, ap, arith}
+use Rattle.dist_script_play.proofs.Words.{length, ap, arith}
 use Rattle.dist_script_play.proofs.Pairing.{pairs_go_on, pairs_end}
 use Rattle.dist_script_play.proofs.agreements.print_agreements.Goals as goal
 

@@ -1,4 +1,4 @@
-use Rattle.std.proofs.Common.{arith}
+use Rattle.dist_script_play.proofs.Words.{arith}
 use Rattle.dist_script_play.proofs.Pairing.{row_begins, row_goes_on, row_ends, none_left}
 use Rattle.dist_script_play.proofs.agreements.print_later.Goals as goal
 

@@ -1,4 +1,4 @@
-use Rattle.std.proofs.Common.{length}
+use Rattle.dist_script_play.proofs.Words.{length}
 use Rattle.dist_script_play.proofs.Pairing.{RowSoFar}
 use Rattle.dist_script_play.proofs.agreements.print_later.Given as goal
 

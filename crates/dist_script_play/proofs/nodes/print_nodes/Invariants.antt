@@ -1,6 +1,4 @@
-use Rattle.std.proofs.Common.{drop}
-use Rattle.dist_script.proofs.Fronts.{PutSoFar}
-use Rattle.dist_script_play.specs.Worlds.{nodes_from, nodes_text}
+use Rattle.dist_script_play.proofs.Words.{drop, PutSoFar, nodes_from, nodes_text}
 use Rattle.dist_script_play.proofs.nodes.print_nodes.Given as goal
 
 -- the lines of the nodes so far, and of those that are left, are all lines

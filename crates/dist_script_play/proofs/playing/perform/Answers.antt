@@ -1,10 +1,6 @@
-use Rattle.std.proofs.Common.{Ok, Some, None, inl, cond, refl, ap, ◌∙◌}
-use Rattle.dist_script.specs.declared.fault.ScriptFault.TheVariants.{SameName}
+use Rattle.dist_script_play.proofs.Words.{cond, Some, None, Ok, refl, ap, ◌∙◌, inl, Events, Happenings, SameName}
 use Rattle.dist_script.specs.Scripts.{says}
-use Rattle.dist_script.specs.Scripts.Says.{Events, Happenings}
-use Rattle.dist_script_play.proofs.Pages.{at_err}
-use Rattle.dist_script_play.proofs.Lines.{was_played}
-use Rattle.dist_script_play.proofs.Faults.{bad_script, cut_short, stopped_world}
+use Rattle.dist_script_play.proofs.{Faults.bad_script, Faults.cut_short, Faults.stopped_world, Lines.was_played, Pages.at_err}
 use Rattle.dist_script_play.proofs.playing.perform.Goals as goal
 
 pub returns-in-Events-clause-played : goal.returns-in-Events-clause-played

@@ -1,8 +1,5 @@
-use Rattle.std.proofs.Common.{arith}
-use Rattle.dist_script_play.specs.Played.{lines_text}
-use Rattle.dist_script_play.specs.Pages.{PutsPart}
-use Rattle.dist_script_play.proofs.Pages.{at_err}
-use Rattle.dist_script_play.proofs.Lines.{cut_item, all_played, cut_table}
+use Rattle.dist_script_play.proofs.Words.{arith, PutsPart, lines_text}
+use Rattle.dist_script_play.proofs.{Lines.cut_item, Lines.all_played, Lines.cut_table, Pages.at_err}
 use Rattle.dist_script_play.proofs.playing.play_lines.Goals as goal
 
 pub returns-in_err-play_line-clause-cut : goal.returns-in_err-play_line-clause-cut

@@ -1,7 +1,5 @@
-use Rattle.dist_script_play.specs.Played.{at_first, lines_text}
-use Rattle.dist_script_play.specs.Pages.{BreaksOff}
-use Rattle.dist_script_play.proofs.Pages.{at_err}
-use Rattle.dist_script_play.proofs.Lines.{node_breaks}
+use Rattle.dist_script_play.proofs.Words.{BreaksOff, at_first, lines_text}
+use Rattle.dist_script_play.proofs.{Lines.node_breaks, Pages.at_err}
 use Rattle.dist_script_play.proofs.playing.play_node.Goals as goal
 
 pub returns-in_err-finish-clause-cut : goal.returns-in_err-finish-clause-cut

@@ -1,8 +1,6 @@
-use Rattle.dist_script_play.specs.Scenes.{StopsWorld}
-use Rattle.dist_script.proofs.Fronts.{there}
-use Rattle.dist_script_play.proofs.Pages.{at_err}
+use Rattle.dist_script_play.proofs.Words.{there, StopsWorld}
+use Rattle.dist_script_play.proofs.{Faults.of_world, Pages.at_err}
 use Rattle.dist_script_play.proofs.Worlds as worlds
-use Rattle.dist_script_play.proofs.Faults.{of_world}
 use Rattle.dist_script_play.proofs.playing.play_nodes.Goals as goal
 
 pub returns-in_err-finish-clause-fault : goal.returns-in_err-finish-clause-fault

@@ -1,8 +1,4 @@
-use Rattle.std.proofs.Common.{◌∙◌, List, ℕ, [], ◌∷◌, codes, decimal, OnOk, ap, subst}
-use Rattle.std.specs.List.{concat}
-use Rattle.std.specs.Io.KnownBytes.{Appends}
-use Rattle.dist_script.specs.Texts.{text_of, flags_text}
-use Rattle.dist_script_play.specs.Lines.{creation_text}
+use Rattle.dist_script_play.proofs.Words.{ℕ, List, [], ◌∷◌, OnOk, codes, decimal, ap, ◌∙◌, subst, Appends, concat, flags_text, text_of, creation_text}
 use Rattle.dist_script_play.proofs.print.agreement.Goals as goal
 
 pub returns : goal.returns

@@ -1,7 +1,4 @@
-use Rattle.std.proofs.Common.{List, ℕ, [], ◌∷◌, codes, OnOk, ap, subst}
-use Rattle.std.specs.List.{concat}
-use Rattle.std.specs.Io.KnownBytes.{Appends}
-use Rattle.dist_script.specs.Texts.{flags_text}
+use Rattle.dist_script_play.proofs.Words.{ℕ, List, [], ◌∷◌, OnOk, codes, ap, subst, Appends, concat, flags_text}
 use Rattle.dist_script_play.proofs.print.record.Goals as goal
 
 pub returns-in-Some : goal.returns-in-Some

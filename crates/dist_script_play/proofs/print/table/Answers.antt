@@ -1,11 +1,5 @@
-use Rattle.std.proofs.Common.{List, OnOk, subst, arith}
-use Rattle.std.specs.Io.KnownBytes.{Appends}
+use Rattle.dist_script_play.proofs.Words.{List, OnOk, subst, arith, Appends, Name, Entry, table_of, NodeState, more_put}
 use Rattle.std.specs.FinMap as map
-use Rattle.dist_names.specs.Order.{Name}
-use Rattle.dist_peers.specs.declared.entry.Entry.{Entry}
-use Rattle.dist_core_ends.specs.Ends.{table_of}
-use Rattle.dist_core.specs.Node.{NodeState}
-use Rattle.dist_script.proofs.Fronts.{more_put}
 use Rattle.dist_script_play.proofs.Printing.{next_row, all_rows, no_rows}
 use Rattle.dist_script_play.proofs.print.table.Goals as goal
 

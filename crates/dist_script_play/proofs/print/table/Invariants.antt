@@ -1,8 +1,5 @@
-use Rattle.std.proofs.Common.{drop}
+use Rattle.dist_script_play.proofs.Words.{drop, table_of, PutSoFar, rows_text}
 use Rattle.std.specs.FinMap as map
-use Rattle.dist_core_ends.specs.Ends.{table_of}
-use Rattle.dist_script.proofs.Fronts.{PutSoFar}
-use Rattle.dist_script_play.specs.Lines.{rows_text}
 use Rattle.dist_script_play.proofs.print.table.Given as goal
 
 -- the lines of the rows that were looked at, and of those that are left, are all lines

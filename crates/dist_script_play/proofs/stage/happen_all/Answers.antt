@@ -1,8 +1,5 @@
-use Rattle.std.proofs.Common.{arith}
-use Rattle.dist_script_play.specs.Played.{happenings_text}
-use Rattle.dist_script_play.specs.Pages.{PutsPart}
-use Rattle.dist_script_play.proofs.Pages.{at_err}
-use Rattle.dist_script_play.proofs.Stages.{fits_more, one_happened, cut_happened}
+use Rattle.dist_script_play.proofs.Words.{arith, PutsPart, happenings_text}
+use Rattle.dist_script_play.proofs.{Pages.at_err, Stages.fits_more, Stages.one_happened, Stages.cut_happened}
 use Rattle.dist_script_play.proofs.stage.happen_all.Goals as goal
 
 -- no more apply than there are, whose count is a number of 64 bits

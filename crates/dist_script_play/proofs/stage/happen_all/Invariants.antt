@@ -1,4 +1,4 @@
-use Rattle.std.proofs.Common.{length}
+use Rattle.dist_script_play.proofs.Words.{length}
 use Rattle.dist_script_play.proofs.Stages.{HappenedSoFar}
 use Rattle.dist_script_play.proofs.stage.happen_all.Given as goal
 

@@ -1,6 +1,5 @@
-use Rattle.std.proofs.Common.{refl}
-use Rattle.dist_script_play.proofs.Pages.{at_err}
-use Rattle.dist_script_play.proofs.Worlds.{plays, cut_at_end}
+use Rattle.dist_script_play.proofs.Words.{refl}
+use Rattle.dist_script_play.proofs.{Pages.at_err, Worlds.plays, Worlds.cut_at_end}
 use Rattle.dist_script_play.proofs.stage.play.Goals as goal
 
 pub returns-in_err-put_end-clause-cut : goal.returns-in_err-put_end-clause-cut

@@ -1,5 +1,4 @@
-use Rattle.std.proofs.lemmas.Grind.{common_steps}
-use Rattle.std.proofs.Common.{arith}
+use Rattle.std.proofs.{Common.arith, lemmas.Grind.common_steps}
 use Rattle.dist_secret.proofs.cookie.read_text.Goals as goal
 
 pub returns-then-not-all_may_follow : goal.returns-then-not-all_may_follow

@@ -1,5 +1,5 @@
-use Rattle.std.specs.Cmp.Lexicographic.{bytes_decides}
 use Rattle.std.proofs.lemmas.Map.Lookups.{btree_map_eq-Decides}
+use Rattle.std.specs.Cmp.Lexicographic.{bytes_decides}
 use Rattle.dist_secret.proofs.cookies.are_same.Goals as goal
 
 pub returns : goal.returns

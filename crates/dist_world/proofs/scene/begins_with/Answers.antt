@@ -1,5 +1,4 @@
-use Rattle.std.proofs.Common.{◌≡◌, List, ℕ, ◌++◌, length, take, drop, refl, ap, ◌∙◌, sym}
-use Rattle.std.proofs.lemmas.List.{take-append-drop, take_at}
+use Rattle.std.proofs.Common.{◌≡◌, List, ℕ, ◌++◌, length, take, drop, refl, ap, ◌∙◌, sym, take-append-drop, take_at}
 use Rattle.dist_world.proofs.scene.begins_with.Goals as goal
 
 front : (bytes text rest : List ℕ) → bytes ++ rest ≡ text → take (length bytes) text ≡ bytes

@@ -1,5 +1,4 @@
-use Rattle.std.proofs.Common.{◌≡◌, ℕ, ◌<◌, Some, slice_get}
-use Rattle.dist_world_model.proofs.Words.{Setup}
+use Rattle.dist_core.proofs.Words.{◌≡◌, ℕ, ◌<◌, slice_get, Some, Setup}
 use Rattle.dist_world_model.specs.Agreement.{IsSetup}
 use Rattle.dist_world.proofs.setups.all_known.Given as goal
 

@@ -1,7 +1,5 @@
-use Rattle.std.proofs.Common.{◌≡◌, ◌≤◌, false, drop, length}
-use Rattle.std.specs.Prelude.{is_some}
 use Rattle.std.specs.BTreeMap.{get}
-use Rattle.dist_names.specs.Order.{Name, name_cmp}
+use Rattle.dist_core_ends.proofs.Words.{◌≡◌, ◌≤◌, false, length, drop, is_some, Name, name_cmp}
 use Rattle.dist_world.specs.Setups.{is_named, names_repeat}
 use Rattle.dist_world.proofs.setups.names_repeat_in_set.Given as goal
 

@@ -1,5 +1,4 @@
-use Rattle.std.proofs.Common.{◌≡◌, true, ◌∙◌, refl, sym, arith}
-use Rattle.dist_world_model.proofs.Words.{step, runs}
+use Rattle.dist_world_model.proofs.Words.{◌≡◌, true, sym, refl, ◌∙◌, arith, step, runs}
 use Rattle.dist_world_lives.proofs.Notified.{stands, put_back, has_notified, declines_over, declines_refused, refused}
 use Rattle.dist_world_lives.proofs.events.notify.Goals as goal
 

@@ -1,6 +1,5 @@
-use Rattle.std.proofs.Common.{◌≡◌, ◌++◌, take, drop}
+use Rattle.dist_world_model.proofs.Words.{take, ◌≡◌, ◌++◌, drop, shut_all}
 use Rattle.dist_world_lives.proofs.life.shut_all.Given as goal
-use Rattle.dist_world_model.specs.Happenings.{shut_all}
 
 -- the rows so far are shut
 abbrev pub invariant-loop-row : goal.invariant-loop-row

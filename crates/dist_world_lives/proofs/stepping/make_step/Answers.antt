@@ -1,8 +1,7 @@
-use Rattle.std.proofs.Common.{◌≡◌, ◌++◌, Ok, sym, ap, ◌∙◌}
+use Rattle.dist_world_model.proofs.Words.{Reply, ◌≡◌, ◌++◌, Ok, sym, ap, ◌∙◌}
 use Rattle.dist_world_lives.specs.Stepping.{conns_with, undelivered_on}
 use Rattle.dist_world_lives.proofs.Places.{joined_on}
 use Rattle.dist_world_lives.proofs.stepping.make_step.Goals as goal
-use Rattle.dist_core.specs.declared.reply.Reply.{Reply}
 
 pub returns-clause-ok : goal.returns-clause-ok
 returns-clause-ok c =

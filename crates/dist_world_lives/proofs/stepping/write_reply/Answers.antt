@@ -1,5 +1,4 @@
-use Rattle.std.proofs.Common.{◌≡◌, Option, Some, None, is_some, refl}
-use Rattle.dist_world_model.proofs.Words.{UpRecord, rises}
+use Rattle.dist_world_model.proofs.Words.{is_some, UpRecord, ◌≡◌, Some, None, Option, refl, rises}
 use Rattle.dist_world_lives.proofs.Writing.{as_marked}
 use Rattle.dist_world_lives.proofs.stepping.write_reply.Goals as goal
 

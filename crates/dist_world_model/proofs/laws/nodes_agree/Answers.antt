@@ -1,5 +1,4 @@
-use Rattle.dist_world_model.proofs.AgreementOfWorlds.{agreement_holds}
-use Rattle.dist_world_model.proofs.ReachedWorlds.{reached_agree}
+use Rattle.dist_world_model.proofs.{AgreementOfWorlds.agreement_holds, ReachedWorlds.reached_agree}
 use Rattle.dist_world_model.proofs.laws.nodes_agree.Goals as goal
 
 pub returns : goal.returns

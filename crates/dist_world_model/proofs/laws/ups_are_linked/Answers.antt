@@ -1,5 +1,4 @@
-use Rattle.dist_world_model.proofs.EndConnections.{linked_lives}
-use Rattle.dist_world_model.proofs.ReachedWorlds.{counted_on}
+use Rattle.dist_world_model.proofs.{EndConnections.linked_lives, ReachedWorlds.counted_on}
 use Rattle.dist_world_model.proofs.laws.ups_are_linked.Goals as goal
 
 pub returns : goal.returns

@@ -1,5 +1,5 @@
-use Rattle.distnode.specs.Stopped.{StopsRun}
-use Rattle.distnode.proofs.Stopped.{at_err}
+use Rattle.distnode.specs.RunStopped.{StopsRun}
+use Rattle.distnode.proofs.RunStopped.{at_err}
 use Rattle.distnode.proofs.run.perform.Goals as goal
 
 -- there was no plan

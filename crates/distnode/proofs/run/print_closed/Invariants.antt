@@ -1,6 +1,6 @@
 use Rattle.std.proofs.Common.{take}
 use Rattle.std.specs.Io.KnownBytes.{Appends}
-use Rattle.distnode.specs.Printed.{closed_text}
+use Rattle.distnode.specs.RunPrinted.{closed_text}
 use Rattle.distnode.proofs.run.print_closed.Given as goal
 
 -- the lines of those that were looked at stand there

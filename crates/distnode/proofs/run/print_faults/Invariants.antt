@@ -1,6 +1,6 @@
 use Rattle.std.proofs.Common.{take}
 use Rattle.std.specs.Io.KnownBytes.{Appends}
-use Rattle.distnode.specs.Printed.{orders_text}
+use Rattle.distnode.specs.RunPrinted.{orders_text}
 use Rattle.distnode.proofs.run.print_faults.Given as goal
 
 -- the lines of those that were looked at stand there

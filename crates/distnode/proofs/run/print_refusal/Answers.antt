@@ -1,7 +1,7 @@
 use Rattle.std.specs.Io.KnownBytes.{Appends}
 use Rattle.std.proofs.KnownBytes.{Appends-trans}
 use Rattle.std.proofs.lemmas.Result.{on_ok_weaker}
-use Rattle.distnode.specs.Printed.{closed_text, refused_line}
+use Rattle.distnode.specs.RunPrinted.{closed_text, refused_line}
 use Rattle.distnode.proofs.run.print_refusal.Goals as goal
 
 pub returns : goal.returns

@@ -1,8 +1,8 @@
 use Rattle.std.proofs.Common.{◌∙◌, inl, inr, refl, sym, subst}
 use Rattle.dist_script.specs.Texts.{PutsFront}
-use Rattle.dist_commands.specs.Fault.{fault_line}
-use Rattle.distnode.specs.Printed.{PrintsRun}
-use Rattle.distnode.proofs.Stopped.{is_bad, unprinted}
+use Rattle.distnode.specs.Fault.{fault_line}
+use Rattle.distnode.specs.RunPrinted.{PrintsRun}
+use Rattle.distnode.proofs.RunStopped.{is_bad, unprinted}
 use Rattle.distnode.proofs.run.run_nodes.Goals as goal
 
 pub returns-in-Ok-clause-refused : goal.returns-in-Ok-clause-refused

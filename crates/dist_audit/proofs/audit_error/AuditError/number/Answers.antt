@@ -1,4 +1,4 @@
-use Rattle.std.proofs.Common.{rules}
+use Rattle.dist_audit.proofs.Words.{rules}
 use Rattle.dist_audit.proofs.audit_error.AuditError.number.Goals as goal
 
 pub returns-in-TicketTwice : goal.returns-in-TicketTwice

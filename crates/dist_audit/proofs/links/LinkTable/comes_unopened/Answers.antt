@@ -1,4 +1,4 @@
-use Rattle.std.proofs.Common.{◌∙◌}
+use Rattle.dist_audit.proofs.Words.{◌∙◌}
 use Rattle.dist_audit.proofs.Linking.{all_unknown}
 use Rattle.dist_audit.proofs.links.LinkTable.comes_unopened.Goals as goal
 

@@ -1,7 +1,4 @@
-use Rattle.std.proofs.Common.{◌≡◌, drop}
-use Rattle.std.specs.List.{list_any}
-use Rattle.dist_audit.specs.Kept.{is_unknown}
-use Rattle.dist_audit.specs.Lines.{NodeLine}
+use Rattle.dist_audit.proofs.Words.{◌≡◌, drop, list_any, is_unknown, NodeLine}
 use Rattle.dist_audit.proofs.links.LinkTable.has_unknown.Given as goal
 
 -- what is left decides

@@ -1,8 +1,4 @@
-use Rattle.std.proofs.Common.{◌≡◌, ◌∙◌, ℕ, OnOk, Some, if◌then◌else◌, subst}
-use Rattle.std.specs.Ordering.{nat_cmp}
-use Rattle.std.specs.BTreeMap.{get}
-use Rattle.dist_locked_book.specs.declared.line.Line.{Line}
-use Rattle.dist_audit.specs.Links.{comes, dialled_end, or_else}
+use Rattle.dist_audit.proofs.Words.{◌≡◌, ℕ, if◌then◌else◌, OnOk, Some, nat_cmp, ◌∙◌, subst, get, Line, comes, dialled_end, or_else}
 use Rattle.dist_audit.proofs.links.LinkTable.learn.Goals as goal
 
 pub returns-clause-diallers : goal.returns-clause-diallers

@@ -1,5 +1,4 @@
-use Rattle.std.proofs.Common.{ap, ◌∙◌}
-use Rattle.dist_audit.specs.Links.{conn_of}
+use Rattle.dist_audit.proofs.Words.{ap, ◌∙◌, conn_of}
 use Rattle.dist_audit.proofs.Mentioning.{number_found, number_absent}
 use Rattle.dist_audit.proofs.mentions.Mentioned.conn_of.Goals as goal
 

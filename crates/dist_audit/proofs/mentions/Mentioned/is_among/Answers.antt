@@ -1,5 +1,4 @@
-use Rattle.std.proofs.Common.{ap, ◌∙◌}
-use Rattle.dist_audit.specs.Links.{is_among}
+use Rattle.dist_audit.proofs.Words.{ap, ◌∙◌, is_among}
 use Rattle.dist_audit.proofs.Mentioning.{among}
 use Rattle.dist_audit.proofs.mentions.Mentioned.is_among.Goals as goal
 

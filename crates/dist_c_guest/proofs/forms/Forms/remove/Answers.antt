@@ -1,6 +1,4 @@
-use Rattle.std.proofs.Common.{rules, not, List, ap, ◌∙◌}
-use Rattle.std.proofs.lemmas.Fn.{filter_same}
-use Rattle.dist_names.specs.Order.{Name, same_name}
+use Rattle.dist_c_guest.proofs.Common.{not, List, ap, ◌∙◌, rules, filter_same, Name, same_name}
 use Rattle.dist_core_setup.specs.Changing.{without_name}
 use Rattle.dist_c_guest.proofs.forms.Forms.remove.Goals as goal
 

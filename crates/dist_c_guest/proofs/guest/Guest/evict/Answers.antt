@@ -1,4 +1,4 @@
-use Rattle.std.proofs.Common.{refl}
+use Rattle.dist_c_guest.proofs.Common.{refl}
 use Rattle.dist_c_guest.proofs.Pending.{room-made}
 use Rattle.dist_c_guest.proofs.guest.Guest.evict.Goals as goal
 

@@ -1,48 +1,22 @@
 -- `into_box` hands what the parts own to `from_raw`.
-use mathlib.Core.Path.{◌≡◌, refl, sym, subst, ap}
-use mathlib.Core.List.{List, [], ◌∷◌, ◌++◌}
-use lib.Dec.{T}
-use seplogic.Ra.Ura.{Ura}
-use mir.Syntax.{Fn, Body, place, copy, assign, rv_opd, seq, return}
-use mir.MapTy.{inst_fn}
-use mir.Val.{Val, vptr, has_ty, WT}
-use base.Logic.{SProp, ent, id⊢}
-use base.Fml.{ftrue, fsep, flft}
-use contract.BorrowLft.{◌⊑◌}
-use prog.Memory.{Memory}
-use prog.Routine.{Routine}
-use prog.Wp.{WpFn, Tables}
-use types.Logic.{Logic}
-use contract.Monad.{Fun, fact}
-use contract.Running.{tables, tables_of}
+use Rattle.dist_c_guest.proofs.Walks.{flft, fsep, ftrue, SProp, ent, id⊢, fact, tables, no, RattleType, block_ptr, plain, heard, nothing, only, calls_at_last}
+use Rattle.dist_c_guest.proofs.Walks.{Clauses, Ended, triple_of, Contract, Triple, entered, Stays, ends_at, says, stay_dropped, walk_Meets, walk_of, inst_fn}
+use Rattle.dist_c_guest.proofs.Walks.{Memory, Routine, Tables, WpFn, Ura, alloc_all, env, free_all, get, get_in, lands_last, look_at, pass_all, sets, drop, ! }
+use Rattle.dist_c_guest.proofs.Walks.{Item, at_ret, await, by, done, feq_i, fjoin, fsplit, join, later, move, pick, qed, raw, rewrite, some, split, split3}
+use Rattle.dist_c_guest.proofs.Walks.{suffices, use1, ‵, ◌$◌, ◌∵◌, ◌⊛◌, Logic, sub, whole, and_then, blocks, enter, exec, first, fld, no_more, of_opd, returns}
+use Rattle.dist_c_guest.proofs.Walks.{stop, ◌≡◌, T, List, [], ◌∷◌, ◌++◌, sym, refl, ap, subst, Goes-blank, token, box_owns, B, Bx, D, P, R, args, box_ty}
+use Rattle.dist_c_guest.proofs.Walks.{box_typed, word, box_in, box_out}
+use contract.{BorrowLft.◌⊑◌, Monad.Fun, Running.tables_of}
+use mir.{Syntax.Fn, Syntax.Body, Syntax.place, Syntax.copy, Syntax.assign, Syntax.rv_opd, Syntax.seq, Syntax.return, Val.Val, Val.vptr, Val.has_ty, Val.WT}
 use sound.WpLaws.{fm_of, WpFn-mono}
-use types.Kit.{Item, at_ret, ‵, raw, ◌⊛◌, some, later, ◌$◌, ◌∵◌, !, qed, by, move, drop, use1, join, split, split3, pick, rewrite, fsplit, fjoin, feq_i, suffices, await, done}
-use types.Part.{whole, sub}
-use types.Run.{stop, fld, no_more, and_then, of_opd, returns, enter, first, blocks, exec}
-use types.ByLocal.{alloc_all, pass_all, free_all, look_at, get, get_in, sets, lands_last, env}
-use denote.RattleType.{RattleType}
-use denote.Exit.{no}
-use denote.RawPtr.{block_ptr}
-use denote.Signature.{plain}
-use denote.Steps.{heard, nothing, only}
-use denote.Triple.Call.{calls_at_last}
-use denote.Triple.Clauses.{Ended, Clauses}
-use denote.Triple.Spec.{triple_of}
-use denote.Triple.Statement.{Triple, Contract}
-use denote.Triple.Table.{entered}
-use denote.Triple.Walked.{says, Stays, stay_dropped, walk_of, ends_at, walk_Meets}
-use Rattle.core.proofs.alloc.Calls.{token, Goes-blank}
-use Rattle.std_alloc.specs.Box.Ownership.{box_owns}
-use Rattle.std_alloc.proofs.BoxSteps.Form.{Bx, D, R, P, B, args, box_ty, word, box_typed}
-use Rattle.std_alloc.proofs.BoxSteps.Steps.{box_out, box_in}
-use Rattle.dist_c_guest.specs.contracts.parts.Parts as parts
 use Rattle.std_alloc.specs.contracts.boxed.Box.from_raw as Fr
-use Rattle.std_alloc.proofs.boxed.Box.from_raw.Symbol as raw_sym
 use Rattle.std_alloc.proofs.boxed.Box.from_raw.Met as raw_met
-use Rattle.dist_c_guest.specs.contracts.parts.Parts.into_box as F
+use Rattle.std_alloc.proofs.boxed.Box.from_raw.Symbol as raw_sym
 use Rattle.dist_c_guest.specs.contracts.parts.Parts.into_box.Key.{name as #self}
-use Rattle.dist_c_guest.proofs.parts.Parts.into_box.Statement as stated
+use Rattle.dist_c_guest.specs.contracts.parts.Parts as parts
+use Rattle.dist_c_guest.specs.contracts.parts.Parts.into_box as F
 use Rattle.dist_c_guest.proofs.parts.Parts.into_box.Code as code
+use Rattle.dist_c_guest.proofs.parts.Parts.into_box.Statement as stated
 
 abbrev rest : Body
 rest = seq (assign (place 0 []) (rv_opd (copy (place 4 [])))) return

@@ -1,50 +1,22 @@
 -- `of` takes the box apart, and the parts own what it owned.
-use mathlib.Core.Path.{◌≡◌, refl, sym, subst, ap, ◌∙◌}
-use mathlib.Core.List.{List, [], ◌∷◌, ◌++◌}
-use seplogic.Ra.Ura.{Ura}
-use mir.Syntax.{Fn, Args, Dict, a_type, dcons, dnil}
-use mir.MapTy.{inst_fn}
-use mir.Raw.{raw as bare}
-use mir.Val.{Val, vstruct, of_list}
-use base.Logic.{SProp, ent, id⊢, never, fst∗}
-use base.Fml.{ftrue, fsep, flft}
-use contract.BorrowLft.{◌⊑◌}
-use prog.Memory.{Memory}
-use prog.Routine.{Routine}
-use prog.Wp.{WpFn, Tables}
-use types.Logic.{Logic, sem}
-use contract.Monad.{Fun, fact}
-use contract.Running.{tables, tables_of}
+use Rattle.dist_c_guest.proofs.Walks.{flft, fsep, ftrue, SProp, ent, fst∗, id⊢, never, fact, tables, no, bounded, RattleType, Ptr, RawPtr, block_ptr}
+use Rattle.dist_c_guest.proofs.Walks.{in_a_block, null_ptr, ptr_val, plain, heard, nothing, only, Tuple, calls_at, Clauses, Ended, triple_of, Contract, Triple}
+use Rattle.dist_c_guest.proofs.Walks.{entered, Stays, ends_at, says, stay_dropped, walk_Meets, walk_of, inst_fn, Memory, Routine, Tables, WpFn, Ura, alloc_all}
+use Rattle.dist_c_guest.proofs.Walks.{free_all, get, get_in, lands_as, look_at, pass_all, sets, drop, !, Item, await, by, done, feq_l, fjoin, fpick, fsplit}
+use Rattle.dist_c_guest.proofs.Walks.{join, later, move, pick, qed, raw, rewrite, some, split, split3, suffices, use1, ‵, ◌$◌, ◌∵◌, ◌⊛◌, Logic, sem, agg, sub}
+use Rattle.dist_c_guest.proofs.Walks.{whole, and_then, enter, fld, no_more, of_opd, returns, stop, ◌≡◌, List, [], ◌∷◌, ◌++◌, sym, refl, ap, ◌∙◌, subst}
+use Rattle.dist_c_guest.proofs.Walks.{Goes-blank, handle_tells, token, box_owns, B, Bx, D, P, R, box_typed, word, τ, box_in, box_out}
+use contract.{BorrowLft.◌⊑◌, Monad.Fun, Running.tables_of}
+use mir.{Raw.raw as bare, Syntax.Fn, Syntax.Args, Syntax.Dict, Syntax.a_type, Syntax.dcons, Syntax.dnil, Val.Val, Val.vstruct, Val.of_list}
 use sound.WpLaws.{fm_of, WpFn-mono}
-use types.Kit.{Item, ‵, raw, ◌⊛◌, some, later, ◌$◌, ◌∵◌, !, qed, by, move, drop, use1, join, split, split3, pick, rewrite, fsplit, fjoin, fpick, feq_l, suffices, await, done}
-use types.Part.{whole, sub, agg}
-use types.Run.{stop, fld, no_more, and_then, of_opd, returns, enter}
-use types.ByLocal.{alloc_all, pass_all, free_all, look_at, get, get_in, sets, lands_as}
-use denote.RattleType.{RattleType}
-use denote.Exit.{no}
-use denote.Param.{bounded}
-use denote.RawPtr.{Ptr, RawPtr, block_ptr, null_ptr, ptr_val, in_a_block}
-use denote.Signature.{plain}
-use denote.Steps.{heard, nothing, only}
-use denote.Struct.Tuple.{Tuple}
-use denote.Triple.Call.{calls_at}
-use denote.Triple.Clauses.{Ended, Clauses}
-use denote.Triple.Spec.{triple_of}
-use denote.Triple.Statement.{Triple, Contract}
-use denote.Triple.Table.{entered}
-use denote.Triple.Walked.{says, Stays, stay_dropped, walk_of, ends_at, walk_Meets}
-use Rattle.core.proofs.alloc.Calls.{token, handle_tells, Goes-blank}
-use Rattle.std_alloc.specs.Box.Ownership.{box_owns}
-use Rattle.std_alloc.proofs.BoxSteps.Form.{Bx, D, τ, R, P, B, word, box_typed}
-use Rattle.std_alloc.proofs.BoxSteps.Steps.{box_out, box_in}
-use Rattle.dist_c_guest.specs.contracts.parts.Parts as parts
 use Rattle.std_alloc.specs.contracts.boxed.Box.into_raw_with_allocator as Ra
-use Rattle.std_alloc.proofs.boxed.Box.into_raw_with_allocator.Symbol as raw_sym
 use Rattle.std_alloc.proofs.boxed.Box.into_raw_with_allocator.Met as raw_met
-use Rattle.dist_c_guest.specs.contracts.parts.Parts.of as F
+use Rattle.std_alloc.proofs.boxed.Box.into_raw_with_allocator.Symbol as raw_sym
 use Rattle.dist_c_guest.specs.contracts.parts.Parts.of.Key.{name as #self}
-use Rattle.dist_c_guest.proofs.parts.Parts.of.Statement as stated
+use Rattle.dist_c_guest.specs.contracts.parts.Parts as parts
+use Rattle.dist_c_guest.specs.contracts.parts.Parts.of as F
 use Rattle.dist_c_guest.proofs.parts.Parts.of.Code as code
+use Rattle.dist_c_guest.proofs.parts.Parts.of.Statement as stated
 
 module _ (E : Bx) (dx : Dict) where
   abbrev args : Args

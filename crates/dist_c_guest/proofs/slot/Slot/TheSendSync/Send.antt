@@ -1,19 +1,10 @@
 -- A slot may go to another thread: what it owns says the same in each.
+use Rattle.dist_c_guest.proofs.Walks.{Keyless, lone, Ptr, fields, shape, to, Some, None, Option, chunk-Keyless, lies, quiet}
+use denote.{Param.Send.IsSend, Param.Send.AllSend, Param.Send.owning_send, Param.Send.struct_send, Param.Send.sendable, Struct.Struct.exits_of}
 use mir.Raw.{raw}
-use base.Shift.{Keyless}
-use denote.Memory.{lone}
-use denote.RawPtr.{Ptr}
-use denote.Struct.Struct.{exits_of}
-use denote.Struct.Owning.{shape, fields, to}
-use denote.Param.Send.{IsSend, AllSend, owning_send, struct_send, sendable}
-use Rattle.std.specs.Prelude.{Option, Some, None}
-use Rattle.std_alloc.proofs.SendSync.{quiet, lies}
-use Rattle.libc.specs.Heap.{chunk-Keyless}
-use Rattle.dist_c_guest.specs.declared.guest.Guest.{Guest}
+use Rattle.dist_c_guest.specs.{Kept.owns_guest, contracts.slot.Slot.the_row, contracts.slot.Slot.the_type, declared.guest.Guest.Guest}
 use Rattle.dist_c_guest.specs.contracts.guest.Guest as guest
 use Rattle.dist_c_guest.proofs.guest.Guest.TheSendSync.{the_send}
-use Rattle.dist_c_guest.specs.Kept.{owns_guest}
-use Rattle.dist_c_guest.specs.contracts.slot.Slot.{the_row, the_type}
 
 kept_crosses : (p : Ptr) (held : Option Guest) → Keyless (owns_guest p held)
 kept_crosses p None = tt

@@ -1,42 +1,16 @@
 -- `lend` lends the guest at the pointer, and the slot follows it.
-use Rattle.std.proofs.Common.{◌≡◌, ℕ, MutBor, List, [], ◌∷◌, refl, sym, ap, ◌∙◌}
-use Rattle.std.specs.Prelude.{Option, Some}
-use seplogic.Ra.Ura.{Ura}
-use mir.Raw.{raw as bare}
-use mir.Syntax.{named}
-use mir.Val.{Val, vptr, vstruct, vcons, vnil}
-use base.Fraction.{full_share}
-use base.Logic.{ent, sep, never, fst∗, id⊢}
-use base.Fml.{Fml, GName, ftrue, flft, fsep}
-use types.Logic.{Logic, sem}
-use types.Kit.{‵, raw, ◌⊛◌, some, later, at_ret, ◌$◌, ◌∵◌, !, qed, by, move, keep, use1, split, join, pick, await, group, fsplit, fsplit3, fjoin, fpack, rewrite, suffices, frame, done}
-use types.Run.{stop, fld, load, of_opd, addr, first, blocks, exec, returns, enter}
-use types.ByLocal.{alloc_all, pass_all, free_all, look_at, get, through, sets, sets_last, env}
-use types.Part.{sub, whole, look_in}
-use contract.Monad.{fact}
-use contract.Running.{tables}
-use denote.Exit.{no}
-use denote.Follow.{follows, Part, lends_Part}
-use denote.Laws.{Is, shows}
-use denote.Memory.{cell_at, lone, mem, part_at, part_of}
-use denote.RawPtr.{Ptr, block_ptr, null_ptr, in_a_block}
-use denote.Ref.{MutRef, mut_vals, mut_Tells}
-use denote.Signature.{plain, mut_ref_to}
-use denote.Steps.{nothing, heard, opens, peeks}
-use denote.Struct.Owning.{shape, to}
-use denote.Struct.Struct.{Struct}
-use denote.Triple.Walked.{Stays, says, stay_dropped, walk_of, ends_at, Goes-spent_ref}
-use Rattle.libc.specs.Heap.{chunk}
-use Rattle.std.proofs.raw_atomic.Walks.{proved}
-use Rattle.dist_c_guest.specs.declared.guest.Guest.{Guest}
-use Rattle.dist_c_guest.specs.contracts.guest.Guest.{the_row as G}
-use Rattle.dist_c_guest.specs.Kept.{owns_guest}
-use Rattle.dist_c_guest.specs.Lending.{holding}
-use Rattle.dist_c_guest.specs.declared.slot.Slot.{Slot}
+use Rattle.dist_c_guest.proofs.Walks.{Fml, GName, flft, fsep, ftrue, full_share, ent, fst∗, id⊢, never, sep, fact, tables, no, Is, shows, cell_at, lone, mem}
+use Rattle.dist_c_guest.proofs.Walks.{part_at, Ptr, block_ptr, in_a_block, null_ptr, plain, heard, nothing, opens, peeks, shape, to, Goes-spent_ref, Stays}
+use Rattle.dist_c_guest.proofs.Walks.{ends_at, says, stay_dropped, walk_of, Ura, alloc_all, env, free_all, get, look_at, pass_all, sets, sets_last, through, ! }
+use Rattle.dist_c_guest.proofs.Walks.{at_ret, await, by, done, fjoin, fpack, frame, fsplit, fsplit3, group, join, keep, later, move, pick, qed, raw, rewrite}
+use Rattle.dist_c_guest.proofs.Walks.{some, split, suffices, use1, ‵, ◌$◌, ◌∵◌, ◌⊛◌, Logic, sem, look_in, sub, whole, addr, blocks, enter, exec, first, fld}
+use Rattle.dist_c_guest.proofs.Walks.{load, of_opd, returns, stop, ◌≡◌, ℕ, List, [], ◌∷◌, Some, Option, sym, refl, ap, ◌∙◌, MutBor, proved, chunk}
+use denote.{Follow.follows, Follow.Part, Follow.lends_Part, Memory.part_of, Ref.MutRef, Ref.mut_vals, Ref.mut_Tells, Signature.mut_ref_to, Struct.Struct.Struct}
+use mir.{Raw.raw as bare, Syntax.named, Val.Val, Val.vptr, Val.vstruct, Val.vcons, Val.vnil}
+use Rattle.dist_c_guest.specs.{Kept.owns_guest, Lending.holding, contracts.guest.Guest.the_row as G, declared.guest.Guest.Guest, declared.slot.Slot.Slot}
 use Rattle.dist_c_guest.specs.contracts.slot.Slot.{the_row as R, the_type}
-use Rattle.dist_c_guest.proofs.slot.Slot.TheLaws.{lowers}
 use Rattle.dist_c_guest.specs.contracts.slot.Slot.lend as f
-use Rattle.dist_c_guest.proofs.slot.Slot.lend.Statement.{statement}
+use Rattle.dist_c_guest.proofs.slot.Slot.{TheLaws.lowers, lend.Statement.statement}
 use Rattle.dist_c_guest.proofs.slot.Slot.lend.Code as code
 
 abbrev stayed : Stays f.ended.signature.params f.ended.kept

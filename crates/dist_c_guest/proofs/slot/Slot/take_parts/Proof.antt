@@ -1,40 +1,15 @@
 -- `take_parts` reads the pointer, and what the slot owned goes with it.
-use Rattle.std.proofs.Common.{◌≡◌, List, [], ◌∷◌, ◌++◌, refl, sym, ap, ◌∙◌, subst}
-use Rattle.std.specs.Prelude.{Option, Some, None}
-use mir.Raw.{raw as bare}
-use mir.Val.{Val, vptr, vstruct, vcons, vnil}
-use base.Fraction.{full_share}
-use base.Logic.{SProp, ent, emp, never, id⊢, fst∗}
-use base.Fml.{ftrue, flft}
-use prog.Wp.{WpFn}
-use types.Logic.{sem}
-use types.Kit.{‵, raw, ◌⊛◌, ◌$◌, ◌∵◌, !, qed, by, move, keep, use0, use1, split, join, fsplit, fsplit3, fjoin, fjoin3, rewrite, suffices}
-use types.Run.{stop, fld, load, of_opd, no_more, and_then, returns, enter}
-use types.ByLocal.{alloc_all, pass_all, free_all, look_at, get, through, sets}
-use types.Part.{agg, sub, whole, look_in}
-use contract.Monad.{fact, fact_i}
-use contract.Running.{tables}
-use denote.Exit.{yes}
-use denote.RattleType.{owns}
-use denote.Signature.{types_at, plain}
-use denote.Laws.{Is, shows}
-use denote.Memory.{cell_at}
-use denote.RawPtr.{Ptr, block_ptr, null_ptr, in_a_block}
-use denote.Steps.{nothing, heard, opens, closes, peeks}
-use denote.Param.{layout}
-use denote.Triple.Walked.{Stays, stay_ref, stay_dropped, walk_of, Goes-ref, Goes-dropped}
-use Rattle.core.proofs.alloc.Calls.{token, handle_tells}
-use Rattle.std_alloc.proofs.BoxSteps.Form.{D, word, box_typed}
-use Rattle.std_alloc.proofs.BoxSteps.Steps.{box_in}
+use Rattle.dist_c_guest.proofs.Walks.{flft, ftrue, full_share, SProp, emp, ent, fst∗, id⊢, never, fact, fact_i, tables, yes, Is, shows, cell_at, layout, owns}
+use Rattle.dist_c_guest.proofs.Walks.{Ptr, block_ptr, in_a_block, null_ptr, plain, types_at, closes, heard, nothing, opens, peeks, Goes-dropped, Goes-ref}
+use Rattle.dist_c_guest.proofs.Walks.{Stays, stay_dropped, stay_ref, walk_of, WpFn, alloc_all, free_all, get, look_at, pass_all, sets, through, !, by, fjoin}
+use Rattle.dist_c_guest.proofs.Walks.{fjoin3, fsplit, fsplit3, join, keep, move, qed, raw, rewrite, split, suffices, use0, use1, ‵, ◌$◌, ◌∵◌, ◌⊛◌, sem, agg}
+use Rattle.dist_c_guest.proofs.Walks.{look_in, sub, whole, and_then, enter, fld, load, no_more, of_opd, returns, stop, ◌≡◌, List, [], ◌∷◌, ◌++◌, Some, None}
+use Rattle.dist_c_guest.proofs.Walks.{Option, sym, refl, ap, ◌∙◌, subst, leaves, proved_at, handle_tells, token, D, box_typed, word, box_in}
+use mir.{Raw.raw as bare, Val.Val, Val.vptr, Val.vstruct, Val.vcons, Val.vnil}
 use Rattle.std_heap.specs.contracts.Global as Heap
-use Rattle.std.proofs.raw_atomic.Walks.{proved_at, leaves}
-use Rattle.dist_c_guest.proofs.AsBox.{E, Whole}
-use Rattle.dist_c_guest.specs.Kept.{owns_guest}
-use Rattle.dist_c_guest.specs.declared.guest.Guest.{Guest}
-use Rattle.dist_c_guest.specs.contracts.slot.Slot.{the_row as R}
-use Rattle.dist_c_guest.proofs.slot.Slot.TheLaws.{lowers}
+use Rattle.dist_c_guest.specs.{Kept.owns_guest, contracts.slot.Slot.the_row as R, declared.guest.Guest.Guest}
 use Rattle.dist_c_guest.specs.contracts.slot.Slot.take_parts as f
-use Rattle.dist_c_guest.proofs.slot.Slot.take_parts.Statement.{statement}
+use Rattle.dist_c_guest.proofs.{AsBox.E, AsBox.Whole, slot.Slot.TheLaws.lowers, slot.Slot.take_parts.Statement.statement}
 use Rattle.dist_c_guest.proofs.slot.Slot.take_parts.Code as code
 
 abbrev stayed : Stays f.ended.signature.params f.ended.kept

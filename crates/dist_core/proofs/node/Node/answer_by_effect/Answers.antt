@@ -1,6 +1,5 @@
-use Rattle.std.proofs.Common.{sym, subst}
-use Rattle.dist_core.proofs.Words.{GivesReply, Event}
-use Rattle.dist_core.specs.Step.{effect_of, step}
+use Rattle.dist_core.proofs.Words.{sym, subst, GivesReply, step, Event}
+use Rattle.dist_core.specs.Step.{effect_of}
 use Rattle.dist_core.proofs.node.Node.answer_by_effect.Goals as goal
 
 pub returns-in-Dial-clause-answer : goal.returns-in-Dial-clause-answer

@@ -1,5 +1,4 @@
-use Rattle.std.proofs.Common.{◌≡◌, ◌∙◌, Option, Some, Ok, sym, ap, slice_get}
-use Rattle.dist_core.proofs.Words.{End, NodeState, effect_by, at_end, framed_from, sender_to}
+use Rattle.dist_core.proofs.Words.{◌≡◌, slice_get, Some, Ok, Option, sym, ap, ◌∙◌, End, NodeState, effect_by, at_end, framed_from, sender_to}
 use Rattle.dist_core_ends.specs.declared.known.End.TheVariants as ends
 use Rattle.dist_core.specs.declared.event.Event.TheVariants as event
 use Rattle.dist_core.proofs.Kept.{reported-so}

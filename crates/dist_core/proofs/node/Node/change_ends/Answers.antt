@@ -1,5 +1,4 @@
-use Rattle.std.proofs.Common.{◌≤◌, ◌+◌, List, length, sym, subst}
-use Rattle.dist_core.proofs.Words.{End, Effect, NodeState, ends_after, limits_of}
+use Rattle.dist_core.proofs.Words.{◌+◌, ◌≤◌, List, length, sym, subst, End, NodeState, ends_after, limits_of, Effect}
 use Rattle.dist_core.proofs.node.Node.change_ends.Goals as goal
 
 pub invariant_of-self : goal.invariant_of-self

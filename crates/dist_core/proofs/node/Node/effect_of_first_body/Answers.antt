@@ -1,5 +1,4 @@
-use Rattle.std.proofs.Common.{◌≡◌, ◌∙◌, Ok, sym, ap}
-use Rattle.dist_core.proofs.Words.{read, message_of, Dialler}
+use Rattle.dist_core.proofs.Words.{◌≡◌, Ok, sym, ap, ◌∙◌, read, message_of, Dialler}
 use Rattle.dist_core.proofs.node.Node.effect_of_first_body.Goals as goal
 
 pub returns-in-Ok : goal.returns-in-Ok

@@ -1,5 +1,4 @@
-use Rattle.std.proofs.Common.{◌≡◌, ◌∙◌, true, sym, ap}
-use Rattle.dist_core.proofs.Words.{form_of_old, knows_six, Setup}
+use Rattle.dist_core.proofs.Words.{◌≡◌, true, sym, ap, ◌∙◌, form_of_old, knows_six, Setup}
 use Rattle.dist_core.proofs.node.Node.effect_of_introduction.Goals as goal
 
 pub returns-in-NewName : goal.returns-in-NewName

@@ -1,14 +1,7 @@
-use Rattle.std.proofs.Common.{rules, ◌≡◌, ℕ, List, slice_get, sym, ap, ◌∙◌}
-use Rattle.dist_names.specs.Order.{Name}
-use Rattle.dist_peers.specs.declared.entry.EndId.{EndId}
-use Rattle.dist_peers.specs.declared.entry.Verdict.{Verdict}
+use Rattle.dist_core.proofs.Words.{◌≡◌, ℕ, List, slice_get, sym, ap, ◌∙◌, rules, EndId, Verdict, Attempt, End, Setup, name_taken, superseded_end, supersedes}
+use Rattle.dist_core.proofs.Words.{Effect}
 use Rattle.dist_peers.specs.declared.entry.Verdict.TheVariants as verdict
-use Rattle.dist_core_ends.specs.declared.known.Attempt.{Attempt}
-use Rattle.dist_core_ends.specs.declared.known.End.{End}
-use Rattle.dist_core_setup.specs.declared.setup.Setup.{Setup}
-use Rattle.dist_core.specs.declared.effect.Effect.{Effect}
-use Rattle.dist_core.specs.Effects.{superseded_end, supersedes}
-use Rattle.dist_core.specs.Accepted.{name_taken, verdict_text}
+use Rattle.dist_core.specs.Accepted.{verdict_text}
 use Rattle.dist_core.proofs.node.Node.effect_of_verdict.Goals as goal
 
 -- a name that crosses an attempt of this node, by what each call returned

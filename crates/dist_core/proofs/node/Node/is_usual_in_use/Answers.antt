@@ -1,5 +1,4 @@
-use Rattle.std.proofs.Common.{sym, ◌∙◌, arith}
-use Rattle.dist_core.proofs.Words.{list_any, len-entries, at_drop_all, table_of, has_usual}
+use Rattle.dist_core.proofs.Words.{sym, ◌∙◌, arith, at_drop_all, len-entries, list_any, table_of, has_usual}
 use Rattle.std.specs.FinMap as map
 use Rattle.dist_core.proofs.UsualCookies.{found-at, none-at}
 use Rattle.dist_core.proofs.node.Node.is_usual_in_use.Goals as goal

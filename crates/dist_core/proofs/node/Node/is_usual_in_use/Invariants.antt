@@ -1,6 +1,5 @@
 -- Any entry that is up under the usual cookie is among those that are left.
-use Rattle.std.proofs.Common.{◌≡◌, drop}
-use Rattle.dist_core.proofs.Words.{list_any, table_of, has_usual}
+use Rattle.dist_core.proofs.Words.{◌≡◌, drop, list_any, table_of, has_usual}
 use Rattle.std.specs.FinMap as map
 use Rattle.dist_core.proofs.node.Node.is_usual_in_use.Given as goal
 

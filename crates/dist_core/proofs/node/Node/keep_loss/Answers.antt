@@ -1,5 +1,4 @@
-use Rattle.std.proofs.Common.{subst}
-use Rattle.dist_core.proofs.Words.{loss_reply, Reply}
+use Rattle.dist_core.proofs.Words.{subst, loss_reply, Reply}
 use Rattle.dist_core.proofs.node.Node.keep_loss.Goals as goal
 
 pub returns-clause-step : goal.returns-clause-step

@@ -1,7 +1,6 @@
-use Rattle.std.proofs.Common.{◌≡◌, ◌∙◌, Option, Some, sym, ap, slice_get}
-use Rattle.dist_core.proofs.Words.{End, NodeState, at_end, opening_effect}
-use Rattle.dist_core.specs.Step.{effect_of}
+use Rattle.dist_core.proofs.Words.{◌≡◌, slice_get, Some, Option, sym, ap, ◌∙◌, End, NodeState, at_end, opening_effect}
 use Rattle.dist_core_ends.specs.declared.known.End.TheVariants as ends
+use Rattle.dist_core.specs.Step.{effect_of}
 use Rattle.dist_core.specs.declared.event.Event.TheVariants as event
 use Rattle.dist_core.proofs.InPlace.{can-be}
 use Rattle.dist_core.proofs.node.Node.keep_opened.Goals as goal

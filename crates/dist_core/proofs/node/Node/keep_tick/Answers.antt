@@ -1,6 +1,5 @@
-use Rattle.std.proofs.Common.{Ok, ◌+◌, ◌∙◌, ap, sym}
+use Rattle.dist_core.proofs.Words.{◌+◌, Ok, sym, ap, ◌∙◌, NodeState}
 use Rattle.dist_core.proofs.node.Node.keep_tick.Goals as goal
-use Rattle.dist_core.specs.Node.{NodeState}
 
 pub returns : goal.returns
 returns g c =

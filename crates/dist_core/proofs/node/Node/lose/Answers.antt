@@ -1,8 +1,8 @@
-use Rattle.std.proofs.Common.{rules, ◌≡◌, ◌∙◌, true, Option, Some, Ok, refl, sym, length, ap, arith, slice_get}
-use Rattle.dist_core.proofs.Words.{slice_get_within, End, is_open, Effect, IsGone, NodeState, at_end, closes, stays-closing}
+use Rattle.dist_core.proofs.Words.{◌≡◌, true, length, slice_get, Some, Ok, Option, sym, refl, ap, ◌∙◌, arith, rules, slice_get_within, is_open, End, closes}
+use Rattle.dist_core.proofs.Words.{IsGone, NodeState, at_end, Effect}
 use Rattle.dist_core_ends.specs.declared.known.End.TheVariants as ends
-use Rattle.dist_core.proofs.Counts.{length-within}
-use Rattle.dist_core.proofs.Losses.{gone_at, open_found}
+use Rattle.dist_core_ends.proofs.Fitting.{stays-closing}
+use Rattle.dist_core.proofs.{Counts.length-within, Losses.gone_at, Losses.open_found}
 use Rattle.dist_core.proofs.node.Node.lose.Goals as goal
 
 pub close-requires-clause-there : goal.close-requires-clause-there

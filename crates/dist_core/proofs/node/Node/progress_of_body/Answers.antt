@@ -1,5 +1,4 @@
-use Rattle.std.proofs.Common.{◌≡◌, ◌∙◌, Ok, sym, ap}
-use Rattle.dist_core.proofs.Words.{read, message_of}
+use Rattle.dist_core.proofs.Words.{◌≡◌, Ok, sym, ap, ◌∙◌, read, message_of}
 use Rattle.dist_core.proofs.node.Node.progress_of_body.Goals as goal
 
 pub returns-in-Ok-clause-effect : goal.returns-in-Ok-clause-effect

@@ -1,5 +1,4 @@
-use Rattle.std.proofs.Common.{◌∙◌, Bool, Option, Ok, Err, cond, sym, ap}
-use Rattle.dist_core.proofs.Words.{read, Side, Effect, framed_from, message_effect}
+use Rattle.dist_core.proofs.Words.{Bool, cond, Ok, Err, Option, sym, ap, ◌∙◌, read, Side, framed_from, message_effect, Effect}
 use Rattle.dist_core_ends.specs.declared.known.End.TheVariants as ends
 use Rattle.dist_core.specs.declared.step_error.StepError.TheVariants as error
 use Rattle.dist_core.proofs.node.Node.progress_of_frame.Goals as goal

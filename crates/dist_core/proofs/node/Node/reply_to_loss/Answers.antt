@@ -1,5 +1,4 @@
-use Rattle.std.proofs.Common.{◌∙◌, ℕ, List, Some, None, Ok, ap, slice_get, sym}
-use Rattle.dist_core.proofs.Words.{closes, NodeState, at_end, Reply}
+use Rattle.dist_core.proofs.Words.{ℕ, List, slice_get, Some, None, Ok, sym, ap, ◌∙◌, closes, NodeState, at_end, Reply}
 use Rattle.dist_core.specs.Step.{effect_of}
 use Rattle.dist_core.specs.declared.event.Event.TheVariants as event
 use Rattle.dist_core.specs.declared.reply.Note.TheVariants as note

@@ -1,4 +1,4 @@
-use Rattle.std.proofs.Common.{rules}
+use Rattle.dist_core.proofs.Words.{rules}
 use Rattle.dist_core.proofs.node.Node.set_cookie.Goals as goal
 
 pub returns-in_default : goal.returns-in_default

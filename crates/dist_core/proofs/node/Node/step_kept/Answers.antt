@@ -1,6 +1,5 @@
-use Rattle.std.proofs.Common.{sym, subst}
-use Rattle.dist_core.proofs.Words.{KeepsStep, Event}
-use Rattle.dist_core.specs.Step.{effect_of, step}
+use Rattle.dist_core.proofs.Words.{sym, subst, KeepsStep, step, Event}
+use Rattle.dist_core.specs.Step.{effect_of}
 use Rattle.dist_core.proofs.Kept.{same-loss}
 use Rattle.dist_core.proofs.node.Node.step_kept.Goals as goal
 

@@ -1,8 +1,6 @@
-use Rattle.std.proofs.Common.{None, []}
+use Rattle.dist_core_ends.proofs.Words.{[], None, at_stage}
 use Rattle.dist_core_ends.specs.declared.known.End.TheVariants as ends
-use Rattle.dist_core_ends.specs.Progress.{at_stage}
-use Rattle.dist_core_ends.proofs.Progress.{put-there, advance-fits, advance-table}
-use Rattle.dist_core_ends.proofs.Settled.{keeps-changed}
+use Rattle.dist_core_ends.proofs.{Progress.put-there, Progress.advance-fits, Progress.advance-table, Settled.keeps-changed}
 use Rattle.dist_core_ends.proofs.ends.Ends.advance.Goals as goal
 
 pub advance-requires : goal.advance-requires

@@ -1,6 +1,5 @@
-use Rattle.std.proofs.Common.{ap, arith, length}
-use Rattle.dist_core_ends.proofs.Progress.{fit-kept}
-use Rattle.dist_core_ends.proofs.Settled.{keeps-changed}
+use Rattle.dist_core_ends.proofs.Words.{length, ap, arith}
+use Rattle.dist_core_ends.proofs.{Progress.fit-kept, Settled.keeps-changed}
 use Rattle.dist_core_ends.proofs.ends.Ends.change.Goals as goal
 
 pub shift_by_number-requires : goal.shift_by_number-requires

@@ -1,9 +1,6 @@
-use Rattle.std.proofs.Common.{None, [], refl, ap, length, arith, ◌∙◌}
+use Rattle.dist_core_ends.proofs.Words.{[], length, None, refl, ap, ◌∙◌, arith}
 use Rattle.dist_core_ends.specs.declared.known.End.TheVariants as ends
-use Rattle.dist_core_ends.proofs.Fitting.{fit-closes}
-use Rattle.dist_core_ends.proofs.Keeping.{put-within}
-use Rattle.dist_core_ends.proofs.Progress.{held-entry}
-use Rattle.dist_core_ends.proofs.Settled.{keeps-changed}
+use Rattle.dist_core_ends.proofs.{Fitting.fit-closes, Keeping.put-within, Progress.held-entry, Settled.keeps-changed}
 use Rattle.dist_core_ends.proofs.ends.Ends.close.Goals as goal
 
 pub leave-requires : goal.leave-requires

@@ -1,4 +1,4 @@
-use Rattle.std.proofs.Common.{arith}
+use Rattle.dist_core_ends.proofs.Words.{arith}
 use Rattle.dist_core_ends.proofs.Tables.{agree-empty}
 use Rattle.dist_core_ends.proofs.ends.Ends.new.Goals as goal
 

@@ -1,5 +1,4 @@
-use Rattle.std.proofs.Common.{ap, arith, length, ◌∙◌}
-use Rattle.dist_core_ends.specs.Ends.{end_id}
+use Rattle.dist_core_ends.proofs.Words.{length, ap, ◌∙◌, arith, end_id}
 use Rattle.dist_core_ends.proofs.ends.Ends.next_id.Goals as goal
 
 pub overflow_cast-result : goal.overflow_cast-result

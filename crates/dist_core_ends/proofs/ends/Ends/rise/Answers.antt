@@ -1,11 +1,7 @@
-use Rattle.std.proofs.Common.{slice_get}
+use Rattle.dist_core_ends.proofs.Words.{slice_get, entry_of, replaced_by, replaced_end}
 use Rattle.std.specs.FinMap as map
 use Rattle.dist_core_ends.specs.declared.known.End.TheVariants as ends
-use Rattle.dist_peers.specs.Table.{entry_of, replaced_by}
-use Rattle.dist_core_ends.specs.Progress.{replaced_end}
-use Rattle.dist_core_ends.proofs.Agreement.{entry-agreed}
-use Rattle.dist_core_ends.proofs.Progress.{rise-fits, rise-waits, rise-table}
-use Rattle.dist_core_ends.proofs.Settled.{keeps-changed}
+use Rattle.dist_core_ends.proofs.{Agreement.entry-agreed, Progress.rise-fits, Progress.rise-waits, Progress.rise-table, Settled.keeps-changed}
 use Rattle.dist_core_ends.proofs.ends.Ends.rise.Goals as goal
 
 pub came_up-replaced-requires : goal.came_up-replaced-requires

@@ -1,4 +1,4 @@
-use Rattle.std.proofs.Common.{rules}
+use Rattle.dist_core_ends.proofs.Words.{rules}
 use Rattle.dist_core_ends.proofs.ends.Ends.still.Goals as goal
 
 pub returns-in-Ok-Up : goal.returns-in-Ok-Up

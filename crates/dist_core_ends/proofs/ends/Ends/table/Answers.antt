@@ -1,6 +1,5 @@
-use Rattle.std.proofs.Common.{ap, ◌∙◌}
+use Rattle.dist_core_ends.proofs.Words.{ap, ◌∙◌, table_of}
 use Rattle.std.specs.FinMap as map
-use Rattle.dist_core_ends.specs.Ends.{table_of}
 use Rattle.dist_core_ends.proofs.Tables.{get-table, table-agreed}
 use Rattle.dist_core_ends.proofs.ends.Ends.table.Goals as goal
 

@@ -1,8 +1,4 @@
-use Rattle.std.proofs.Common.{◌≡◌, ◌∙◌, ◌<◌, arith, ap, sym, length, Some, None, List, slice_get, rules}
-use Rattle.std.specs.Prelude.{nat_eq}
-use Rattle.std.specs.HashMap.{get}
-use Rattle.dist_core_ends.specs.declared.why.Why.{Why}
-use Rattle.dist_core_ends.specs.Places.{RowList, all_causes}
+use Rattle.dist_core_ends.proofs.Words.{◌≡◌, ◌<◌, List, length, nat_eq, slice_get, Some, None, sym, ap, ◌∙◌, arith, rules, get, RowList, all_causes, Why}
 use Rattle.dist_core_ends.proofs.Places.{rows-length, rows-row, rows-cause, all-length}
 use Rattle.dist_core_ends.proofs.past_rows.PastRows.at.Goals as goal
 

@@ -1,9 +1,4 @@
-use Rattle.std.proofs.Common.{◌≡◌, ◌∙◌, ◌≤◌, ◌+◌, min, arith, ap, sym, length, List}
-use Rattle.std.specs.Prelude.{nat_eq}
-use Rattle.std.specs.HashMap.{get}
-use Rattle.dist_core_ends.specs.declared.why.Why.{Why}
-use Rattle.dist_core_ends.specs.Keeping.{rows_forgotten}
-use Rattle.dist_core_ends.specs.Places.{RowList, rows_from, all_causes}
+use Rattle.dist_core_ends.proofs.Words.{◌≡◌, ◌+◌, ◌≤◌, min, List, length, nat_eq, sym, ap, ◌∙◌, arith, get, rows_forgotten, RowList, all_causes, rows_from, Why}
 use Rattle.dist_core_ends.proofs.Places.{rows-forgotten, all-length, all-drop, all-forgotten, causes-upto}
 use Rattle.dist_core_ends.proofs.past_rows.PastRows.forget.Goals as goal
 

@@ -1,7 +1,4 @@
-use Rattle.std.proofs.Common.{arith, ap, length}
-use Rattle.std.specs.Prelude.{nat_eq}
-use Rattle.std.specs.HashMap.{get}
-use Rattle.dist_core_ends.specs.Places.{RowList, all_causes}
+use Rattle.dist_core_ends.proofs.Words.{length, nat_eq, ap, arith, get, RowList, all_causes}
 use Rattle.dist_core_ends.proofs.Places.{rows-length, all-length}
 use Rattle.dist_core_ends.proofs.past_rows.PastRows.len.Goals as goal
 

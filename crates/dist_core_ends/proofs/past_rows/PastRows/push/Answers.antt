@@ -1,10 +1,6 @@
-use Rattle.std.proofs.Common.{◌≡◌, ◌∙◌, ◌++◌, ◌∷◌, [], ◌+◌, ◌<◌, ◌^◌, arith, ap, sym, subst, refl, length, Option, List, Some, None}
-use Rattle.std.specs.Prelude.{nat_eq}
-use Rattle.std.specs.HashMap.{get, Updates}
-use Rattle.dist_core_ends.specs.declared.why.Why.{Why}
+use Rattle.dist_core_ends.proofs.Words.{◌≡◌, ◌+◌, ◌^◌, ◌<◌, List, [], ◌∷◌, ◌++◌, length, nat_eq, Some, None, Option, sym, refl, ap, ◌∙◌, subst, arith, Updates}
+use Rattle.dist_core_ends.proofs.Words.{get, AreWithin, RowList, all_causes, row_by, rows_from, EndPlace, Why}
 use Rattle.dist_core_ends.specs.declared.why.Why.TheVariants as why
-use Rattle.dist_core_ends.specs.declared.slots.EndPlace.{EndPlace}
-use Rattle.dist_core_ends.specs.Places.{RowList, rows_from, row_by, all_causes, AreWithin}
 use Rattle.dist_core_ends.proofs.Places.{rows-length, rows-more, all-length, all-more, within-more, done}
 use Rattle.dist_core_ends.proofs.past_rows.PastRows.push.Goals as goal
 

@@ -1,7 +1,4 @@
-use Rattle.std.proofs.Common.{◌≤◌, ◌∙◌, ◌+◌, ◌++◌, ◌^◌, arith, ap, length, length-append}
-use Rattle.dist_core_ends.specs.declared.slots.EndPlace.{EndPlace}
-use Rattle.dist_core_ends.specs.Keeping.{rows_forgotten}
-use Rattle.dist_core_ends.specs.Places.{RowList}
+use Rattle.dist_core_ends.proofs.Words.{◌+◌, ◌^◌, ◌≤◌, ◌++◌, length, ap, ◌∙◌, arith, length-append, rows_forgotten, RowList, EndPlace}
 use Rattle.dist_core_ends.proofs.Recent.{forgotten-length, forgotten-both}
 use Rattle.dist_core_ends.proofs.rows.Rows.forget.Goals as goal
 

@@ -1,7 +1,5 @@
-use Rattle.std.proofs.Common.{◌∙◌, Some, refl, ap, arith}
-use Rattle.std.proofs.lemmas.Option.{slice_get_within}
+use Rattle.dist_core_ends.proofs.Words.{Some, refl, ap, ◌∙◌, arith, slice_get_within, at_stage}
 use Rattle.dist_core_ends.specs.declared.known.End.TheVariants as ends
-use Rattle.dist_core_ends.specs.Progress.{at_stage}
 use Rattle.dist_core_ends.proofs.Keeping.{long, refilled-shown, refilled, slot-shown, not-closed}
 use Rattle.dist_core_ends.proofs.slots.EndList.advance.Goals as goal
 

@@ -1,5 +1,4 @@
-use Rattle.std.proofs.Common.{arith}
-use Rattle.std.proofs.lemmas.Option.{slice_get_past}
+use Rattle.dist_core_ends.proofs.Words.{arith, slice_get_past}
 use Rattle.dist_core_ends.proofs.Keeping.{long, has-slot, finds-slot, finds-closed}
 use Rattle.dist_core_ends.proofs.slots.EndList.at.Goals as goal
 

@@ -1,5 +1,4 @@
-use Rattle.std.proofs.Common.{◌∙◌, Some, ap, arith}
-use Rattle.dist_core_ends.specs.Change.{claim_at}
+use Rattle.dist_core_ends.proofs.Words.{Some, ap, ◌∙◌, arith, claim_at}
 use Rattle.dist_core_ends.proofs.Keeping.{long, has-slot, slot-shown, emptied-shown, emptied, finds-closed, closed-stays}
 use Rattle.dist_core_ends.proofs.slots.EndList.close.Goals as goal
 

@@ -1,10 +1,5 @@
-use Rattle.std.proofs.Common.{◌≡◌, ◌∙◌, ℕ, true, List, Some, sym, ap, arith, slice_get}
-use Rattle.std.proofs.lemmas.Bool.{false≢true}
-use Rattle.dist_core_ends.specs.declared.known.End.{End}
+use Rattle.dist_core_ends.proofs.Words.{◌≡◌, ℕ, true, List, slice_get, Some, sym, ap, ◌∙◌, arith, false≢true, StaysClosed, is_open, End, Why}
 use Rattle.dist_core_ends.specs.declared.known.End.TheVariants as ends
-use Rattle.dist_core_ends.specs.declared.why.Why.{Why}
-use Rattle.dist_core_ends.specs.Ends.{is_open}
-use Rattle.dist_core_ends.specs.Change.{StaysClosed}
 use Rattle.dist_core_ends.proofs.Keeping.{long, has-slot, refilled-shown, refilled, finds-closed, same-cause}
 use Rattle.dist_core_ends.proofs.slots.EndList.fill.Goals as goal
 

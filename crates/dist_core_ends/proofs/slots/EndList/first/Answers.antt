@@ -1,4 +1,4 @@
-use Rattle.std.proofs.Common.{sym, arith}
+use Rattle.dist_core_ends.proofs.Words.{sym, arith}
 use Rattle.dist_core_ends.proofs.Oldest.{oldest-found, oldest-none}
 use Rattle.dist_core_ends.proofs.slots.EndList.first.Goals as goal
 

@@ -1,4 +1,4 @@
-use Rattle.dist_core_ends.specs.Keeping.{IsPast}
+use Rattle.dist_core_ends.proofs.Words.{IsPast}
 use Rattle.dist_core_ends.proofs.slots.EndList.first_sought.Given as goal
 
 abbrev pub invariant-loop-i : goal.invariant-loop-i

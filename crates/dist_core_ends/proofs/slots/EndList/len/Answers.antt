@@ -1,4 +1,4 @@
-use Rattle.std.proofs.Common.{sym, ◌∙◌}
+use Rattle.dist_core_ends.proofs.Words.{sym, ◌∙◌}
 use Rattle.dist_core_ends.proofs.Keeping.{long}
 use Rattle.dist_core_ends.proofs.slots.EndList.len.Goals as goal
 

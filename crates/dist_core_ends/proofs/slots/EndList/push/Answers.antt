@@ -1,4 +1,4 @@
-use Rattle.std.proofs.Common.{arith}
+use Rattle.dist_core_ends.proofs.Words.{arith}
 use Rattle.dist_core_ends.proofs.Keeping.{long, pushed, pushed-shown}
 use Rattle.dist_core_ends.proofs.slots.EndList.push.Goals as goal
 

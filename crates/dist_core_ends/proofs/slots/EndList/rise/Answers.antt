@@ -1,4 +1,4 @@
-use Rattle.std.proofs.Common.{ap, ◌∙◌, set}
+use Rattle.dist_core_ends.proofs.Words.{set, ap, ◌∙◌}
 use Rattle.dist_core_ends.specs.declared.known.End.TheVariants as ends
 use Rattle.dist_core_ends.specs.declared.why.Why.TheVariants as why
 use Rattle.dist_core_ends.proofs.Progress.{put-there}

@@ -1,6 +1,4 @@
-use Rattle.std.proofs.Common.{◌≡◌, ◌∙◌, subst, sym, Option}
-use Rattle.std.specs.Prelude.{IfSome}
-use Rattle.dist_core_ends.specs.declared.why.Why.{Why}
+use Rattle.dist_core_ends.proofs.Words.{◌≡◌, IfSome, Option, sym, ◌∙◌, subst, Why}
 use Rattle.dist_core_ends.specs.Words.{why_word, why_of}
 use Rattle.dist_core_ends.proofs.Naming.{found, every}
 use Rattle.dist_core_ends.proofs.why.Why.of_name.Goals as goal

@@ -1,5 +1,4 @@
-use Rattle.std.proofs.Common.{◌≡◌, rules, not, List, ap, ◌∙◌}
-use Rattle.std.proofs.lemmas.Fn.{filter_same}
+use Rattle.std.proofs.{Common.◌≡◌, Common.rules, Common.not, Common.List, Common.ap, Common.◌∙◌, lemmas.Fn.filter_same}
 use Rattle.dist_names.specs.Order.{Name, same_name, is_listed}
 use Rattle.dist_core_setup.specs.Changing.{without_name}
 use Rattle.dist_core_setup.proofs.Lists.{gone-without, others-without}

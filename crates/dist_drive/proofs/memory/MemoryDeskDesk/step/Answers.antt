@@ -1,5 +1,4 @@
-use Rattle.std.proofs.Common.{◌≡◌, ◌<◌, ◌+◌, ◌∙◌, Some, arith, rules, vec_len, vec_capacity}
-use Rattle.dist_core.specs.Clauses.{end_of}
+use Rattle.dist_drive.proofs.Words.{◌≡◌, ◌+◌, ◌<◌, Some, vec_len, vec_capacity, ◌∙◌, arith, rules, end_of}
 use Rattle.dist_drive.proofs.Losses.{taken_open, loss_room, by_loss}
 use Rattle.dist_drive.proofs.memory.MemoryDeskDesk.step.Goals as goal
 

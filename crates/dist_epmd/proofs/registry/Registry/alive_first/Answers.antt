@@ -1,7 +1,4 @@
-use Rattle.std.proofs.Common.{◌≡◌, ◌+◌, rules, sym, subst}
-use Rattle.std.specs.BTreeMap.{values}
-use Rattle.dist_epmd.specs.declared.row.Row.{Row}
-use Rattle.dist_epmd.specs.Registrations.{IsLegal, with_row}
+use Rattle.dist_epmd.proofs.Words.{◌≡◌, ◌+◌, sym, subst, rules, values, IsLegal, with_row, Row}
 use Rattle.dist_epmd.proofs.Legal.{registered_legal}
 use Rattle.dist_epmd.proofs.registry.Registry.alive_first.Goals as goal
 

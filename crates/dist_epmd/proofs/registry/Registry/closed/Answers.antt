@@ -1,5 +1,4 @@
-use Rattle.std.proofs.Common.{sym, subst}
-use Rattle.dist_epmd.specs.Registrations.{IsLegal}
+use Rattle.dist_epmd.proofs.Words.{sym, subst, IsLegal}
 use Rattle.dist_epmd.proofs.Legal.{closed_legal}
 use Rattle.dist_epmd.proofs.registry.Registry.closed.Goals as goal
 

@@ -1,9 +1,5 @@
-use Rattle.std.proofs.Common.{◌≡◌, ◌⊎◌, List, Some, not, ap, sym, subst, ◌∙◌}
-use Rattle.std.specs.BTreeMap.{values}
-use Rattle.dist_epmd.specs.declared.row.Row.{Row}
-use Rattle.dist_epmd.specs.Registrations.{Registrations, IsLegal, is_own, registered_name, after_closed}
-use Rattle.dist_epmd.proofs.Legal.{kept_legal}
-use Rattle.dist_epmd.proofs.Own.{registered_closed, all_or_none}
+use Rattle.dist_epmd.proofs.Words.{◌≡◌, not, ◌⊎◌, List, Some, sym, ap, ◌∙◌, subst, values, IsLegal, Registrations, after_closed, is_own, registered_name, Row}
+use Rattle.dist_epmd.proofs.{Legal.kept_legal, Own.registered_closed, Own.all_or_none}
 use Rattle.dist_epmd.proofs.registry.Registry.closed_as.Goals as goal
 
 pub invariant_of-self : goal.invariant_of-self

@@ -1,7 +1,5 @@
-use Rattle.std.proofs.Common.{◌≡◌, ◌∙◌, subst, sym, Option}
-use Rattle.std.specs.Prelude.{IfSome}
-use Rattle.dist_flags.specs.declared.dflag.Dflag.{Dflag}
-use Rattle.dist_flags.specs.Names.{name_of, flag_named}
+use Rattle.std.proofs.Common.{◌≡◌, ◌∙◌, subst, sym, Option, IfSome}
+use Rattle.dist_flags.specs.{Names.name_of, Names.flag_named, declared.dflag.Dflag.Dflag}
 use Rattle.dist_flags.proofs.Naming.{found, every}
 use Rattle.dist_flags.proofs.dflag.Dflag.of_name.Goals as goal
 

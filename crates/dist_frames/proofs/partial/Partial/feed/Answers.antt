@@ -1,5 +1,4 @@
-use Rattle.std.proofs.Common.{◌++◌, length, rules}
-use Rattle.std.proofs.lemmas.Bool.{eqb-true}
+use Rattle.std.proofs.Common.{◌++◌, length, rules, eqb-true}
 use Rattle.dist_frames.proofs.Owing.{finished, Finished}
 use Rattle.dist_frames.proofs.partial.Partial.feed.Goals as goal
 

@@ -1,5 +1,5 @@
-use Rattle.std.proofs.Common.{◌≡◌, ◌++◌, drop, ap, ◌∙◌, arith}
-use Rattle.std.specs.Int.{w32, to_be_bytes}
+use Rattle.std.proofs.Common.{◌≡◌, ◌++◌, drop, ap, ◌∙◌, arith, w32}
+use Rattle.std.specs.Int.{to_be_bytes}
 use Rattle.dist_frames.specs.Stream.{packets, partial}
 use Rattle.dist_frames.proofs.Owing.{header_done, joined}
 use Rattle.dist_frames.proofs.partial.Partial.take.Goals as goal

@@ -1,7 +1,6 @@
 use Rattle.std.proofs.Common.{ap, ◌∙◌}
 use Rattle.dist_locked.specs.Passes.{putting, working}
-use Rattle.dist_locked.proofs.Moves.{gathers}
-use Rattle.dist_locked.proofs.Settling.{knows_all, counts}
+use Rattle.dist_locked.proofs.{Moves.gathers, Settling.knows_all, Settling.counts}
 use Rattle.dist_locked.proofs.queue.Orders.settle.Goals as goal
 
 pub absorb-requires-clause-rule : goal.absorb-requires-clause-rule

@@ -1,8 +1,7 @@
 use Rattle.std.proofs.Common.{ap, ◌∙◌}
 use Rattle.crossbeam_queue.specs.Passes.{view}
 use Rattle.dist_locked.specs.Passes.{working}
-use Rattle.dist_locked.proofs.Moves.{takes}
-use Rattle.dist_locked.proofs.Settling.{may_take_by, taken_by}
+use Rattle.dist_locked.proofs.{Moves.takes, Settling.may_take_by, Settling.taken_by}
 use Rattle.dist_locked.proofs.queue.Orders.take.Goals as goal
 
 pub pop_as-requires-clause-rule : goal.pop_as-requires-clause-rule

@@ -1,5 +1,4 @@
-use Rattle.std.proofs.Common.{sym, ◌∙◌}
-use Rattle.std.proofs.lemmas.Map.Text.{is_eq-slice_cmp}
+use Rattle.std.proofs.{Common.sym, Common.◌∙◌, lemmas.Map.Text.is_eq-slice_cmp}
 use Rattle.dist_names.proofs.Orders.{answered_each}
 use Rattle.dist_names.proofs.name.NodeName.is_same.Goals as goal
 

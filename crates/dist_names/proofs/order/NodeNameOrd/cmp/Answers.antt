@@ -1,6 +1,6 @@
 use Rattle.std.proofs.Common.{◌∙◌, drop}
-use Rattle.dist_names.proofs.Fronts.{fronts_cmp, fronts_decide, behind_fronts, visible_behind}
 use Rattle.dist_names.specs.Order.{name_cmp}
+use Rattle.dist_names.proofs.Fronts.{fronts_cmp, fronts_decide, behind_fronts, visible_behind}
 use Rattle.dist_names.proofs.order.NodeNameOrd.cmp.Goals as goal
 
 pub order_of-requires-clause-ours : goal.order_of-requires-clause-ours

@@ -1,6 +1,4 @@
-use Rattle.std.proofs.Common.{◌∙◌, ap}
-use Rattle.std.proofs.lemmas.Map.Text.{is_eq-slice_cmp}
-use Rattle.std.specs.Ordering.{is_eq}
+use Rattle.std.proofs.{Common.◌∙◌, Common.ap, Common.is_eq, lemmas.Map.Text.is_eq-slice_cmp}
 use Rattle.dist_names.proofs.order.NodeNamePartialEq.eq.Goals as goal
 
 pub returns : goal.returns

@@ -1,8 +1,6 @@
-use Rattle.std.proofs.Common.{ap, ◌∙◌}
-use Rattle.std.specs.Ordering.{is_gt}
+use Rattle.std.proofs.Common.{ap, ◌∙◌, is_gt}
 use Rattle.std.specs.FinMap as map
-use Rattle.dist_peers.specs.declared.entry.Ruling.{Ruling}
-use Rattle.dist_peers.specs.Verdicts.{ruling, is_greater}
+use Rattle.dist_peers.specs.{Verdicts.ruling, Verdicts.is_greater, declared.entry.Ruling.Ruling}
 use Rattle.dist_peers.proofs.Others.{put_over}
 use Rattle.dist_peers.proofs.peers.Peers.take_name.Goals as goal
 

@@ -1,8 +1,6 @@
-use Rattle.std.proofs.Common.{◌≡◌, sym, ◌∙◌, List, Option, Bor}
-use Rattle.std.specs.Prelude.{option_copied}
+use Rattle.std.proofs.Common.{◌≡◌, sym, ◌∙◌, List, Option, Bor, option_copied}
 use Rattle.dist_names.specs.Order.{Name}
-use Rattle.dist_peers.specs.declared.entry.Entry.{Entry}
-use Rattle.dist_peers.specs.Table.{up_behind}
+use Rattle.dist_peers.specs.{Table.up_behind, declared.entry.Entry.Entry}
 use Rattle.dist_peers.proofs.Maps.{rows-of}
 use Rattle.dist_peers.proofs.peers.Peers.up_behind.Goals as goal
 

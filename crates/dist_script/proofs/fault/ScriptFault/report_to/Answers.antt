@@ -1,6 +1,5 @@
 use Rattle.std.proofs.Common.{◌≡◌, ◌∙◌, ◌++◌, codes, sym, ap, subst, append_assoc}
-use Rattle.dist_script.specs.Fault.{fault_line}
-use Rattle.dist_script.specs.Texts.{text_of, PutsFront}
+use Rattle.dist_script.specs.{Fault.fault_line, Texts.text_of, Texts.PutsFront}
 use Rattle.dist_script.proofs.Fronts.{front_either}
 use Rattle.dist_script.proofs.fault.ScriptFault.report_to.Goals as goal
 

@@ -1,7 +1,5 @@
 use Rattle.std.proofs.Common.{true, ◌≡◌, ◌<◌, length, sym, ap, subst, ◌∙◌, arith}
-use Rattle.dist_script.specs.Words.{words_of}
-use Rattle.dist_script.specs.Fields.{Makes}
-use Rattle.dist_script.specs.Scripts.{SoFar, is_either, with_event, with_happening}
+use Rattle.dist_script.specs.{Fields.Makes, Scripts.SoFar, Scripts.is_either, Scripts.with_event, Scripts.with_happening, Words.words_of}
 use Rattle.dist_script.specs.contracts.script.Draft.{the_view}
 use Rattle.dist_script.proofs.Scripts.{a_node, no_node, by_either, none_there, one_there, more_there}
 use Rattle.dist_script.proofs.script.Draft.take.Goals as goal

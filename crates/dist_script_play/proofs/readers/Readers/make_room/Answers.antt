@@ -1,4 +1,4 @@
-use Rattle.std.proofs.Common.{◌∙◌, arith}
+use Rattle.dist_script_play.proofs.Words.{◌∙◌, arith}
 use Rattle.dist_script_play.proofs.Reading.{one_more_reader}
 use Rattle.dist_script_play.proofs.readers.Readers.make_room.Goals as goal
 

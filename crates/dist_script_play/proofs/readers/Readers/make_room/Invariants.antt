@@ -1,5 +1,4 @@
-use Rattle.std.proofs.Common.{◌≡◌, suc, ◌-◌, length}
-use Rattle.dist_script_play.specs.Played.{readers_to}
+use Rattle.dist_script_play.proofs.Words.{◌≡◌, suc, ◌-◌, length, readers_to}
 use Rattle.dist_script_play.proofs.readers.Readers.make_room.Given as goal
 
 -- with those that are still to be made they are all

@@ -1,4 +1,4 @@
-use Rattle.std.proofs.Common.{refl}
+use Rattle.dist_script_play.proofs.Words.{refl}
 use Rattle.dist_script_play.proofs.Receiving.{one_more, one_less, no_frame_left}
 use Rattle.dist_script_play.proofs.scene.NodeScene.receive_frames.Goals as goal
 

@@ -1,6 +1,4 @@
-use Rattle.std.proofs.Common.{length}
-use Rattle.dist_frames.specs.Reader.{to_come}
-use Rattle.dist_script_play.specs.Played.{reader_of, received_frames}
+use Rattle.dist_script_play.proofs.Words.{length, to_come, reader_of, received_frames}
 use Rattle.dist_script_play.proofs.Receiving.{SoFar}
 use Rattle.dist_script_play.proofs.scene.NodeScene.receive_frames.Given as goal
 

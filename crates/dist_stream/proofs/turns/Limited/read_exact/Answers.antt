@@ -1,9 +1,8 @@
+use borrow.Rule.Slice.PartMut.{put_mid}
 use Rattle.std.proofs.Common.{◌+◌, ◌-◌, ◌++◌, rules, arith, length, take, sym, ap, ◌∙◌, subst, le_refl}
 use Rattle.std.proofs.lemmas.Slice.{take-put_mid_below}
 use Rattle.dist_stream.specs.Turns.{Hears}
-use Rattle.dist_stream.proofs.Talks.{Hears-trans}
-use Rattle.dist_stream.proofs.Rooms.{take_split, slice_range-put_mid}
-use borrow.Rule.Slice.PartMut.{put_mid}
+use Rattle.dist_stream.proofs.{Rooms.take_split, Rooms.slice_range-put_mid, Talks.Hears-trans}
 use Rattle.dist_stream.proofs.turns.Limited.read_exact.Goals as goal
 
 pub loop-at-preserved : goal.loop-at-preserved

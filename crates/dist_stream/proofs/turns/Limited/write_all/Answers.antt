@@ -1,7 +1,6 @@
 use Rattle.std.proofs.Common.{rules, subst}
 use Rattle.dist_stream.specs.Turns.{Says}
-use Rattle.dist_stream.proofs.Rooms.{take_more}
-use Rattle.dist_stream.proofs.Talks.{Says-trans}
+use Rattle.dist_stream.proofs.{Rooms.take_more, Talks.Says-trans}
 use Rattle.dist_stream.proofs.turns.Limited.write_all.Goals as goal
 
 pub loop-at-preserved : goal.loop-at-preserved

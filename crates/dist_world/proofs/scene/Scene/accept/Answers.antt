@@ -1,8 +1,7 @@
-use Rattle.std.proofs.Common.{◌≡◌, Some, slice_get, sym}
+use Rattle.dist_world_model.proofs.Words.{◌≡◌, slice_get, Some, sym, World}
 use Rattle.dist_world_lives.specs.Wires.{unaccepted_target}
 use Rattle.dist_world.proofs.Marked.{accepted_is}
 use Rattle.dist_world.proofs.scene.Scene.accept.Goals as goal
-use Rattle.dist_world_model.specs.World.{World}
 
 pub returns-in-Some-2 : goal.returns-in-Some-2
 returns-in-Some-2 c =

@@ -1,6 +1,5 @@
 use Rattle.std.proofs.Common.{◌≡◌, ◌≤◌, take}
-use Rattle.dist_world_model.proofs.Words.{AllFit}
-use Rattle.dist_world_model.specs.Run.{count_applied, run}
+use Rattle.dist_world_model.specs.{Agreement.AllFit, Run.count_applied, Run.run}
 use Rattle.dist_world.proofs.scene.Scene.run.Given as goal
 
 abbrev pub invariant-loop-i : goal.invariant-loop-i

@@ -1,9 +1,7 @@
-use Rattle.std.proofs.Common.{◌≡◌, ◌∙◌, ℕ, List, Some, slice_get, ap, sym}
-use Rattle.dist_world_lives.specs.Stepping.{wire_of}
-use Rattle.dist_world_lives.specs.Wires.{front_at}
+use Rattle.dist_world_model.proofs.Words.{◌≡◌, ℕ, List, slice_get, Some, sym, ap, ◌∙◌, World, row_of_life, running}
+use Rattle.dist_world_lives.specs.{Stepping.wire_of, Wires.front_at}
 use Rattle.dist_world.proofs.Marked.{taken_is}
 use Rattle.dist_world.proofs.scene.Scene.take.Goals as goal
-use Rattle.dist_world_model.specs.World.{World, running, row_of_life}
 
 pub returns-in-Some-2 : goal.returns-in-Some-2
 returns-in-Some-2 c =

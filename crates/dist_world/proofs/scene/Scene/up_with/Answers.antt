@@ -1,7 +1,6 @@
-use Rattle.std.proofs.Common.{◌≡◌, Some, slice_get, sym, ap, ◌∙◌}
+use Rattle.dist_world_model.proofs.Words.{◌≡◌, slice_get, Some, sym, ap, ◌∙◌, World}
 use Rattle.dist_world.proofs.UpLinks.{peer_found, peer_only}
 use Rattle.dist_world.proofs.scene.Scene.up_with.Goals as goal
-use Rattle.dist_world_model.specs.World.{World}
 
 pub returns : goal.returns
 returns c =

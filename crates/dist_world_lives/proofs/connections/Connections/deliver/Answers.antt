@@ -1,4 +1,4 @@
-use Rattle.dist_world_model.proofs.Words.{arith, change_to, after_delivery}
+use Rattle.dist_world_model.proofs.Words.{arith, after_delivery, change_to}
 use Rattle.dist_world_lives.proofs.Edits.{at_set}
 use Rattle.dist_world_lives.proofs.connections.Connections.deliver.Goals as goal
 

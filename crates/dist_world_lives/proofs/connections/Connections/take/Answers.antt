@@ -1,4 +1,4 @@
-use Rattle.dist_world_model.proofs.Words.{arith, change_to, body_taken}
+use Rattle.dist_world_model.proofs.Words.{arith, body_taken, change_to}
 use Rattle.dist_world_lives.proofs.Edits.{at_set, at_past}
 use Rattle.dist_world_lives.proofs.connections.Connections.take.Goals as goal
 

@@ -1,5 +1,4 @@
-use Rattle.std.proofs.Common.{◌≡◌, length, None, ◌∙◌, ap, arith}
-use Rattle.dist_world_model.proofs.Words.{first_where, Life, runs_for, new_life}
+use Rattle.dist_world_model.proofs.Words.{◌≡◌, length, None, ap, ◌∙◌, arith, new_life, first_where, Life, runs_for}
 use Rattle.dist_world_lives.proofs.Indexes.{pushed, as_wide}
 use Rattle.dist_world_lives.proofs.incarnations.Lives.begin.Goals as goal
 

@@ -1,5 +1,4 @@
-use Rattle.std.proofs.Common.{◌≡◌, ℕ, List, Option, Some, sym, ◌∙◌, ap}
-use Rattle.dist_world_model.proofs.Words.{first_where, runs_for}
+use Rattle.dist_world_model.proofs.Words.{◌≡◌, ℕ, List, Some, Option, sym, ap, ◌∙◌, first_where, runs_for}
 use Rattle.dist_world_lives.specs.Index.{index_at}
 use Rattle.dist_world_lives.proofs.Indexes.{finished}
 use Rattle.dist_world_lives.proofs.incarnations.Lives.end.Goals as goal

@@ -1,6 +1,6 @@
+use Rattle.dist_world_model.specs.World.{Life}
 use Rattle.dist_world_lives.proofs.Links.{link_found}
 use Rattle.dist_world_lives.proofs.life.Life.up_with.Goals as goal
-use Rattle.dist_world_model.specs.World.{Life}
 
 pub returns-clause-found : goal.returns-clause-found
 returns-clause-found c =

@@ -1,38 +1,16 @@
 -- `put_parts` writes the pointer, and what the parts owned goes with it.
-use Rattle.std.proofs.Common.{◌≡◌, List, [], ◌∷◌, ◌++◌, refl, sym, subst}
-use Rattle.std.specs.Prelude.{Some, None}
+use denote.{Builtin.RawPtr, Struct.Struct.within}
 use mir.Val.{Val, vptr, vunit, vstruct, vcons, vnil}
-use base.Fraction.{full_share}
-use base.Logic.{SProp, ent, emp, id⊢}
-use base.Fml.{ftrue, flft}
-use prog.Wp.{WpFn}
-use types.Kit.{‵, raw, ◌⊛◌, ◌$◌, ◌∵◌, !, qed, by, move, keep, drop, use0, use1, split, join, fsplit, fsplit3, fjoin, fjoin3, fpack, feq_i, rewrite, suffices}
-use types.Run.{stop, fld, of_opd, unit_lit, assigns, returns, enter}
-use types.ByLocal.{alloc_all, pass_all, free_all, look_at, get, get_in, through, sets}
-use types.Part.{sub, whole, store_in}
-use contract.Monad.{fact, fact_i}
-use contract.Running.{tables}
-use denote.Exit.{yes}
-use denote.RattleType.{owns, Valss}
-use denote.Signature.{types_at, plain}
-use denote.Builtin.{RawPtr}
-use denote.Laws.{Is, shows}
-use denote.Memory.{cell_at}
-use denote.RawPtr.{block_ptr}
-use denote.Steps.{nothing, opens, closes, peeks}
-use denote.Struct.Struct.{within}
-use denote.Struct.Owning.{shape}
-use denote.Triple.Walked.{Stays, stay_ref, stay_dropped, walk_of, Goes-ref, Goes-dropped}
-use Rattle.std_alloc.proofs.BoxSteps.Form.{D, word, box_typed}
-use Rattle.std_alloc.proofs.BoxSteps.Steps.{box_out}
-use Rattle.std.proofs.raw_atomic.Walks.{proved_at, leaves}
-use Rattle.distnode_c.proofs.AsDeskBox.{E, Whole}
-use Rattle.distnode_c.specs.KeptDesk.{kept_desk}
+use Rattle.dist_c_guest.proofs.Walks.{flft, ftrue, full_share, SProp, emp, ent, id⊢, fact, fact_i, tables, yes, Is, shows, cell_at, Valss, owns, plain}
+use Rattle.dist_c_guest.proofs.Walks.{types_at, block_ptr, closes, nothing, opens, peeks, shape, Goes-dropped, Goes-ref, Stays, stay_dropped, stay_ref, walk_of}
+use Rattle.dist_c_guest.proofs.Walks.{WpFn, alloc_all, free_all, get, get_in, look_at, pass_all, sets, through, drop, !, by, feq_i, fjoin, fjoin3, fpack}
+use Rattle.dist_c_guest.proofs.Walks.{fsplit, fsplit3, join, keep, move, qed, raw, rewrite, split, suffices, use0, use1, ‵, ◌$◌, ◌∵◌, ◌⊛◌, store_in, sub, whole}
+use Rattle.dist_c_guest.proofs.Walks.{assigns, enter, fld, of_opd, returns, stop, unit_lit, ◌≡◌, List, [], ◌∷◌, ◌++◌, Some, None, sym, refl, subst, leaves}
+use Rattle.dist_c_guest.proofs.Walks.{proved_at, D, box_typed, word, box_out}
+use Rattle.distnode_c.specs.{KeptDesk.kept_desk, contracts.desk_slot.DeskSlot.the_row as R}
 use Rattle.distnode_c.specs.contracts.desk_slot.DeskSlot as slot
-use Rattle.distnode_c.specs.contracts.desk_slot.DeskSlot.{the_row as R}
-use Rattle.distnode_c.proofs.desk_slot.DeskSlot.TheLaws.{lowers}
 use Rattle.distnode_c.specs.contracts.desk_slot.DeskSlot.put_parts as f
-use Rattle.distnode_c.proofs.desk_slot.DeskSlot.put_parts.Statement.{statement}
+use Rattle.distnode_c.proofs.{AsDeskBox.E, AsDeskBox.Whole, desk_slot.DeskSlot.TheLaws.lowers, desk_slot.DeskSlot.put_parts.Statement.statement}
 use Rattle.distnode_c.proofs.desk_slot.DeskSlot.put_parts.Code as code
 
 abbrev stayed : Stays f.ended.signature.params f.ended.kept

@@ -5,7 +5,7 @@ use Rattle.distping.proofs.links.accepting.talk.Goals as goal
 
 pub returns-in-Some-clause-shows : goal.returns-in-Some-clause-shows
 returns-in-Some-clause-shows g c =
-    let talks : Talks c.args.listen.now.fresh c.args.listen.now.compares c.args.body c.args.content.now c.args.node.now c.take.new.node (g.S.Stream.meaning c.args.limited.now.stream.now) (g.S.Stream.meaning c.take.new.limited.stream.now) c.args.limited.now.left c.take.new.limited.left c.in-Some.taken =
+    let talks : Talks c.args.listen.now.fresh c.args.listen.now.compares c.args.body c.args.node.now c.take.new.node (g.S.Stream.meaning c.args.limited.now.stream.now) (g.S.Stream.meaning c.take.new.limited.stream.now) c.args.limited.now.left c.take.new.limited.left c.in-Some.taken =
     record {
       verdict = Some c.in-Some.taken;
       after = c.take.new.node;
@@ -15,11 +15,11 @@ returns-in-Some-clause-shows g c =
       behind = (refl, (refl, refl), refl);
     }
     in
-    shows c.requires.opened c.requires.content talks
+    shows c.requires talks
 
 pub returns-in-None-clause-shows : goal.returns-in-None-clause-shows
 returns-in-None-clause-shows g c =
-    let talks : Talks c.args.listen.now.fresh c.args.listen.now.compares c.args.body c.args.content.now c.args.node.now c.continue_talk.new.node (g.S.Stream.meaning c.args.limited.now.stream.now) (g.S.Stream.meaning c.continue_talk.new.limited.stream.now) c.args.limited.now.left c.continue_talk.new.limited.left c.continue_talk.result =
+    let talks : Talks c.args.listen.now.fresh c.args.listen.now.compares c.args.body c.args.node.now c.continue_talk.new.node (g.S.Stream.meaning c.args.limited.now.stream.now) (g.S.Stream.meaning c.continue_talk.new.limited.stream.now) c.args.limited.now.left c.continue_talk.new.limited.left c.continue_talk.result =
     record {
       verdict = None;
       after = c.take.new.node;
@@ -29,4 +29,4 @@ returns-in-None-clause-shows g c =
       behind = c.continue_talk.ensures.talks;
     }
     in
-    shows c.requires.opened c.requires.content talks
+    shows c.requires talks

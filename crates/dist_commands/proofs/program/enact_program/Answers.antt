@@ -1,9 +1,0 @@
-use Rattle.std.proofs.Common.{◌∙◌, ap, ap₂}
-use Rattle.std.proofs.lemmas.Result.{IfOk-weaker}
-use Rattle.clap.specs.Words.{App, with_subcommand}
-use Rattle.dist_commands.proofs.program.enact_program.Goals as goal
-
-pub returns : goal.returns
-returns c =
-    IfOk-weaker c.subcommand.result _ _ (λ r h. h.shape c.new.ensures.local
-    ∙ ap₂ with_subcommand c.bare.ensures (ap (λ (a : App). a.top) c.new.ensures.app)) c.subcommand.ensures

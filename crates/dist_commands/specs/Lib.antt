@@ -1,4 +1,0 @@
-pub mod CommandLine
-pub mod Fault
-pub mod Printed
-pub mod Stopped

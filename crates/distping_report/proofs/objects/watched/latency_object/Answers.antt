@@ -1,0 +1,11 @@
+use Rattle.std.proofs.Common.{ℕ, List, Option, IfOk, string_bytes, subst, sym}
+use Rattle.dist_cluster.specs.declared.latencies.LatencySummary.{LatencySummary}
+use Rattle.distping_report.specs.Layouts.{latency_layout}
+use Rattle.distping_report.specs.Objects.{IsObjectLine}
+use Rattle.distping_report.proofs.objects.watched.latency_object.Goals as goal
+
+pub returns-in-Some : goal.returns-in-Some
+returns-in-Some c =
+    let answers = c.args.answers.now in
+    let line : List ℕ → Option LatencySummary → Type 0 = λ node summary. IfOk c.object_line.result (λ line. IsObjectLine (latency_layout node answers.rounds summary) (string_bytes line)) in
+    subst (λ node. line node answers.summary) c.bytes.ensures.same (subst (line c.bytes.result.now) (sym c.in-Some.is) c.object_line.ensures)
