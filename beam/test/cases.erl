@@ -73,7 +73,7 @@ common(Mapper) ->
      {"strangers", fun() -> strangers(Mapper) end},
      {"impostor", fun() -> impostor(Mapper) end},
      {"numbers_run_out", fun() -> numbers_run_out(Mapper) end},
-     {"orders_swept", fun() -> with_tls("", fun() -> order_sweeps:some(Mapper) end) end},
+     {"orders_swept", fun() -> with_tls("0", fun() -> order_sweeps:some(Mapper) end) end},
      {"embedded_release", fun embedded_release/0},
      {"killed_core", fun killed_core/0},
      {"library_at_run_time", fun library_at_run_time/0},
@@ -90,7 +90,7 @@ over_tls(Mapper) ->
                          {"tls_and_tcp_apart", fun tls_and_tcp/0}]].
 
 with_tls(Is, Body) ->
-    Before = os:getenv("TLS", ""),
+    Before = os:getenv("TLS", "0"),
     true = os:putenv("TLS", Is),
     try Body()
     after os:putenv("TLS", Before)
@@ -787,8 +787,8 @@ plain_strangers(Mapper) ->
     with([{"a", ours, ?QUIET}, {"b", ours, ?QUIET}, {"o", otp, ?QUIET}],
          fun([A, B, O]) ->
                  Port = other_side:port_of("a", Mapper),
-                 Silent = [with_tls("", fun() -> other_side:connect(Port) end) || _ <- lists:seq(1, 50)],
-                 Named = [with_tls("", fun() -> stranger(Port, integer_to_binary(I)) end) || I <- lists:seq(1, 50)],
+                 Silent = [with_tls("0", fun() -> other_side:connect(Port) end) || _ <- lists:seq(1, 50)],
+                 Named = [with_tls("0", fun() -> stranger(Port, integer_to_binary(I)) end) || I <- lists:seq(1, 50)],
                  [{error, _} = other_side:recv(Socket, 5000) || Socket <- Named],
                  Long = other_side:connect(Port),
                  ok = ssl:setopts(Long, [{packet, raw}]),
@@ -805,7 +805,7 @@ tls_and_tcp() ->
     Soon = ["-kernel", "net_setuptime", "2" | ?QUIET],
     with([{"a", ours, Soon}, {"b", ours, Soon}],
          fun([A, B]) ->
-                 with_tls("", fun() ->
+                 with_tls("0", fun() ->
                                       with([{"t", ours, Soon}, {"o", otp, Soon}],
                                            fun([T, O]) ->
                                                    [false = connect(X, Y) || {X, Y} <- [{A, T}, {T, A}, {A, O}, {O, A}]],

@@ -122,7 +122,7 @@ protocol(Name) ->
     end.
 
 %% Are nodes started over TLS?
-is_tls() -> os:getenv("TLS", "") =/= "".
+is_tls() -> os:getenv("TLS") =:= "1".
 
 tls(Arguments) ->
     case is_tls() andalso not lists:any(fun(Word) -> lists:prefix("-ssl_dist_opt", Word) end, Arguments) of

@@ -6,6 +6,7 @@ import contextlib
 import hashlib
 import itertools
 import os
+import random
 import resource
 import signal
 import socket
@@ -22,9 +23,16 @@ ROOT = os.path.dirname(os.path.dirname(os.path.dirname(os.path.realpath(__file__
 
 
 def free_ports(count):
-    """So many ports of this host at which nobody listens."""
+    """So many ports of this host at which nobody listens, below those that Linux gives to connections, which could take them meanwhile."""
+    ports = []
     with contextlib.ExitStack() as held:
-        return [held.enter_context(socket.create_server((HOST, 0))).getsockname()[1] for _ in range(count)]
+        while len(ports) < count:
+            with contextlib.suppress(OSError):
+                ports.append(random.randrange(10000, 32768))
+                held.enter_context(socket.create_server((HOST, ports[-1])))
+                continue
+            ports.pop()
+    return ports
 
 
 def free_port():

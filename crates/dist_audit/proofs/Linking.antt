@@ -3,8 +3,8 @@ use Rattle.dist_audit.proofs.Words.{or-false, or-true, ◌≡◌, ℕ, zero, suc
 use Rattle.dist_audit.proofs.Words.{drop, is_some, Some, None, Option, nat_cmp, BTreeMap, sym, refl, ap, ◌∙◌, subst, arith, drop-cons, get, list_any, EndId}
 use Rattle.dist_audit.proofs.Words.{Event, comes_unopened, is_unopened, links_repeat, repeats, Knows, is_again, is_unknown, NodeLine, acceptor_of, comes_in}
 use Rattle.dist_audit.proofs.Words.{dialled_end, dialled_in, dialler_of, opens, opens_in, or_else}
-use Rattle.dist_core.specs.declared.event.Event.TheVariants as event
 use Rattle.dist_audit.proofs.Either.{any-same}
+use Rattle.dist_core.specs.declared.event.Event.TheVariants as event
 
 -- a line that opens names a dialler
 opened-is : (k : ℕ) (e : Event) → is_some (dialled_end k e) ≡ opens k e

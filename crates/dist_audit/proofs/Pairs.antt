@@ -1,10 +1,10 @@
 -- Links that are in pairs, in whatever order the lines stand.
 use Rattle.dist_audit.proofs.Words.{◌≡◌, Bool, true, false, not, ◌||◌, List, [], ◌∷◌, IsPermutation, sym, refl, ap, ◌∙◌, or_parts, AllByRecursion, IsDistinct}
 use Rattle.dist_audit.proofs.Words.{list_any, Event, comes_unopened, is_unopened, links_repeat, links_unpaired, repeats, NodeLine, comes, opens, opens_in}
+use Rattle.dist_audit.proofs.{Either.any-same, Either.distinct-none, Sorting.flips}
 use Rattle.std.proofs.lemmas.List.Sorted.{IsPermutation-sym, list_any-IsPermutation}
 use Rattle.std.proofs.lemmas.Map.Keys.{IsDistinct-head, IsDistinct-tail, IsDistinct-cons, IsDistinct-IsPermutation}
 use Rattle.dist_core.specs.declared.event.Event.TheVariants as event
-use Rattle.dist_audit.proofs.{Either.any-same, Either.distinct-none, Sorting.flips}
 
 abbrev event_of : NodeLine → Event
 event_of t = let l = t.line in l.event

@@ -2,9 +2,9 @@
 use Rattle.dist_audit.proofs.Words.{◌≡◌, false, List, [], length, IsTrue, None, sym, ap, ◌∙◌, subst, inr, run, World, empty, run-append, Closed, AllApply}
 use Rattle.dist_audit.proofs.Words.{AreFollowed, AreOfOneWorld, AreRefused, HasTables, IsWorldOf, world_before_lines, world_of, fault_of, links_unpaired}
 use Rattle.dist_audit.proofs.Words.{begins, of_lines, setups_of, AreLinesOf, NodeLine, lines_by_node}
-use Rattle.dist_audit.specs.declared.audit_error.AuditError.TheVariants as error
 use Rattle.dist_audit.proofs.{Beginning.all-begin, Faultless.few-nodes, Faultless.links-paired, Homing.all-come-home, Pairs.unpaired-alike, Walking.all-apply}
 use Rattle.dist_audit.proofs.{Quiet.FramesAlone, Quiet.all-take-theirs, Unchanged.KeepsSetups, Unchanged.own-digests, Unchanged.own-setups}
+use Rattle.dist_audit.specs.declared.audit_error.AuditError.TheVariants as error
 
 -- all nodes begin in the opening world
 pub has-begun : (cs : List Closed) (first : World) → first ≡ empty (setups_of cs) → fault_of cs ≡ None → AllApply (begins 0 first.setups) first

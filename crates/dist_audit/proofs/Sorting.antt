@@ -3,9 +3,9 @@ use Rattle.dist_audit.proofs.Words.{◌≡◌, ℕ, suc, ◌<◌, ◌≤◌, tru
 use Rattle.dist_audit.proofs.Words.{subst, inl, inr, arith, ltb-true, and_parts, not-false, or_parts, nat_tests, All-from_recursion, recursion_from_All}
 use Rattle.dist_audit.proofs.Words.{AllByRecursion, IsDistinct, list_any, IsNonDecreasingBy, Closed, Line, falls, has_ticket, has_ticket_in, rises, rises_in}
 use Rattle.dist_audit.proofs.Words.{starts_above, twice, AreLinesOf, NodeLine, lines_at, lines_by_node, lines_from, ticket_of}
+use Rattle.dist_audit.proofs.Either.{distinct-none}
 use Rattle.std.proofs.lemmas.List.Sorted.{IsPermutation-sym, All-permutation, IsPermutation-map, IsPermutation-trans}
 use Rattle.std.proofs.lemmas.Map.Keys.{IsDistinct-head, IsDistinct-tail, IsDistinct-cons, IsDistinct-IsPermutation}
-use Rattle.dist_audit.proofs.Either.{distinct-none}
 
 -- x is one of these
 abbrev Has : {X : Type 0} → X → List X → Type 0

@@ -1,37 +1,22 @@
 -- HISTORIES THAT ARE THOSE OF ONE WORLD.
-use Rattle.std.specs.Prelude.{◌≡◌, ◌⊎◌, ℕ, ◌<◌, ◌^◌, List, [], ◌∷◌, ◌++◌}
-use Rattle.std.specs.Prelude.{length, Option, Some, None, Ok, slice_get, option_to_list}
-use Rattle.std.specs.Option.{option_map, option_and_then}
-use Rattle.std.specs.Int.{w16}
+use Rattle.std.specs.Prelude.{◌≡◌, ◌⊎◌, ℕ, ◌<◌, ◌^◌, List, [], ◌∷◌, ◌++◌, length, Option, Some, None, Ok, slice_get, option_to_list}
+use Rattle.std.specs.{Option.option_map, Option.option_and_then, Int.w16}
 use Rattle.std.specs.FinMap as map
 use Rattle.dist_names.specs.Order.{Name}
 use Rattle.dist_messages.specs.declared.message.Side.{Side}
 use Rattle.dist_frames.specs.Stream.{body_frame, first_body}
-use Rattle.dist_peers.specs.declared.entry.EndId.{EndId}
-use Rattle.dist_peers.specs.declared.entry.Entry.{Entry}
-use Rattle.dist_core_ends.specs.declared.known.UpRecord.{UpRecord}
-use Rattle.dist_core.specs.declared.event.Event.{Event}
+use Rattle.dist_peers.specs.declared.entry.{EndId.EndId, Entry.Entry}
+use Rattle.dist_core_ends.specs.{declared.known.UpRecord.UpRecord, Ends.table_of, Ends.up_ids, Ends.up_from}
+use Rattle.dist_core.specs.{declared.event.Event.Event, Node.NodeState, Step.step, Answers.reply_of}
 use Rattle.dist_core.specs.declared.event.Event.TheVariants as event
-use Rattle.dist_core_ends.specs.Ends.{table_of, up_ids, up_from}
-use Rattle.dist_core.specs.Node.{NodeState}
-use Rattle.dist_core.specs.Step.{step}
-use Rattle.dist_core.specs.Answers.{reply_of}
-use Rattle.dist_locked_book.specs.declared.line.Line.{Line}
-use Rattle.dist_locked_book.specs.declared.closing.Closed.{Closed}
-use Rattle.dist_world_model.specs.declared.happening.Happening.{Happening}
-use Rattle.dist_world_model.specs.World.{World, empty, running, row_at}
-use Rattle.dist_world_model.specs.Delivery.{text_to}
+use Rattle.dist_locked_book.specs.declared.{line.Line.Line, closing.Closed.Closed}
+use Rattle.dist_world_model.specs.{declared.happening.Happening.Happening, World.World, World.empty, World.running, World.row_at, Delivery.text_to, Run.run}
+use Rattle.dist_world_model.specs.{Run.count_applied, Laws.AllLives, OwnSetups.HasSetDigests, OwnSetups.IsSetUp}
 use Rattle.dist_world_lives.specs.Stepping.{wire_of}
 use Rattle.dist_world.specs.Asking.{node_of, said_to}
-use Rattle.dist_world_model.specs.Run.{run, count_applied}
-use Rattle.dist_world_model.specs.Laws.{AllLives}
-use Rattle.dist_world_model.specs.OwnSetups.{HasSetDigests, IsSetUp}
-use Rattle.dist_audit.specs.declared.audit_error.AuditError.{AuditError}
-use Rattle.dist_audit.specs.declared.audit_error.AuditError.TheVariants as error
-use Rattle.dist_audit.specs.Lines.{NodeLine, AreLinesOf}
-use Rattle.dist_audit.specs.Links.{conn_of}
-use Rattle.dist_audit.specs.Faults.{fault_of}
 use Rattle.dist_audit.specs.Happenings.{setups_of, begins, ahead, itself, with_mentions, happenings}
+use Rattle.dist_audit.specs.{declared.audit_error.AuditError.AuditError, Lines.NodeLine, Lines.AreLinesOf, Links.conn_of, Faults.fault_of}
+use Rattle.dist_audit.specs.declared.audit_error.AuditError.TheVariants as error
 
 -- the text begins with the frame of this body
 abbrev pub BeginsWith : Option (List ℕ) → List ℕ → Type 0

@@ -1,17 +1,13 @@
 -- WHAT IS WRONG WITH HISTORIES by themselves.
-use Rattle.std.specs.Prelude.{◌≡◌, ℕ, ◌==◌, Bool, true, false, not, ◌&&◌, ◌||◌, nat_lt}
-use Rattle.std.specs.Prelude.{if◌then◌else◌, List, [], ◌∷◌, length, Option, Some, None}
+use Rattle.std.specs.Prelude.{◌≡◌, ℕ, ◌==◌, Bool, true, false, not, ◌&&◌, ◌||◌, nat_lt, if◌then◌else◌, List, [], ◌∷◌, length, Option, Some, None}
 use Rattle.std.specs.List.{list_any}
 use Rattle.dist_world.specs.Setups.{names_repeat}
 use Rattle.dist_core.specs.declared.event.Event.{Event}
 use Rattle.dist_core.specs.declared.event.Event.TheVariants as event
-use Rattle.dist_locked_book.specs.declared.line.Line.{Line}
-use Rattle.dist_locked_book.specs.declared.closing.Closed.{Closed}
-use Rattle.dist_audit.specs.declared.audit_error.AuditError.{AuditError}
+use Rattle.dist_locked_book.specs.declared.{line.Line.Line, closing.Closed.Closed}
+use Rattle.dist_audit.specs.{declared.audit_error.AuditError.AuditError, Lines.NodeLine, Lines.lines_by_node, Links.opens_in, Links.comes_in}
+use Rattle.dist_audit.specs.{Happenings.setups_of}
 use Rattle.dist_audit.specs.declared.audit_error.AuditError.TheVariants as error
-use Rattle.dist_audit.specs.Lines.{NodeLine, lines_by_node}
-use Rattle.dist_audit.specs.Links.{opens_in, comes_in}
-use Rattle.dist_audit.specs.Happenings.{setups_of}
 
 -- the next ticket, if any, is greater than n
 abbrev pub starts_above : ℕ → List Line → Bool

@@ -1,13 +1,10 @@
 -- WHAT THE CODE KEEPS BESIDE THE LINES, so that it never searches the lines twice.
 use Rattle.std.specs.Prelude.{◌≡◌, ℕ, suc, ◌==◌, Bool, false, not, if◌then◌else◌, is_some, List, [], ◌∷◌, Option, Some, None}
-use Rattle.std.specs.Option.{option_map}
-use Rattle.std.specs.Ordering.{nat_cmp}
-use Rattle.std.specs.BTreeMap.{BTreeMap, get}
+use Rattle.std.specs.{Option.option_map, Ordering.nat_cmp, BTreeMap.BTreeMap, BTreeMap.get}
 use Rattle.dist_peers.specs.declared.entry.EndId.{EndId}
 use Rattle.dist_core.specs.declared.event.Event.{Event}
 use Rattle.dist_core.specs.declared.event.Event.TheVariants as event
-use Rattle.dist_audit.specs.Lines.{NodeLine}
-use Rattle.dist_audit.specs.Links.{dialler_of, acceptor_of}
+use Rattle.dist_audit.specs.{Lines.NodeLine, Links.dialler_of, Links.acceptor_of}
 
 -- these maps have, for each link, the end that dialled it, with its node, and the node that accepted it
 pub record Knows (diallers : BTreeMap ℕ (ℕ × EndId)) (acceptors : BTreeMap ℕ ℕ) (ts : List NodeLine) : Type 0 where

@@ -1,8 +1,6 @@
 -- THE LINES OF ALL HISTORIES, in the order of their tickets.
-use Rattle.std.specs.Prelude.{ℕ, suc, List, [], ◌∷◌, ◌++◌}
-use Rattle.std.specs.List.Sorted.{IsPermutation, IsNonDecreasingBy}
-use Rattle.dist_locked_book.specs.declared.line.Line.{Line}
-use Rattle.dist_locked_book.specs.declared.closing.Closed.{Closed}
+use Rattle.std.specs.{Prelude.ℕ, Prelude.suc, Prelude.List, Prelude.[], Prelude.◌∷◌, Prelude.◌++◌, List.Sorted.IsPermutation, List.Sorted.IsNonDecreasingBy}
+use Rattle.dist_locked_book.specs.declared.{line.Line.Line, closing.Closed.Closed}
 
 -- a line, and whose it is: the place of its node among all
 pub record NodeLine : Type 0 where

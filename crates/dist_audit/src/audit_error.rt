@@ -1,8 +1,7 @@
 //! Why there is no world.
 
 ghost use Rattle.std.specs.Prelude.{◌≡◌};
-ghost use Rattle.dist_audit.specs.Refusals.{refusal_name, refusal_number};
-ghost use Rattle.dist_audit.specs.declared.audit_error.AuditError.TheVariants.{NoMemory};
+ghost use Rattle.dist_audit.specs.{Refusals.refusal_name, Refusals.refusal_number, declared.audit_error.AuditError.TheVariants.NoMemory};
 
 use std::alloc::{AllocError, AllocFailed};
 use thiserror::Error;

@@ -1,11 +1,9 @@
 //! The audit.
 ghost use Rattle.std.specs.Prelude.{◌≡◌, ◌↔◌, List, None, Some, IsTrue, true, false, IfOk, IfErr, OnOk};
-ghost use Rattle.dist_world_model.specs.World.{empty};
-ghost use Rattle.dist_world_model.specs.Run.{run};
-ghost use Rattle.dist_audit.specs.Lines.{NodeLine, AreLinesOf};
-ghost use Rattle.dist_audit.specs.Happenings.{setups_of, begins};
+ghost use Rattle.dist_world_model.specs.{World.empty, Run.run};
 ghost use Rattle.dist_audit.specs.Faults.{falls, twice, fault_of, nodes_unpaired, Unpairs, IsFault};
 ghost use Rattle.dist_audit.specs.Audit.{AllApply, AreOfOneWorld, AreRefused, IsWorldOf, Refutes, Reports, ReportsFirst, UnlessShort, world_of};
+ghost use Rattle.dist_audit.specs.{Lines.NodeLine, Lines.AreLinesOf, Happenings.setups_of, Happenings.begins};
 
 use crate::audit_error::AuditError;
 use crate::checks::{falls, twice};

@@ -1,8 +1,5 @@
 //! What is wrong with the tickets of histories.
-ghost use Rattle.std.specs.Prelude.{◌≡◌, ℕ, ◌||◌, IfOk, OnOk};
-ghost use Rattle.std.specs.List.{list_any};
-ghost use Rattle.std.specs.Ordering.{nat_cmp};
-ghost use Rattle.std.specs.BTreeSet.{contains};
+ghost use Rattle.std.specs.{Prelude.◌≡◌, Prelude.ℕ, Prelude.◌||◌, Prelude.IfOk, Prelude.OnOk, List.list_any, Ordering.nat_cmp, BTreeSet.contains};
 ghost use Rattle.dist_audit.specs.Faults.{starts_above, rises, falls, has_ticket, twice};
 
 use dist_locked_book::{Closed, SharedLine};

@@ -1,8 +1,7 @@
 //! What holds of all histories.
 ghost use Rattle.std.specs.Prelude.{◌≡◌, List, false};
 ghost use Rattle.dist_locked_book.specs.declared.closing.Closed.{Closed};
-ghost use Rattle.dist_audit.specs.Lines.{NodeLine, AreLinesOf};
-ghost use Rattle.dist_audit.specs.Faults.{falls, twice};
+ghost use Rattle.dist_audit.specs.{Lines.NodeLine, Lines.AreLinesOf, Faults.falls, Faults.twice};
 
 /// Where tickets rise in each history and none stands in two, there is but one list of all lines in the order of their tickets.
 pub fn lines_have_one_order()

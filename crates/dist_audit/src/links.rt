@@ -1,11 +1,8 @@
 //! Links: the numbers by which those who carried a connection knew it.
 ghost use Rattle.std.specs.Prelude.{◌≡◌, ℕ, if◌then◌else◌, [], Some, false, IfOk, IfErr, OnOk};
-ghost use Rattle.std.specs.List.{list_any};
-ghost use Rattle.std.specs.Ordering.{nat_cmp};
-ghost use Rattle.std.specs.BTreeMap.{get};
+ghost use Rattle.std.specs.{List.list_any, Ordering.nat_cmp, BTreeMap.get};
 ghost use Rattle.dist_audit.specs.Links.{link_in, comes, dialled_end, dialled_in, comes_in, or_else, target_of};
-ghost use Rattle.dist_audit.specs.Faults.{links_repeat, comes_unopened, Unpairs};
-ghost use Rattle.dist_audit.specs.Kept.{Knows, is_again, is_unknown};
+ghost use Rattle.dist_audit.specs.{Faults.links_repeat, Faults.comes_unopened, Faults.Unpairs, Kept.Knows, Kept.is_again, Kept.is_unknown};
 
 use crate::audit_error::AuditError;
 use crate::lines::NodeLine;

@@ -1,8 +1,6 @@
 //! All lines, whose links are in pairs.
 ghost use Rattle.std.specs.Prelude.{◌≡◌, false, IfOk, IfErr, OnOk};
-ghost use Rattle.dist_audit.specs.Lines.{lines_by_node, AreLinesOf};
-ghost use Rattle.dist_audit.specs.Links.{dialler_of, acceptor_of};
-ghost use Rattle.dist_audit.specs.Faults.{links_unpaired, Unpairs};
+ghost use Rattle.dist_audit.specs.{Lines.lines_by_node, Lines.AreLinesOf, Links.dialler_of, Links.acceptor_of, Faults.links_unpaired, Faults.Unpairs};
 
 use crate::audit_error::AuditError;
 use crate::lines::{NodeLine, lines_of};

@@ -2,10 +2,8 @@
 ghost use Rattle.std.specs.Prelude.{◌≡◌, ◌↔◌, ◌∷◌, [], length, IsTrue, IfOk, IfErr, OnOk, OnErr, option_to_list};
 ghost use Rattle.dist_world_model.specs.Run.{run};
 ghost use Rattle.dist_world.specs.Asking.{node_of};
-ghost use Rattle.dist_audit.specs.Happenings.{with_mentions, own_of, of_lines};
-ghost use Rattle.dist_audit.specs.Lines.{line_of_node};
-ghost use Rattle.dist_audit.specs.Links.{mention, link_in};
 ghost use Rattle.dist_audit.specs.Audit.{AllApply, Says, IsNext, Replies, IsFollowed, AreFollowed, after, Refutes, RefusesLine, StopsAt, UnlessShort};
+ghost use Rattle.dist_audit.specs.{Happenings.with_mentions, Happenings.own_of, Happenings.of_lines, Lines.line_of_node, Links.mention, Links.link_in};
 
 use crate::audit_error::AuditError;
 use crate::happenings::{before, own};

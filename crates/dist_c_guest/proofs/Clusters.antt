@@ -3,13 +3,13 @@ use Rattle.dist_c_guest.proofs.Common.{◌≡◌, ℕ, zero, suc, Bool, true, �
 use Rattle.dist_c_guest.proofs.Common.{and_parts, cond-true, cond_both, list_all, AreLegal, UpRecord, Setup, Act, run_acts, NodeState, opening, Agreement}
 use Rattle.dist_c_guest.proofs.Common.{AllFit, AreSetups, Counts, IsReached, IsUp, run, Life, World, empty, end_at, end_of_life, Happening, fit-append}
 use Rattle.dist_c_guest.proofs.Common.{is-running}
+use Rattle.dist_c_guest.proofs.Shown.{one-of-a-peer, run-is-run, up-record}
 use Rattle.std.proofs.lemmas.List.Sums.{AllPass-from_list_all}
 use Rattle.dist_core_ends.specs.declared.known.End.TheVariants as ends
 use Rattle.dist_c_guest.specs.Cluster.{Agree, AgreeBy, Cluster, Doing, Does, Shows_end, Hides_end, FitDoing, GuardShows, LeadsTo, ShowsNode, AllFitDoings}
 use Rattle.dist_c_guest.specs.Cluster.{doing, done, done_by, no_cluster, run_cluster, runs_life, stands}
 use Rattle.dist_c_guest.specs.Guard.{AreUp, Told, acts_run, first_guard, is_up_end, run_guard}
 use Rattle.dist_c_guest.specs.Worlds.{AreWhole, Guests, guests_happen, run_guests, run_guests_from, setups_in}
-use Rattle.dist_c_guest.proofs.Shown.{one-of-a-peer, run-is-run, up-record}
 
 fewer-all : {A : Type 0} (test : A → Bool) (xs : List A) (k : ℕ) → list_all test xs ≡ true → list_all test (remove xs k) ≡ true
 fewer-all test [] zero h = refl

@@ -2,11 +2,11 @@
 use Rattle.dist_c_guest.proofs.Common.{◌≡◌, ℕ, zero, suc, true, cond, ltb, List, [], ◌∷◌, ◌++◌, slice_get, Some, None, Option, sym, refl, ap, ◌∙◌, subst, w16}
 use Rattle.dist_c_guest.proofs.Common.{first_body, Side, EndId, announced_by, Setup, Agreement, AllFit, AreSetups, body_taken, change_to, text_to, AreCanonical}
 use Rattle.dist_c_guest.proofs.Common.{at_place, run, Conn, World, empty, row_at, running, Happening, fit-append, run-append, expansion, Hold, is_whole}
+use Rattle.dist_c_guest.proofs.WholeBodies.{holds-nothing, read-as-it-came, whole-pair}
 use Rattle.dist_core.specs.declared.event.Event.TheVariants as event
 use Rattle.dist_world_model.specs.Happenings.{take_frame, take_read, happens, most_applied, notify, ticked_on, without_closing, world_after, ◌>>=◌}
 use Rattle.dist_world_model.specs.declared.happening.Happening.TheVariants as happening
 use Rattle.dist_c_guest.specs.Worlds.{AreWhole, Guests, guests_happen, mandatory_of, run_guests, run_guests_from, setups_in, world_after_guests}
-use Rattle.dist_c_guest.proofs.WholeBodies.{holds-nothing, read-as-it-came, whole-pair}
 
 -- ---- lists
 

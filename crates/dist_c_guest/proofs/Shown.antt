@@ -4,6 +4,7 @@ use Rattle.dist_c_guest.proofs.Common.{Some, None, Ok, Err, count_by, Option, Re
 use Rattle.dist_c_guest.proofs.Common.{false≢true, not-true, or_cases, Name, itself_lem, EndId, AreLegal, end_id, entry_in, is_held, is_open, names, End}
 use Rattle.dist_c_guest.proofs.Common.{UpRecord, Why, Setup, Act, Changes, Forgets, Renews, Steps, act, changed_or, run_acts, NodeState, node_after, opening}
 use Rattle.dist_c_guest.proofs.Common.{after, at_end, step, step_result, Effect, Event, Reply, StepError}
+use Rattle.dist_c_guest.proofs.UpStays.{Shuts, up-stays}
 use Rattle.dist_peers.specs.declared.entry.Entry.TheVariants as entry
 use Rattle.dist_core_ends.specs.declared.known.End.TheVariants as ends
 use Rattle.dist_core_ends.proofs.Opens.{count-some}
@@ -13,7 +14,6 @@ use Rattle.dist_core.proofs.Words.{some_pair_parts, Up, Entry, without_cause, wi
 use Rattle.dist_core_laws.proofs.Succeeding.{has-effect, lost-closed}
 use Rattle.dist_c_guest.specs.Guard.{Guard, Told, Asks, Shows, Gone, AreUp, acts_asked, acts_guarded, acts_run, closes_up_end, first_guard, guarded, held_reply}
 use Rattle.dist_c_guest.specs.Guard.{is_up_end, run_guard}
-use Rattle.dist_c_guest.proofs.UpStays.{Shuts, up-stays}
 
 pub up-record : (o : Option End) → is_up_end o ≡ true → (r : UpRecord) × (o ≡ Some (ends.Up r))
 up-record (Some (ends.Up r)) h = (r, refl)

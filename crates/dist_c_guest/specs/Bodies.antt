@@ -2,10 +2,8 @@
 use Rattle.std.specs.Prelude.{ℕ, List, length, nat_le, slice_get, Bool, true, false, Option, Some, None}
 use Rattle.dist_frames.specs.Stream.{bodies}
 use Rattle.dist_peers.specs.declared.entry.EndId.{EndId}
-use Rattle.dist_c_guest.specs.Calls.{answer_to, frame_to}
-use Rattle.dist_c_guest.specs.declared.guest.Guest.{Guest}
-use Rattle.dist_c_guest.specs.declared.replies.DnReply.{DnReply}
 use Rattle.dist_c_guest.specs.Steps.{Copies, Keeps, Makes, sent_bytes}
+use Rattle.dist_c_guest.specs.{Calls.answer_to, Calls.frame_to, declared.guest.Guest.Guest, declared.replies.DnReply.DnReply}
 
 -- a frame can have this body: its length fits two bytes
 abbrev pub is_short : List ℕ → Bool

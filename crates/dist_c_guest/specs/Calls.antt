@@ -3,20 +3,10 @@ use Rattle.std.specs.Prelude.{◌≡◌, ℕ, List, Option, Some, None, Result, 
 use Rattle.dist_names.specs.Order.{Name}
 use Rattle.dist_peers.specs.declared.entry.EndId.{EndId}
 use Rattle.dist_core_setup.specs.declared.setup.Setup.{Setup}
-use Rattle.dist_core.specs.declared.event.Event.{Event}
+use Rattle.dist_core.specs.{Changing.after_change, Node.NodeState, Step.step, Runs.opening, Answers.Refuses}
+use Rattle.dist_core.specs.declared.{event.Event.Event, reply.Reply.Reply, step_error.StepError.StepError, changing.Change.TheVariants.Allow}
 use Rattle.dist_core.specs.declared.event.Event.TheVariants as event
-use Rattle.dist_core.specs.declared.reply.Reply.{Reply}
-use Rattle.dist_core.specs.declared.step_error.StepError.{StepError}
-use Rattle.dist_core.specs.declared.changing.Change.TheVariants.{Allow}
-use Rattle.dist_core.specs.Changing.{after_change}
-use Rattle.dist_core.specs.Node.{NodeState}
-use Rattle.dist_core.specs.Step.{step}
-use Rattle.dist_core.specs.Runs.{opening}
-use Rattle.dist_core.specs.Answers.{Refuses}
-use Rattle.dist_c_guest.specs.Forms.{allowed_names}
-use Rattle.dist_c_guest.specs.Reading.{expansion, plain}
-use Rattle.dist_c_guest.specs.Statuses.{status_received}
-use Rattle.dist_c_guest.specs.declared.guest.Guest.{Guest}
+use Rattle.dist_c_guest.specs.{Forms.allowed_names, Reading.expansion, Reading.plain, Statuses.status_received, declared.guest.Guest.Guest}
 
 -- a guest whose node has made no step, and which reads bodies unchanged
 abbrev pub first_guest : Setup → Guest

@@ -1,19 +1,11 @@
 -- The contracts of the exports that change the setup of a node, between two steps.
 use Rattle.std.specs.Prelude.{◌≡◌, ℕ, ◌⊎◌, List, Bool, true, false, Option, Some, None, Result, Ok, Err}
-use Rattle.dist_names.specs.declared.name_error.NameError.{NameError}
+use Rattle.dist_names.specs.{declared.name_error.NameError.NameError, Order.Name, NodeName.name_of_bytes}
 use Rattle.dist_secret.specs.declared.cookie_error.CookieError.{CookieError}
-use Rattle.dist_core.specs.declared.changing.ChangeError.{ChangeError}
-use Rattle.dist_core.specs.declared.changing.Change.{Change}
 use Rattle.dist_core.specs.declared.changing.Change.TheVariants.{Cookie, UsualCookie}
-use Rattle.dist_names.specs.Order.{Name}
-use Rattle.dist_core.specs.Changing.{change}
-use Rattle.dist_core.specs.Node.{NodeState}
-use Rattle.dist_c_guest.specs.declared.guest.Guest.{Guest}
-use Rattle.dist_names.specs.NodeName.{name_of_bytes}
-use Rattle.dist_c_guest.specs.Forms.{form_of_text}
+use Rattle.dist_core.specs.{declared.changing.ChangeError.ChangeError, declared.changing.Change.Change, Changing.change, Node.NodeState}
 use Rattle.dist_c_guest.specs.Planning.{lets_in, shuts_out, with_form, without_form}
-use Rattle.dist_c_guest.specs.Steps.{Silent}
-use Rattle.dist_c_guest.specs.Codes.{name_code, cookie_code, change_code}
+use Rattle.dist_c_guest.specs.{declared.guest.Guest.Guest, Forms.form_of_text, Steps.Silent, Codes.name_code, Codes.cookie_code, Codes.change_code}
 
 -- the node is the definition's after a change, and what its newest step returned and received stays; or the definition's refusal
 -- is returned; where it refuses nothing memory may run out (3)

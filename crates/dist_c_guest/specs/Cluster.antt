@@ -4,9 +4,8 @@ use Rattle.std.specs.List.{list_all, remove, AllByRecursion, Contains}
 use Rattle.dist_core_setup.specs.declared.setup.Setup.{Setup}
 use Rattle.dist_core_ends.specs.declared.known.UpRecord.{UpRecord}
 use Rattle.dist_core_ends.specs.declared.known.End.TheVariants as ends
-use Rattle.dist_world_model.specs.declared.happening.Happening.{Happening}
 use Rattle.dist_world_model.specs.World.{World, Life, running, runs, end_at, empty}
-use Rattle.dist_world_model.specs.Agreement.{IsUp, AreAgreed, Fits}
+use Rattle.dist_world_model.specs.{declared.happening.Happening.Happening, Agreement.IsUp, Agreement.AreAgreed, Agreement.Fits}
 use Rattle.dist_c_guest.specs.Worlds.{Guests, guests_happen, run_guests_from, setups_in}
 use Rattle.dist_c_guest.specs.Guard.{Told, first_guard, is_up_end, run_guard}
 

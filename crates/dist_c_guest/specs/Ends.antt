@@ -3,17 +3,10 @@
 use Rattle.std.specs.Prelude.{◌≡◌, ℕ, zero, suc, List, [], length, nat_le, Option, Some, None, slice_get, count_by}
 use Rattle.dist_names.specs.Order.{Name}
 use Rattle.dist_peers.specs.declared.entry.EndId.{EndId}
-use Rattle.dist_core_ends.specs.declared.phase.Phase.{Phase}
+use Rattle.dist_core_ends.specs.{declared.phase.Phase.Phase, declared.known.End.End, Ends.is_open, Ends.oldest_pending, Forgetting.without_causes_below}
 use Rattle.dist_core_ends.specs.declared.phase.Phase.TheVariants as phase
-use Rattle.dist_core_ends.specs.declared.known.End.{End}
 use Rattle.dist_core_ends.specs.declared.known.End.TheVariants as ends
-use Rattle.dist_core_ends.specs.Ends.{is_open, oldest_pending}
-use Rattle.dist_core_ends.specs.Forgetting.{without_causes_below}
-use Rattle.dist_c_guest.specs.Calls.{restarted_guest}
-use Rattle.dist_c_guest.specs.declared.guest.Guest.{Guest}
-use Rattle.dist_c_guest.specs.declared.ends.DnEnd.{DnEnd}
-use Rattle.dist_c_guest.specs.Codes.{why_number}
-use Rattle.dist_c_guest.specs.Steps.{CopiesIf, Silent}
+use Rattle.dist_c_guest.specs.{Calls.restarted_guest, declared.guest.Guest.Guest, declared.ends.DnEnd.DnEnd, Codes.why_number, Steps.CopiesIf, Steps.Silent}
 
 -- the number of the phase of an end that knows its peer and is not up
 abbrev pub phase_number : Phase → ℕ

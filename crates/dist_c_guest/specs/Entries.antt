@@ -1,13 +1,9 @@
 -- What is reported of a peer's entry.
 use Rattle.std.specs.Prelude.{◌≡◌, ℕ, ◌⊎◌, List, Option, Some, None, Result, Ok, Err}
 use Rattle.dist_names.specs.declared.name_error.NameError.{NameError}
-use Rattle.dist_peers.specs.declared.entry.Entry.{Entry}
-use Rattle.dist_peers.specs.declared.entry.Entry.TheVariants.{Out, In, Up, Challenged}
+use Rattle.dist_peers.specs.declared.entry.Entry.{Entry, TheVariants.Out, TheVariants.In, TheVariants.Up, TheVariants.Challenged}
 use Rattle.dist_core_ends.specs.Ends.{entry_in}
-use Rattle.dist_c_guest.specs.declared.guest.Guest.{Guest}
-use Rattle.dist_c_guest.specs.declared.entries.DnEntry.{DnEntry}
-use Rattle.dist_c_guest.specs.Codes.{name_code}
-use Rattle.dist_c_guest.specs.Steps.{Silent}
+use Rattle.dist_c_guest.specs.{declared.guest.Guest.Guest, declared.entries.DnEntry.DnEntry, Codes.name_code, Steps.Silent}
 
 -- the number of the state, the end that is up, and the one that is not
 abbrev pub row : ℕ → ℕ → ℕ → DnEntry

@@ -1,16 +1,9 @@
 -- The contracts of the exports that foresee what a step would return. None changes the node.
 use Rattle.std.specs.Prelude.{◌≡◌, ℕ, ◌+◌, ◌⊎◌, List, length, Bool, true, false, Option, Some, None, Result, Ok, Err}
 use Rattle.dist_peers.specs.declared.entry.EndId.{EndId}
-use Rattle.dist_core.specs.declared.reply.Reply.{Reply}
-use Rattle.dist_core.specs.declared.step_error.StepError.{StepError}
-use Rattle.dist_core.specs.Node.{NodeState}
-use Rattle.dist_c_guest.specs.Calls.{answer_to}
-use Rattle.dist_c_guest.specs.declared.guest.Guest.{Guest}
-use Rattle.dist_c_guest.specs.declared.replies.DnReply.{DnReply}
-use Rattle.dist_c_guest.specs.Codes.{step_code}
-use Rattle.dist_c_guest.specs.Replies.{reply_of}
-use Rattle.dist_c_guest.specs.Steps.{Silent}
-use Rattle.dist_c_guest.specs.Bodies.{is_short}
+use Rattle.dist_core.specs.{declared.reply.Reply.Reply, declared.step_error.StepError.StepError, Node.NodeState}
+use Rattle.dist_c_guest.specs.{Calls.answer_to, Codes.step_code, Replies.reply_of, Steps.Silent, Bodies.is_short}
+use Rattle.dist_c_guest.specs.declared.{guest.Guest.Guest, replies.DnReply.DnReply}
 
 -- the reply of a step is reported, or its refusal, or memory ran out for the answer (3)
 abbrev pub Foresees : Result (Reply × NodeState) StepError → ℕ → ℕ → DnReply → DnReply → Type 0

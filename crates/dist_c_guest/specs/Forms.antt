@@ -1,19 +1,13 @@
 -- Forms: texts that each let many names connect, as OTP's net_kernel:allow/1 takes them. A text without an `@` is a host, and
 -- stands for every node of that host. One whose last byte is its only `@` is a node's name without its host, and stands for
 -- that node at any host.
-use Rattle.std.specs.Prelude.{ℕ, ◌+◌, Bool, ◌||◌, not, ◌==◌, nat_lt, nat_le, if◌then◌else◌, List}
-use Rattle.std.specs.Prelude.{length, take, Option, Some, None, option_and_then, Result, Ok, Err}
-use Rattle.std.specs.List.{list_all}
-use Rattle.std.specs.Result.{result_ok}
-use Rattle.dist_names.specs.declared.name_error.NameError.{NameError}
-use Rattle.dist_names.specs.declared.name_error.NameError.TheVariants.{TooShort, TooLong, BadByte}
-use Rattle.dist_names.specs.Bytes.{is_visible}
-use Rattle.dist_names.specs.NodeName.{host_of, name_of_bytes, short_of}
-use Rattle.dist_names.specs.Order.{Name, is_listed}
-use Rattle.dist_messages.specs.declared.message.Side.TheVariants.{Dialler}
-use Rattle.dist_messages.specs.declared.message.Message.{Message}
+use Rattle.std.specs.Prelude.{ℕ, ◌+◌, Bool, ◌||◌, not, ◌==◌, nat_lt, nat_le, if◌then◌else◌, List, length, take, Option, Some, None, option_and_then, Result}
+use Rattle.std.specs.Prelude.{Ok, Err}
+use Rattle.std.specs.{List.list_all, Result.result_ok}
+use Rattle.dist_names.specs.{Bytes.is_visible, NodeName.host_of, NodeName.name_of_bytes, NodeName.short_of, Order.Name, Order.is_listed}
+use Rattle.dist_names.specs.declared.name_error.NameError.{NameError, TheVariants.TooShort, TheVariants.TooLong, TheVariants.BadByte}
+use Rattle.dist_messages.specs.{declared.message.Side.TheVariants.Dialler, declared.message.Message.Message, Reading.read}
 use Rattle.dist_messages.specs.declared.message.Message.TheVariants as message
-use Rattle.dist_messages.specs.Reading.{read}
 use Rattle.dist_core_setup.specs.Changing.{with_name}
 
 -- ---- which texts are forms

@@ -4,26 +4,13 @@ use Rattle.std.specs.Prelude.{◌≡◌, ℕ, ◌==◌, Bool, true, false, not, 
 use Rattle.std.specs.Prelude.{Option, Some, None, is_some, Result, Ok, Err, slice_get}
 use Rattle.dist_peers.specs.declared.entry.EndId.{EndId}
 use Rattle.dist_core_setup.specs.declared.setup.Setup.{Setup}
-use Rattle.dist_core_ends.specs.declared.why.Why.{Why}
-use Rattle.dist_core_ends.specs.declared.known.UpRecord.{UpRecord}
-use Rattle.dist_core_ends.specs.declared.known.End.{End}
+use Rattle.dist_core_ends.specs.{declared.why.Why.Why, declared.known.UpRecord.UpRecord, declared.known.End.End, declared.phase.Still.Still, Ends.still_of}
 use Rattle.dist_core_ends.specs.declared.known.End.TheVariants as ends
-use Rattle.dist_core_ends.specs.declared.phase.Still.{Still}
 use Rattle.dist_core_ends.specs.declared.phase.Still.TheVariants as still
-use Rattle.dist_core_ends.specs.Ends.{still_of}
-use Rattle.dist_core.specs.declared.changing.Change.TheVariants.{Allow}
+use Rattle.dist_core.specs.{Acts.Act, Acts.run_acts, Acts.Steps, Acts.Changes, Answers.Refuses, Node.NodeState, Runs.opening, Step.step}
+use Rattle.dist_core.specs.declared.{changing.Change.TheVariants.Allow, reply.Reply.Reply, step_error.StepError.StepError}
 use Rattle.dist_core.specs.declared.event.Event.TheVariants as event
-use Rattle.dist_core.specs.declared.reply.Reply.{Reply}
-use Rattle.dist_core.specs.declared.step_error.StepError.{StepError}
-use Rattle.dist_core.specs.Acts.{Act, run_acts, Steps, Changes}
-use Rattle.dist_core.specs.Answers.{Refuses}
-use Rattle.dist_core.specs.Node.{NodeState}
-use Rattle.dist_core.specs.Runs.{opening}
-use Rattle.dist_core.specs.Step.{step}
-use Rattle.dist_c_guest.specs.Calls.{IsCall, answer_to, frame_to}
-use Rattle.dist_c_guest.specs.Forms.{allowed_names}
-use Rattle.dist_c_guest.specs.Reading.{expansion}
-use Rattle.dist_c_guest.specs.declared.guest.Guest.{Guest}
+use Rattle.dist_c_guest.specs.{Calls.IsCall, Calls.answer_to, Calls.frame_to, Forms.allowed_names, Reading.expansion, declared.guest.Guest.Guest}
 
 -- ---- the rule
 

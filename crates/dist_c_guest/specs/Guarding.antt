@@ -2,13 +2,8 @@
 use Rattle.std.specs.Prelude.{◌≡◌, ℕ, ◌⊎◌, List, length, Bool, true, false, Option, Some, None}
 use Rattle.dist_peers.specs.declared.entry.EndId.{EndId}
 use Rattle.dist_core.specs.declared.reply.Reply.{Reply}
-use Rattle.dist_c_guest.specs.Calls.{answer_to, frame_to}
-use Rattle.dist_c_guest.specs.declared.guest.Guest.{Guest}
-use Rattle.dist_c_guest.specs.Guard.{held_reply}
-use Rattle.dist_c_guest.specs.declared.replies.DnReply.{DnReply}
-use Rattle.dist_c_guest.specs.Bodies.{is_short}
-use Rattle.dist_c_guest.specs.Replies.{reply_of}
-use Rattle.dist_c_guest.specs.Steps.{Keeps, Makes}
+use Rattle.dist_c_guest.specs.{Calls.answer_to, Calls.frame_to, Guard.held_reply, Bodies.is_short, Replies.reply_of, Steps.Keeps, Steps.Makes}
+use Rattle.dist_c_guest.specs.declared.{guest.Guest.Guest, replies.DnReply.DnReply}
 
 -- the frame is held (17), nothing changes, and the reply is reported that the step would have; or its step is made
 abbrev pub Guards : Option Reply → List ℕ → EndId → ℕ → ℕ → Guest → Option Guest → DnReply → DnReply → Type 0

@@ -1,20 +1,13 @@
 -- Histories of calls on a guest.
 use Rattle.std.specs.Prelude.{◌≡◌, ◌≢◌, ℕ, count_by, Bool, true, false, List, [], ◌∷◌, ◌++◌, map, Option, Result, Err, if◌then◌else◌}
 use Rattle.dist_core_ends.specs.Ends.{is_open}
-use Rattle.dist_core.specs.declared.event.Event.{Event}
-use Rattle.dist_core.specs.declared.step_error.StepError.{StepError}
+use Rattle.dist_core.specs.{declared.event.Event.Event, declared.step_error.StepError.StepError, declared.changing.ChangeError.ChangeError, Acts.Act}
+use Rattle.dist_core.specs.{Acts.act, declared.changing.Change.Change, declared.changing.Change.TheVariants.Allow, Step.step}
 use Rattle.dist_core.specs.declared.step_error.StepError.TheVariants as error
-use Rattle.dist_core.specs.declared.changing.ChangeError.{ChangeError}
 use Rattle.dist_core.specs.declared.changing.ChangeError.TheVariants as change_error
-use Rattle.dist_core.specs.Acts.{Act, act}
 use Rattle.dist_core.specs.Acts as acts
-use Rattle.dist_core.specs.declared.changing.Change.{Change}
-use Rattle.dist_core.specs.declared.changing.Change.TheVariants.{Allow}
 use Rattle.dist_names.specs.Order.{Name}
-use Rattle.dist_core.specs.Step.{step}
-use Rattle.dist_c_guest.specs.declared.guest.Guest.{Guest}
-use Rattle.dist_c_guest.specs.Calls.{IsCall, answer_after, node_letting, restarted_guest}
-use Rattle.dist_c_guest.specs.Planning.{Changes}
+use Rattle.dist_c_guest.specs.{declared.guest.Guest.Guest, Calls.IsCall, Calls.answer_after, Calls.node_letting, Calls.restarted_guest, Planning.Changes}
 
 -- a call: its event, the challenge that was drawn for it, what it answered, and the guest after it
 pub record Call : Type 0 where

@@ -1,10 +1,7 @@
 -- What is lent of a node in C's memory.
-use Rattle.std.specs.Prelude.{Some}
-use Rattle.std.specs.Borrow.{Lends, MutBor, Fml}
-use Rattle.dist_c_guest.specs.declared.guest.Guest.{Guest}
+use Rattle.std.specs.{Prelude.Some, Borrow.Lends, Borrow.MutBor, Borrow.Fml}
+use Rattle.dist_c_guest.specs.{declared.guest.Guest.Guest, declared.slot.Slot.Slot, contracts.slot.Slot.the_row}
 use Rattle.dist_c_guest.specs.contracts.guest.Guest as guest
-use Rattle.dist_c_guest.specs.declared.slot.Slot.{Slot}
-use Rattle.dist_c_guest.specs.contracts.slot.Slot.{the_row}
 
 -- the slot with this guest in it
 abbrev pub holding : Slot → Guest → Slot

@@ -6,11 +6,8 @@ use Rattle.dist_peers.specs.declared.entry.EndId.{EndId}
 use Rattle.dist_core_ends.specs.declared.why.Why.TheVariants as why
 use Rattle.dist_core.specs.declared.event.Event.{Event}
 use Rattle.dist_core.specs.declared.event.Event.TheVariants as event
-use Rattle.dist_c_guest.specs.declared.guest.Guest.{Guest}
-use Rattle.dist_c_guest.specs.Room.{MakesRoom, room_for}
-use Rattle.dist_c_guest.specs.declared.replies.DnReply.{DnReply}
-use Rattle.dist_c_guest.specs.Codes.{name_code, why_number}
-use Rattle.dist_c_guest.specs.Steps.{Keeps, Steps}
+use Rattle.dist_c_guest.specs.{Room.MakesRoom, Room.room_for, Codes.name_code, Codes.why_number, Steps.Keeps, Steps.Steps}
+use Rattle.dist_c_guest.specs.declared.{guest.Guest.Guest, replies.DnReply.DnReply}
 
 -- a reply beside which it is reported which end made room, and why it was closed; 0 where none did
 abbrev pub with_room : Option EndId → DnReply → DnReply

@@ -1,28 +1,15 @@
 -- The contracts of the exports that make a node, let it go or ask it.
 use Rattle.std.specs.Prelude.{◌≡◌, ℕ, true, false, MatchBool, ◌⊎◌, ◌||◌, ◌==◌, if◌then◌else◌, List, [], length, nat_le, Option, Some, None, Result, Ok, Err}
 use Rattle.std.specs.FinMap as map
-use Rattle.dist_names.specs.NodeName.{name_of_bytes}
-use Rattle.dist_names.specs.Order.{Name}
-use Rattle.dist_names.specs.declared.name_error.NameError.{NameError}
+use Rattle.dist_names.specs.{NodeName.name_of_bytes, Order.Name, declared.name_error.NameError.NameError}
 use Rattle.dist_secret.specs.declared.cookie_error.CookieError.{CookieError}
-use Rattle.dist_peers.specs.declared.entry.EndId.{EndId}
-use Rattle.dist_peers.specs.Table.{up_behind}
-use Rattle.dist_core_ends.specs.Ends.{table_of, up_from}
-use Rattle.dist_core_ends.specs.declared.known.UpRecord.{UpRecord}
-use Rattle.dist_core_setup.specs.declared.setup.Setup.{Setup}
-use Rattle.dist_core_setup.specs.declared.limits.Limits.{Limits}
-use Rattle.dist_core_setup.specs.Limits.{long_running_limits}
-use Rattle.dist_core_setup.specs.declared.version.Version.{Version}
+use Rattle.dist_peers.specs.{declared.entry.EndId.EndId, Table.up_behind}
+use Rattle.dist_core_ends.specs.{Ends.table_of, Ends.up_from, declared.known.UpRecord.UpRecord}
 use Rattle.dist_core_setup.specs.declared.version.Version.TheVariants.{Five, Six}
-use Rattle.dist_c_guest.specs.Calls.{first_guest}
-use Rattle.dist_c_guest.specs.Reading.{plain}
-use Rattle.dist_c_guest.specs.Whole.{is_whole}
-use Rattle.dist_c_guest.specs.declared.guest.Guest.{Guest}
-use Rattle.dist_c_guest.specs.declared.making.DnSetup.{DnSetup}
-use Rattle.dist_c_guest.specs.declared.making.DnPeer.{DnPeer}
-use Rattle.dist_c_guest.specs.Codes.{name_code, cookie_code}
-use Rattle.dist_c_guest.specs.Replies.{creation_number, is_known}
+use Rattle.dist_core_setup.specs.{declared.setup.Setup.Setup, declared.limits.Limits.Limits, Limits.long_running_limits, declared.version.Version.Version}
 use Rattle.dist_c_guest.specs.Steps.{Copies, CopiesIf, sent_bytes}
+use Rattle.dist_c_guest.specs.{Calls.first_guest, Reading.plain, Whole.is_whole, declared.guest.Guest.Guest, declared.making.DnSetup.DnSetup}
+use Rattle.dist_c_guest.specs.{declared.making.DnPeer.DnPeer, Codes.name_code, Codes.cookie_code, Replies.creation_number, Replies.is_known}
 
 -- a guest of a node without ends, to which DFLAG_MANDATORY_25_DIGEST stands for these flags
 abbrev pub first_reader : Setup → ℕ → Guest

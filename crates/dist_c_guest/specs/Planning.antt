@@ -1,12 +1,9 @@
 -- What the calls that change the setup of a guest's node do, between two calls.
-use Rattle.std.specs.Prelude.{◌≡◌, ℕ, List, [], Some, Result}
-use Rattle.std.specs.Option.{option_or}
+use Rattle.std.specs.{Prelude.◌≡◌, Prelude.ℕ, Prelude.List, Prelude.[], Prelude.Some, Prelude.Result, Option.option_or}
 use Rattle.dist_names.specs.Order.{Name}
 use Rattle.dist_core_setup.specs.Changing.{allowing, disallowing, with_name, without_name}
-use Rattle.dist_core.specs.declared.changing.ChangeError.{ChangeError}
-use Rattle.dist_core.specs.declared.changing.Change.{Change}
-use Rattle.dist_core.specs.declared.changing.Change.TheVariants.{Allow}
 use Rattle.dist_core.specs.Changing.{IsChange, after_change, change}
+use Rattle.dist_core.specs.declared.changing.{ChangeError.ChangeError, Change.Change, Change.TheVariants.Allow}
 use Rattle.dist_c_guest.specs.declared.guest.Guest.{Guest}
 
 -- The call made the node's change, or was refused as the node refuses it. What the newest step returned and received stays.

@@ -1,8 +1,7 @@
 -- How a guest reads bodies: DFLAG_MANDATORY_25_DIGEST in a peer's flags stands for flags that the guest was given.
 use Rattle.std.specs.Prelude.{ℕ, ◌==◌, bit_or, if◌then◌else◌, List, ◌++◌, take, drop, slice_index, [], Option, Some, None}
 use Rattle.std.specs.Int.{Width, w32, w64, to_be_bytes}
-use Rattle.dist_names.specs.Flags.{has_all, low_half}
-use Rattle.dist_names.specs.Fields.{number_at}
+use Rattle.dist_names.specs.{Flags.has_all, Flags.low_half, Fields.number_at}
 use Rattle.dist_c_guest.specs.declared.reading.Reading.{Reading}
 
 -- bodies are read as they came, and no forms are kept

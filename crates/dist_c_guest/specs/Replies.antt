@@ -1,10 +1,8 @@
 -- What is reported to C of a reply.
-use Rattle.std.specs.Prelude.{ℕ, Option, Some, None, length, option_and_then}
-use Rattle.std.specs.Option.{option_map_or}
+use Rattle.std.specs.{Prelude.ℕ, Prelude.Option, Prelude.Some, Prelude.None, Prelude.length, Prelude.option_and_then, Option.option_map_or}
 use Rattle.dist_names.specs.declared.creation.Creation.{Creation}
 use Rattle.dist_core.specs.declared.reply.Reply.{Reply}
-use Rattle.dist_c_guest.specs.declared.replies.DnReply.{DnReply}
-use Rattle.dist_c_guest.specs.Codes.{why_number}
+use Rattle.dist_c_guest.specs.{declared.replies.DnReply.DnReply, Codes.why_number}
 
 -- the number of a creation, and 0 where it is unknown
 abbrev pub creation_number : Option Creation → ℕ

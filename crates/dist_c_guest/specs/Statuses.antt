@@ -1,18 +1,13 @@
 -- The statuses that a step received and sent.
 use Rattle.std.specs.Prelude.{◌≡◌, ℕ, List, Option, Some, None, Result, Ok, option_and_then}
-use Rattle.std.specs.Int.{w16}
-use Rattle.std.specs.Option.{option_or}
+use Rattle.std.specs.{Int.w16, Option.option_or}
 use Rattle.dist_frames.specs.Stream.{first_body}
-use Rattle.dist_messages.specs.declared.message.Side.TheVariants.{Dialler, Acceptor}
-use Rattle.dist_messages.specs.declared.message.Status.{Status}
+use Rattle.dist_messages.specs.{declared.message.Side.TheVariants.Dialler, declared.message.Side.TheVariants.Acceptor, declared.message.Status.Status}
+use Rattle.dist_messages.specs.{declared.message.Message.Message, declared.message_error.MessageError.MessageError, Reading.read}
 use Rattle.dist_messages.specs.declared.message.Status.TheVariants as status
-use Rattle.dist_messages.specs.declared.message.Message.{Message}
 use Rattle.dist_messages.specs.declared.message.Message.TheVariants as message
-use Rattle.dist_messages.specs.declared.message_error.MessageError.{MessageError}
-use Rattle.dist_messages.specs.Reading.{read}
-use Rattle.dist_core.specs.declared.event.Event.{Event}
+use Rattle.dist_core.specs.declared.{event.Event.Event, reply.Reply.Reply}
 use Rattle.dist_core.specs.declared.event.Event.TheVariants as event
-use Rattle.dist_core.specs.declared.reply.Reply.{Reply}
 use Rattle.dist_c_guest.specs.declared.guest.Guest.{Guest}
 
 -- the status that was read, where a message was read that is one

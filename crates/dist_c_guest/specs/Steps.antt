@@ -2,21 +2,12 @@
 use Rattle.std.specs.Prelude.{◌≡◌, ℕ, ◌+◌, ◌⊎◌, List, ◌++◌, length, drop, nat_le, ◌==◌}
 use Rattle.std.specs.Prelude.{if◌then◌else◌, Bool, true, false, [], Option, Some, None, Result, Ok, Err}
 use Rattle.dist_peers.specs.declared.entry.EndId.{EndId}
-use Rattle.dist_core.specs.declared.event.Event.{Event}
+use Rattle.dist_core.specs.{declared.event.Event.Event, declared.reply.Reply.Reply, declared.step_error.StepError.StepError, Node.NodeState, Step.step}
 use Rattle.dist_core.specs.declared.event.Event.TheVariants as event
-use Rattle.dist_core.specs.declared.reply.Reply.{Reply}
-use Rattle.dist_core.specs.declared.step_error.StepError.{StepError}
-use Rattle.dist_core.specs.Node.{NodeState}
-use Rattle.dist_core.specs.Step.{step}
-use Rattle.dist_c_guest.specs.Calls.{answer_to, frame_to}
-use Rattle.dist_c_guest.specs.declared.guest.Guest.{Guest}
-use Rattle.dist_c_guest.specs.Statuses.{status_received}
-use Rattle.dist_c_guest.specs.declared.replies.DnReply.{DnReply}
-use Rattle.dist_messages.specs.declared.opening.Opening.{Opening}
-use Rattle.dist_messages.specs.declared.opening.Opening.TheVariants.{Old, New}
+use Rattle.dist_c_guest.specs.{Calls.answer_to, Calls.frame_to, Statuses.status_received, Codes.step_code, Codes.why_number, Replies.reply_of}
+use Rattle.dist_c_guest.specs.declared.{guest.Guest.Guest, replies.DnReply.DnReply}
+use Rattle.dist_messages.specs.declared.opening.Opening.{Opening, TheVariants.Old, TheVariants.New}
 use Rattle.dist_core_ends.specs.declared.why.Why.{Why}
-use Rattle.dist_c_guest.specs.Codes.{step_code, why_number}
-use Rattle.dist_c_guest.specs.Replies.{reply_of}
 
 -- nothing changed, neither of the one nor of the other, and the call answered so
 abbrev pub Keeps : {X Y : Type 0} → ℕ → ℕ → X → X → Y → Y → Type 0

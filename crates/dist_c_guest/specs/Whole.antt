@@ -3,8 +3,7 @@ use Rattle.std.specs.Prelude.{◌≡◌, ℕ, Bool, true, not, ◌&&◌, ◌||�
 use Rattle.dist_names.specs.Flags.{has_all, low_half}
 use Rattle.dist_messages.specs.declared.message.Message.{Message}
 use Rattle.dist_messages.specs.declared.message.Message.TheVariants as message
-use Rattle.dist_core_setup.specs.declared.setup.Setup.{Setup}
-use Rattle.dist_core_setup.specs.Rules.{announced_by}
+use Rattle.dist_core_setup.specs.{declared.setup.Setup.Setup, Rules.announced_by}
 use Rattle.dist_c_guest.specs.Reading.{digest_25}
 
 -- the flags that the digest stands for, DN_MANDATORY_25 of the library for C

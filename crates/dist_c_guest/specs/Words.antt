@@ -1,9 +1,7 @@
 -- The words of codes and causes.
 use Rattle.std.specs.Prelude.{◌≡◌, ℕ, ◌==◌, ◌⊎◌, if◌then◌else◌, List, codes}
-use Rattle.dist_core_ends.specs.declared.why.Why.{Why}
-use Rattle.dist_core_ends.specs.Words.{why_word}
-use Rattle.dist_c_guest.specs.Codes.{why_number}
-use Rattle.dist_c_guest.specs.Steps.{Copies}
+use Rattle.dist_core_ends.specs.{declared.why.Why.Why, Words.why_word}
+use Rattle.dist_c_guest.specs.{Codes.why_number, Steps.Copies}
 
 abbrev pub code_word : ℕ → List ℕ
 code_word n =

@@ -1,12 +1,10 @@
 -- A WORLD OF GUESTS: its nodes read what comes as guests do.
 use Rattle.std.specs.Prelude.{◌≡◌, ℕ, true, if◌then◌else◌, nat_lt, List, [], ◌∷◌, Option, Some, None, slice_get}
 use Rattle.dist_core_setup.specs.declared.setup.Setup.{Setup}
-use Rattle.dist_world_model.specs.declared.happening.Happening.{Happening}
-use Rattle.dist_world_model.specs.declared.happening.Happening.TheVariants as happening
-use Rattle.dist_world_model.specs.World.{World, empty}
 use Rattle.dist_world_model.specs.Happenings.{most_applied, take_read, ticked_on, without_closing, world_after}
-use Rattle.dist_c_guest.specs.Reading.{expansion}
-use Rattle.dist_c_guest.specs.Whole.{is_whole}
+use Rattle.dist_world_model.specs.{declared.happening.Happening.Happening, World.World, World.empty}
+use Rattle.dist_world_model.specs.declared.happening.Happening.TheVariants as happening
+use Rattle.dist_c_guest.specs.{Reading.expansion, Whole.is_whole}
 
 -- guests, each by its setup and by the flags that DFLAG_MANDATORY_25_DIGEST stands for to it
 abbrev pub Guests : Type 0

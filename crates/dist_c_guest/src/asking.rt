@@ -1,10 +1,7 @@
 //! How a node is asked of a name for which a form stands: with that name in its list, which is given back afterwards.
-ghost use Rattle.std.specs.Prelude.{◌≡◌, IfOk};
-ghost use Rattle.std.specs.Option.{option_or};
-ghost use Rattle.dist_core.specs.Answers.{GivesReply};
-ghost use Rattle.dist_core.specs.Step.{step};
-ghost use Rattle.dist_c_guest.specs.Calls.{IsCall, node_letting, answer_after};
-ghost use Rattle.dist_c_guest.specs.Forms.{name_in, sent_name, allowed_names};
+ghost use Rattle.std.specs.{Prelude.◌≡◌, Prelude.IfOk, Option.option_or};
+ghost use Rattle.dist_core.specs.{Answers.GivesReply, Step.step};
+ghost use Rattle.dist_c_guest.specs.{Calls.IsCall, Calls.node_letting, Calls.answer_after, Forms.name_in, Forms.sent_name, Forms.allowed_names};
 
 use crate::forms::Forms;
 use crate::guest::Guest;

@@ -1,7 +1,6 @@
 //! Bodies of frames that stand one after another, and how long one can be.
 ghost use Rattle.std.specs.Prelude.{◌≡◌, option_copied, slice_get};
-ghost use Rattle.dist_c_guest.specs.Bodies.{CopiesAt, is_short};
-ghost use Rattle.dist_c_guest.specs.Steps.{sent_bytes};
+ghost use Rattle.dist_c_guest.specs.{Bodies.CopiesAt, Bodies.is_short, Steps.sent_bytes};
 ghost use Rattle.dist_frames.specs.Stream.{bodies};
 
 use crate::codes::NO_SUCH;

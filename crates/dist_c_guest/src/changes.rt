@@ -1,12 +1,10 @@
 //! Which peers may connect, and under which cookie: changes of a node's setup, at any time between two steps.
 ghost use Rattle.dist_names.specs.NodeName.{name_of_bytes};
 ghost use Rattle.dist_secret.specs.Cookie.{cookie_of};
-ghost use Rattle.dist_core.specs.declared.changing.Change.{Change};
-ghost use Rattle.dist_core.specs.Changing.{change};
-ghost use Rattle.dist_c_guest.specs.Forms.{form_of_text, has_form};
+ghost use Rattle.dist_core.specs.{declared.changing.Change.Change, Changing.change};
 ghost use Rattle.dist_c_guest.specs.Planning.{Changes, lets_in, shuts_out, with_form, without_form};
-ghost use Rattle.dist_c_guest.specs.declared.guest.Guest.{Guest};
 ghost use Rattle.dist_c_guest.specs.Changes.{AllowsText, Amends, ChangesForm, ChangesPeer, DisallowsText, Keys, KeysUsually, Unkeys};
+ghost use Rattle.dist_c_guest.specs.{Forms.form_of_text, Forms.has_form, declared.guest.Guest.Guest};
 
 use crate::codes::{NO_MEMORY, OK, change_code, cookie_code, name_code};
 use crate::forms::{form_of, has_form};

@@ -1,9 +1,7 @@
 //! How ends stand, as C sees it.
 ghost use Rattle.std.specs.Prelude.{◌≡◌, Some, slice_get, count_by, length, nat_le};
-ghost use Rattle.dist_core_ends.specs.Ends.{is_open, oldest_pending};
-ghost use Rattle.dist_core_ends.specs.declared.known.End.{End};
-ghost use Rattle.dist_c_guest.specs.Ends.{ReportsEnd, ReportsId, RenewsWith, phase_number};
-ghost use Rattle.dist_c_guest.specs.Steps.{CopiesIf};
+ghost use Rattle.dist_core_ends.specs.{Ends.is_open, Ends.oldest_pending, declared.known.End.End};
+ghost use Rattle.dist_c_guest.specs.{Ends.ReportsEnd, Ends.ReportsId, Ends.RenewsWith, Ends.phase_number, Steps.CopiesIf};
 
 use crate::codes::{NO_SUCH, OK, OPEN_ENDS, why_number};
 use crate::copies::copy_out;

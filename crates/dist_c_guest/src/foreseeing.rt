@@ -1,9 +1,7 @@
 //! What a step would return, before it is made.
-ghost use Rattle.std.specs.Prelude.{◌≡◌};
-ghost use Rattle.std.specs.Int.{w16};
+ghost use Rattle.std.specs.{Prelude.◌≡◌, Int.w16};
 ghost use Rattle.dist_frames.specs.Stream.{first_body};
-ghost use Rattle.dist_c_guest.specs.Foreseeing.{ForeseesFront, ForeseesBody};
-ghost use Rattle.dist_c_guest.specs.Bodies.{is_short};
+ghost use Rattle.dist_c_guest.specs.{Foreseeing.ForeseesFront, Foreseeing.ForeseesBody, Bodies.is_short};
 
 use crate::bodies::is_short;
 use crate::codes::{AWAITS, OK, TOO_LONG, step_code};

@@ -1,7 +1,6 @@
 //! Forms of names: a host alone, and a name without its host.
 ghost use Rattle.std.specs.Prelude.{◌≡◌, ◌==◌, [], length, OnOk, OnErr};
-ghost use Rattle.dist_names.specs.Answer.{AnswersName};
-ghost use Rattle.dist_names.specs.Order.{is_listed, same_name};
+ghost use Rattle.dist_names.specs.{Answer.AnswersName, Order.is_listed, Order.same_name};
 ghost use Rattle.dist_core_setup.specs.Changing.{with_name, without_name};
 ghost use Rattle.dist_c_guest.specs.Forms.{form_of_text, has_form, stand_for};
 

@@ -2,23 +2,17 @@
 ghost use Rattle.std.specs.Prelude.{◌≡◌, ◌≢◌, ℕ, Bool, false, List, Option, Some, Result, Err, slice_get};
 ghost use Rattle.dist_peers.specs.declared.entry.EndId.{EndId};
 ghost use Rattle.dist_core_setup.specs.declared.setup.Setup.{Setup};
-ghost use Rattle.dist_core_ends.specs.declared.known.UpRecord.{UpRecord};
+ghost use Rattle.dist_core_ends.specs.{declared.known.UpRecord.UpRecord, declared.why.Why.Why, Ends.AreLegal};
 ghost use Rattle.dist_core_ends.specs.declared.known.End.TheVariants as ends;
-ghost use Rattle.dist_core_ends.specs.declared.why.Why.{Why};
 ghost use Rattle.dist_core_ends.specs.declared.why.Why.TheVariants as why;
-ghost use Rattle.dist_core_ends.specs.Ends.{AreLegal};
-ghost use Rattle.dist_core.specs.Acts.{run_acts};
-ghost use Rattle.dist_core.specs.Node.{NodeState};
-ghost use Rattle.dist_core.specs.declared.reply.Reply.{Reply};
-ghost use Rattle.dist_core.specs.declared.step_error.StepError.{StepError};
+ghost use Rattle.dist_core.specs.{Acts.run_acts, Node.NodeState, declared.reply.Reply.Reply, declared.step_error.StepError.StepError};
 ghost use Rattle.dist_core.specs.declared.step_error.StepError.TheVariants as error;
 ghost use Rattle.dist_c_guest.specs.declared.guest.Guest.{Guest};
-ghost use Rattle.dist_world_model.specs.Agreement.{AllFit, AreSetups};
-ghost use Rattle.dist_world_model.specs.declared.happening.Happening.{Happening};
 ghost use Rattle.dist_c_guest.specs.Worlds.{AreWhole, Guests, run_guests, run_guests_from, setups_in};
 ghost use Rattle.dist_c_guest.specs.Cluster.{Agree, AgreeBy, AllFitDoings, Cluster, Doing, GuardShows, ShowsNode, done, no_cluster, run_cluster};
 ghost use Rattle.dist_c_guest.specs.Guard.{AreUp, Guard, IsGuarded, Told, acts_run, first_guard, guarded, run_guard, told_of_frame};
 ghost use Rattle.dist_c_guest.specs.Guard as told;
+ghost use Rattle.dist_world_model.specs.{Agreement.AllFit, Agreement.AreSetups, declared.happening.Happening.Happening};
 
 use crate::laws::guests_are_nodes;
 use dist_core_laws::acts_keep_ends;

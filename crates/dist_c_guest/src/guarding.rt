@@ -1,7 +1,6 @@
 //! The body of a frame, for a host that shows its peers to others.
 ghost use Rattle.std.specs.Prelude.{Some};
-ghost use Rattle.dist_c_guest.specs.Bodies.{is_short};
-ghost use Rattle.dist_c_guest.specs.Guarding.{GuardsBody};
+ghost use Rattle.dist_c_guest.specs.{Bodies.is_short, Guarding.GuardsBody};
 
 use crate::bodies::is_short;
 use crate::codes::{OK, SHOWN_END, TOO_LONG, step_code};

@@ -1,12 +1,7 @@
 //! A node, and its newest reply.
-ghost use Rattle.std.specs.Prelude.{◌≡◌, ◌≢◌, ℕ, List, None, Err, IfOk, IsTrue};
-ghost use Rattle.dist_core.specs.Answers.{GivesReply, Refuses};
-ghost use Rattle.dist_core.specs.Losses.{is_loss};
-ghost use Rattle.std.specs.Option.{option_or};
-ghost use Rattle.dist_core.specs.Step.{step};
-ghost use Rattle.dist_c_guest.specs.Forms.{allowed_names};
-ghost use Rattle.dist_c_guest.specs.Reading.{expansion};
-ghost use Rattle.dist_c_guest.specs.Calls.{IsCall, answer_to, first_guest, frame_to};
+ghost use Rattle.std.specs.{Prelude.◌≡◌, Prelude.◌≢◌, Prelude.ℕ, Prelude.List, Prelude.None, Prelude.Err, Prelude.IfOk, Prelude.IsTrue, Option.option_or};
+ghost use Rattle.dist_core.specs.{Answers.GivesReply, Answers.Refuses, Losses.is_loss, Step.step};
+ghost use Rattle.dist_c_guest.specs.{Forms.allowed_names, Reading.expansion, Calls.IsCall, Calls.answer_to, Calls.first_guest, Calls.frame_to};
 
 use crate::asking::wider;
 use crate::reading::{Reading, expand};

@@ -1,23 +1,14 @@
 //! Laws of histories, and of worlds of guests: each is a function that does nothing, and whose contract is the law.
 ghost use Rattle.std.specs.Prelude.{◌≡◌, ℕ, List};
-ghost use Rattle.dist_core.specs.Acts.{run_acts};
-ghost use Rattle.dist_core.specs.Runs.{run};
-ghost use Rattle.dist_messages.specs.declared.message.Message.{Message};
-ghost use Rattle.dist_messages.specs.Canonical.{canonical};
-ghost use Rattle.dist_messages.specs.Spelling.{Fits};
-ghost use Rattle.dist_world_model.specs.declared.happening.Happening.{Happening};
-ghost use Rattle.dist_world_model.specs.Agreement.{Agreement, AllFit, AreSetups};
-ghost use Rattle.dist_world_model.specs.World.{empty};
-ghost use Rattle.dist_world_model.specs.Run as worlds;
-ghost use Rattle.dist_core.specs.Step.{step};
+ghost use Rattle.dist_core.specs.{Acts.run_acts, Runs.run, Step.step};
 ghost use Rattle.dist_core.specs.declared.event.Event.TheVariants as event;
+ghost use Rattle.dist_messages.specs.{declared.message.Message.Message, Canonical.canonical, Spelling.Fits};
+ghost use Rattle.dist_world_model.specs.{declared.happening.Happening.Happening, Agreement.Agreement, Agreement.AllFit, Agreement.AreSetups, World.empty};
+ghost use Rattle.dist_world_model.specs.Run as worlds;
 ghost use Rattle.dist_peers.specs.declared.entry.EndId.{EndId};
-ghost use Rattle.dist_c_guest.specs.Calls.{answer_to, frame_to};
-ghost use Rattle.dist_c_guest.specs.Reading.{expansion, plain};
-ghost use Rattle.dist_c_guest.specs.Whole.{HasWhole};
 ghost use Rattle.dist_c_guest.specs.Worlds.{AreWhole, Guests, run_guests, setups_in};
-ghost use Rattle.dist_c_guest.specs.declared.guest.Guest.{Guest};
 ghost use Rattle.dist_c_guest.specs.Histories.{AnyCall, Call, IsAnyHistory, IsHistory, acts_of, events_of};
+ghost use Rattle.dist_c_guest.specs.{Calls.answer_to, Calls.frame_to, Reading.expansion, Reading.plain, Whole.HasWhole, declared.guest.Guest.Guest};
 
 use dist_world_model::{frames_are_canonical, nodes_agree};
 

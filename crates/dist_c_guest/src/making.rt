@@ -1,7 +1,6 @@
 //! A node is made, let go, and asked.
-ghost use Rattle.std.specs.Prelude.{◌≡◌, Some, None, Ok, IfOk, IfErr, slice_get};
+ghost use Rattle.std.specs.{Prelude.◌≡◌, Prelude.Some, Prelude.None, Prelude.Ok, Prelude.IfOk, Prelude.IfErr, Prelude.slice_get, Option.option_map};
 ghost use Rattle.dist_core_ends.specs.Ends.{record_in};
-ghost use Rattle.std.specs.Option.{option_map};
 ghost use Rattle.dist_names.specs.NodeName.{name_of_bytes};
 ghost use Rattle.dist_secret.specs.Cookie.{cookie_of};
 ghost use Rattle.dist_c_guest.specs.Steps.{Copies, sent_bytes};

@@ -1,8 +1,6 @@
 //! A connection that came, and a dial: the oldest end that is not up makes room for them.
 ghost use Rattle.std.specs.Prelude.{◌≡◌, Some};
-ghost use Rattle.dist_c_guest.specs.Room.{room_for};
-ghost use Rattle.dist_c_guest.specs.Steps.{opening_of};
-ghost use Rattle.dist_c_guest.specs.Newcomers.{ComesAt, with_room};
+ghost use Rattle.dist_c_guest.specs.{Room.room_for, Steps.opening_of, Newcomers.ComesAt, Newcomers.with_room};
 
 use crate::codes::why_number;
 use crate::guest::Guest;

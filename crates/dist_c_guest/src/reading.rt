@@ -1,8 +1,6 @@
 //! How a guest reads the bodies of the frames that come.
-ghost use Rattle.std.specs.Prelude.{◌≡◌, ◌++◌, IfOk, slice_index, take, drop};
-ghost use Rattle.std.specs.Int.{w32, w64};
-ghost use Rattle.dist_c_guest.specs.Reading.{expansion, in_place, plain};
-ghost use Rattle.dist_c_guest.specs.Whole.{is_whole};
+ghost use Rattle.std.specs.{Prelude.◌≡◌, Prelude.◌++◌, Prelude.IfOk, Prelude.slice_index, Prelude.take, Prelude.drop, Int.w32, Int.w64};
+ghost use Rattle.dist_c_guest.specs.{Reading.expansion, Reading.in_place, Reading.plain, Whole.is_whole};
 
 use crate::forms::Forms;
 use dist_core_setup::{Setup, announced_by};

@@ -1,8 +1,6 @@
 //! A reply, as C sees it.
-ghost use Rattle.std.specs.Prelude.{◌≡◌, option_and_then};
-ghost use Rattle.std.specs.Option.{option_map_or};
-ghost use Rattle.dist_c_guest.specs.Codes.{why_number};
-ghost use Rattle.dist_c_guest.specs.Replies.{reply_of, creation_number, is_known};
+ghost use Rattle.std.specs.{Prelude.◌≡◌, Prelude.option_and_then, Option.option_map_or};
+ghost use Rattle.dist_c_guest.specs.{Codes.why_number, Replies.reply_of, Replies.creation_number, Replies.is_known};
 
 use crate::codes::why_number;
 use dist_core::{Reply, UpRecord, Why};

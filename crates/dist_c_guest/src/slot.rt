@@ -1,8 +1,6 @@
 //! The pointer to a guest that C holds.
-ghost use Rattle.std.specs.Prelude.{◌≡◌, Option, Some, None};
-ghost use Rattle.dist_c_guest.specs.declared.guest.Guest.{Guest};
-ghost use Rattle.std.specs.Borrow.{sem};
-ghost use Rattle.dist_c_guest.specs.Kept.{owns_guest};
+ghost use Rattle.std.specs.{Prelude.◌≡◌, Prelude.Option, Prelude.Some, Prelude.None, Borrow.sem};
+ghost use Rattle.dist_c_guest.specs.{declared.guest.Guest.Guest, Kept.owns_guest};
 
 use crate::guest::Guest;
 use crate::parts::Parts;

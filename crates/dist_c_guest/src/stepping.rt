@@ -1,10 +1,8 @@
 //! Steps, and what C is told of them.
-ghost use Rattle.std.specs.Prelude.{◌≢◌, Some, IsTrue};
+ghost use Rattle.std.specs.{Prelude.◌≢◌, Prelude.Some, Prelude.IsTrue, Int.w16};
 ghost use Rattle.dist_core.specs.Losses.{is_loss};
-ghost use Rattle.std.specs.Int.{w16};
 ghost use Rattle.dist_frames.specs.Stream.{first_body};
-ghost use Rattle.dist_c_guest.specs.Bodies.{TakesBody, is_short};
-ghost use Rattle.dist_c_guest.specs.Steps.{Steps, Takes};
+ghost use Rattle.dist_c_guest.specs.{Bodies.TakesBody, Bodies.is_short, Steps.Steps, Steps.Takes};
 
 use crate::bodies::is_short;
 use crate::codes::{AWAITS, OK, TOO_LONG, step_code};

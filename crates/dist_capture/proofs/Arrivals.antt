@@ -6,9 +6,8 @@ use Rattle.std.proofs.lemmas.{Bool.cases_lt, Bool.or_cases, List.map-append, Lis
 use Rattle.dist_capture.specs.Arrivals.{Event, Arrives, Consumes, Seen, opening, delivered, after, after_all, IsPiece, ArePieces, covers, has_come, IsFirstGap}
 use Rattle.dist_capture.specs.Parts.{part}
 use Rattle.dist_capture.specs.Streams.{known_at, byte_at, first_of, laid, leading, new_part, is_near, settled}
-use Rattle.dist_capture.proofs.Known.{known_laid, first_by, all_known, leading_splits, leading_stops, leading_behind, leading_is, known_front, known_back}
-use Rattle.dist_capture.proofs.Known.{some_front}
-use Rattle.dist_capture.proofs.Sequences.{shown, IsNew, new_is}
+use Rattle.dist_capture.proofs.{Known.known_laid, Known.first_by, Known.all_known, Known.leading_splits, Known.leading_stops, Known.leading_behind}
+use Rattle.dist_capture.proofs.{Known.leading_is, Known.known_front, Known.known_back, Known.some_front, Sequences.shown, Sequences.IsNew, Sequences.new_is}
 
 -- all that is known of the text
 abbrev pub total : Seen → List (Option ℕ)

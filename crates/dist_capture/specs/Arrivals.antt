@@ -1,7 +1,6 @@
 -- The segments of one text, which come in any order, and again.
 use Rattle.std.specs.Prelude.{◌≡◌, ℕ, ◌+◌, ◌%◌, ◌^◌, ◌<◌, ◌≤◌, Bool, true, false, ◌&&◌, ◌||◌, List, [], ◌∷◌, ◌++◌, length, take, nat_lt, nat_le}
-use Rattle.dist_capture.specs.Parts.{part}
-use Rattle.dist_capture.specs.Streams.{Gathering, taken, consumed, awaiting}
+use Rattle.dist_capture.specs.{Parts.part, Streams.Gathering, Streams.taken, Streams.consumed, Streams.awaiting}
 
 -- a piece of the text comes: where it begins, and how many bytes it has; or bytes that are ready are taken away
 pub data Event : Type 0 where

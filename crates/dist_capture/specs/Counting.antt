@@ -1,8 +1,7 @@
 -- Counts of packets that gave no segment.
 use Rattle.std.specs.Prelude.{ℕ, ◌+◌, ◌-◌, ◌^◌, min}
-use Rattle.dist_capture.specs.declared.skipped.Skipped.{Skipped}
 use Rattle.dist_capture.specs.declared.skipped.Skipped.TheVariants.{UnknownLink, CutShort, OtherProtocol, Fragment, Malformed}
-use Rattle.dist_capture.specs.declared.skipped.SkippedCounts.{SkippedCounts}
+use Rattle.dist_capture.specs.declared.skipped.{Skipped.Skipped, SkippedCounts.SkippedCounts}
 
 -- one more, at most the greatest number of 64 bits
 abbrev pub more : ℕ → ℕ

@@ -2,16 +2,12 @@
 use Rattle.std.specs.Prelude.{⊤, ◌≤◌, ℕ, zero, suc, ◌+◌, ◌-◌, ◌*◌, ◌/◌, ◌%◌, ◌^◌, min, Bool, true, false, ◌||◌, not, List, [], length, take, drop}
 use Rattle.std.specs.Prelude.{Option, Some, None, Result, Ok, Err, nat_lt, slice_index, slice_get, ◌==◌, if◌then◌else◌}
 use Rattle.std.specs.Int.{w16, w32, from_be_bytes, from_le_bytes}
-use Rattle.dist_capture.specs.declared.fault.CaptureFault.{CaptureFault}
 use Rattle.dist_capture.specs.declared.fault.CaptureFault.TheVariants.{NotACapture, Malformed, TooLong, UnknownClock}
-use Rattle.dist_capture.specs.declared.format.ByteOrder.{ByteOrder}
-use Rattle.dist_capture.specs.declared.format.ByteOrder.TheVariants.{Big, Little}
-use Rattle.dist_capture.specs.declared.format.Format.{Format}
 use Rattle.dist_capture.specs.declared.format.Format.TheVariants.{Unknown, Pcap, Pcapng}
-use Rattle.dist_capture.specs.declared.format.Interface.{Interface}
-use Rattle.dist_capture.specs.declared.unit.Unit.{Unit}
-use Rattle.dist_capture.specs.declared.unit.Unit.TheVariants as unit
 use Rattle.dist_capture.specs.Parts.{part, four}
+use Rattle.dist_capture.specs.declared.{fault.CaptureFault.CaptureFault, format.ByteOrder.ByteOrder, format.ByteOrder.TheVariants.Big}
+use Rattle.dist_capture.specs.declared.{format.ByteOrder.TheVariants.Little, format.Format.Format, format.Interface.Interface, unit.Unit.Unit}
+use Rattle.dist_capture.specs.declared.unit.Unit.TheVariants as unit
 
 infixl 10 ◌>>=◌
 abbrev pub ◌>>=◌ : {A B : Type 0} → Result A CaptureFault → (A → Result B CaptureFault) → Result B CaptureFault

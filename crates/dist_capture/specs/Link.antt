@@ -1,8 +1,7 @@
 -- Where the IP packet of a captured packet begins, by the type of its link (tcpdump.org, Link-layer header types).
 use Rattle.std.specs.Prelude.{ℕ, Bool, ◌&&◌, ◌||◌, List, length, drop, Result, Ok, Err, nat_le, nat_lt, ◌==◌, if◌then◌else◌}
-use Rattle.dist_capture.specs.declared.skipped.Skipped.{Skipped}
-use Rattle.dist_capture.specs.declared.skipped.Skipped.TheVariants.{UnknownLink, CutShort, OtherProtocol}
 use Rattle.dist_capture.specs.Parts.{two, behind, ◌>>=◌}
+use Rattle.dist_capture.specs.declared.skipped.Skipped.{Skipped, TheVariants.UnknownLink, TheVariants.CutShort, TheVariants.OtherProtocol}
 
 -- the EtherType of IPv4 or IPv6
 abbrev pub is_ip : ℕ → Bool

@@ -1,13 +1,10 @@
 -- The part of an IP packet that is its TCP segment (RFC 791, 3.1; RFC 8200, 3 and 4).
-use Rattle.std.specs.Prelude.{ℕ, zero, suc, ◌+◌, ◌-◌, ◌*◌, ◌/◌, ◌%◌, Bool, ◌||◌, not, List, length, take, drop, Result, Ok, Err, nat_lt, slice_index}
-use Rattle.std.specs.Prelude.{◌==◌, if◌then◌else◌}
-use Rattle.std.specs.Net.Addr.{ipv4_octets, ipv6_segments, segments_of}
-use Rattle.std.specs.declared.net.ip_addr.IpAddr.{IpAddr}
+use Rattle.std.specs.Prelude.{ℕ, zero, suc, ◌+◌, ◌-◌, ◌*◌, ◌/◌, ◌%◌, Bool, ◌||◌, not, List, length, take, drop, Result, Ok, Err, nat_lt, slice_index, ◌==◌}
+use Rattle.std.specs.Prelude.{if◌then◌else◌}
+use Rattle.std.specs.{Net.Addr.ipv4_octets, Net.Addr.ipv6_segments, Net.Addr.segments_of, declared.net.ip_addr.IpAddr.IpAddr}
 use Rattle.std.specs.declared.net.ip_addr.IpAddr.TheVariants as ip
-use Rattle.dist_capture.specs.declared.skipped.Skipped.{Skipped}
 use Rattle.dist_capture.specs.declared.skipped.Skipped.TheVariants.{CutShort, OtherProtocol, Fragment, Malformed}
-use Rattle.dist_capture.specs.declared.network.Datagram.{Datagram}
-use Rattle.dist_capture.specs.Parts.{part, two, ◌>>=◌}
+use Rattle.dist_capture.specs.{declared.skipped.Skipped.Skipped, declared.network.Datagram.Datagram, Parts.part, Parts.two, Parts.◌>>=◌}
 
 -- the numbers of an address: 4 of IPv4, 8 of IPv6
 abbrev pub numbers_of : IpAddr → List ℕ

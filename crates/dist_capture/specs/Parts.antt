@@ -1,9 +1,7 @@
 -- Parts of a packet.
 use Rattle.std.specs.Prelude.{ℕ, List, length, take, drop, Result, Ok, Err, nat_lt, if◌then◌else◌}
-use Rattle.std.specs.Int.{w16, w32, from_be_bytes}
-use Rattle.std.specs.Borrow.{Bor}
-use Rattle.dist_capture.specs.declared.skipped.Skipped.{Skipped}
-use Rattle.dist_capture.specs.declared.skipped.Skipped.TheVariants.{CutShort}
+use Rattle.std.specs.{Int.w16, Int.w32, Int.from_be_bytes, Borrow.Bor}
+use Rattle.dist_capture.specs.declared.skipped.Skipped.{Skipped, TheVariants.CutShort}
 
 -- so many bytes from a place on
 abbrev pub part : ℕ → ℕ → List ℕ → List ℕ

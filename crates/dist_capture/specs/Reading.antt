@@ -1,20 +1,12 @@
 -- A reader of a capture, to which the file comes in pieces.
 use Rattle.std.specs.Prelude.{◌≡◌, ℕ, ◌⊎◌, Bool, true, false, ◌||◌, List, [], ◌∷◌, ◌++◌, length, take, drop, Option, Some, None}
 use Rattle.std.specs.Prelude.{option_to_list, Result, Ok, Err, nat_lt, if◌then◌else◌}
-use Rattle.dist_capture.specs.declared.fault.CaptureFault.{CaptureFault}
+use Rattle.dist_capture.specs.{Parts.part, Tcp.Said, Tcp.segment_of, Tcp.place_of, Counting.counted, Formats.awaited_length, Formats.unit_of, Formats.◌>>=◌}
+use Rattle.dist_capture.specs.declared.{fault.CaptureFault.CaptureFault, format.Format.Format, format.Format.TheVariants.Unknown}
+use Rattle.dist_capture.specs.declared.{format.Format.TheVariants.Pcap, format.Format.TheVariants.Pcapng, format.Interface.Interface}
+use Rattle.dist_capture.specs.declared.{segment.Segment.Segment, skipped.Skipped.Skipped, skipped.SkippedCounts.SkippedCounts, unit.Unit.Unit}
 use Rattle.dist_capture.specs.declared.fault.CaptureFault.TheVariants as fault
-use Rattle.dist_capture.specs.declared.format.Format.{Format}
-use Rattle.dist_capture.specs.declared.format.Format.TheVariants.{Unknown, Pcap, Pcapng}
-use Rattle.dist_capture.specs.declared.format.Interface.{Interface}
-use Rattle.dist_capture.specs.declared.segment.Segment.{Segment}
-use Rattle.dist_capture.specs.declared.skipped.Skipped.{Skipped}
-use Rattle.dist_capture.specs.declared.skipped.SkippedCounts.{SkippedCounts}
-use Rattle.dist_capture.specs.declared.unit.Unit.{Unit}
 use Rattle.dist_capture.specs.declared.unit.Unit.TheVariants as unit
-use Rattle.dist_capture.specs.Parts.{part}
-use Rattle.dist_capture.specs.Tcp.{Said, segment_of, place_of}
-use Rattle.dist_capture.specs.Counting.{counted}
-use Rattle.dist_capture.specs.Formats.{awaited_length, unit_of, ◌>>=◌}
 
 pub record Reading : Type 0 where
   pub format : Format

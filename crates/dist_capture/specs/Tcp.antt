@@ -1,12 +1,8 @@
 -- TCP segments (RFC 9293, 3.1).
 use Rattle.std.specs.Prelude.{ℕ, ◌-◌, ◌*◌, ◌/◌, ◌%◌, Bool, List, length, drop, Result, Ok, Err, nat_lt, slice_index, ◌==◌, if◌then◌else◌}
-use Rattle.dist_capture.specs.declared.segment.Endpoint.{Endpoint}
-use Rattle.dist_capture.specs.declared.skipped.Skipped.{Skipped}
-use Rattle.dist_capture.specs.declared.skipped.Skipped.TheVariants.{CutShort, Malformed}
-use Rattle.dist_capture.specs.declared.tcp.FoundSegment.{FoundSegment}
-use Rattle.dist_capture.specs.Parts.{two, four, ◌>>=◌}
-use Rattle.dist_capture.specs.Link.{datagram_of}
-use Rattle.dist_capture.specs.Network.{numbers_of, Carried, segment_in}
+use Rattle.dist_capture.specs.{Parts.two, Parts.four, Parts.◌>>=◌, Link.datagram_of, Network.numbers_of, Network.Carried, Network.segment_in}
+use Rattle.dist_capture.specs.declared.skipped.Skipped.{Skipped, TheVariants.CutShort, TheVariants.Malformed}
+use Rattle.dist_capture.specs.declared.{segment.Endpoint.Endpoint, tcp.FoundSegment.FoundSegment}
 
 -- one end of a connection
 pub record Place : Type 0 where

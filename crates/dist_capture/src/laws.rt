@@ -1,9 +1,8 @@
 //! Laws of captures and of streams.
 
 ghost use Rattle.std.specs.Prelude.{◌≡◌, ℕ, ◌<◌, ◌^◌, List, take};
-ghost use Rattle.dist_capture.specs.Tcp.{Said};
-ghost use Rattle.dist_capture.specs.Reading.{Reading, Reads, IsRead, Was, unread, with_bytes};
-ghost use Rattle.dist_capture.specs.Arrivals.{Event, ArePieces, IsFirstGap, opening, after_all, delivered};
+ghost use Rattle.dist_capture.specs.{Tcp.Said, Reading.Reading, Reading.Reads, Reading.IsRead, Reading.Was, Reading.unread, Reading.with_bytes};
+ghost use Rattle.dist_capture.specs.{Arrivals.Event, Arrivals.ArePieces, Arrivals.IsFirstGap, Arrivals.opening, Arrivals.after_all, Arrivals.delivered};
 
 /// In whatever pieces a capture comes, what is returned are the segments of the units of the whole capture, and no others.
 pub fn any_pieces()

@@ -1,8 +1,7 @@
 //! Links.
 
 ghost use Rattle.std.specs.Prelude.{◌≡◌, ◌+◌, ◌≤◌};
-ghost use Rattle.dist_capture.specs.Parts.{view};
-ghost use Rattle.dist_capture.specs.Link.{is_ip, is_tag, without_tag, typed_packet, datagram_of};
+ghost use Rattle.dist_capture.specs.{Parts.view, Link.is_ip, Link.is_tag, Link.without_tag, Link.typed_packet, Link.datagram_of};
 
 use crate::parts::{behind, two};
 use crate::skipped::Skipped;

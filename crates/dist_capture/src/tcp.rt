@@ -1,8 +1,7 @@
 //! TCP segments of packets.
 
 ghost use Rattle.std.specs.Prelude.{◌≡◌, length};
-ghost use Rattle.dist_capture.specs.Network.{view_of as carried_by};
-ghost use Rattle.dist_capture.specs.Tcp.{is_set, said_by, segment_of, shown};
+ghost use Rattle.dist_capture.specs.{Network.view_of as carried_by, Tcp.is_set, Tcp.said_by, Tcp.segment_of, Tcp.shown};
 
 use crate::link::datagram_of;
 use crate::network::{Datagram, segment_in};

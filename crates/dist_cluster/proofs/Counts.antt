@@ -1,7 +1,7 @@
 -- Words that are counted one after the other.
 use Rattle.std.proofs.Common.{◌≡◌, ℕ, ◌==◌, Bool, true, false, List, [], ◌∷◌, ◌++◌, if◌then◌else◌, map, refl, sym, ap, ◌∙◌}
-use Rattle.std.specs.Borrow.{Bor}
 use Rattle.std.proofs.lemmas.List.{map-append}
+use Rattle.std.specs.Borrow.{Bor}
 use Rattle.dist_cluster.specs.Summary.{tallied}
 
 pub tallied-append : (count : List ℕ → ℕ) (a b : List (List ℕ)) → tallied count (a ++ b) ≡ tallied count a ++ tallied count b

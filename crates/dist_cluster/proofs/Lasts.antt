@@ -1,8 +1,7 @@
 -- The last element of a kind, once there is one more element.
 use Rattle.std.proofs.Common.{◌≡◌, ℕ, Bool, true, false, cond, eqb, List, [], ◌∷◌, ◌++◌, Option, Some, option_map, refl, ap, ◌∙◌}
+use Rattle.std.proofs.lemmas.List.{append-nil, Elements.filter-append}
 use Rattle.std.specs.List.{filter}
-use Rattle.std.proofs.lemmas.List.{append-nil}
-use Rattle.std.proofs.lemmas.List.Elements.{filter-append}
 use Rattle.dist_cluster.specs.History.{last}
 
 last-append : {X : Type 0} (xs : List X) (x : X) → last (xs ++ x ∷ []) ≡ Some x

@@ -1,8 +1,7 @@
 -- What a call returns that makes a name, where not only the name takes memory.
 use Rattle.std.proofs.Common.{ℕ, Bool, true, false, List, Result, Ok, Err}
 use Rattle.dist_names.specs.Answer.{AnswersName, RefusedBut, is_name_memory_error}
-use Rattle.dist_names.specs.NodeName.{name_of_bytes}
-use Rattle.dist_names.specs.declared.name_error.NameError.{NameError}
+use Rattle.dist_names.specs.{NodeName.name_of_bytes, declared.name_error.NameError.NameError}
 use Rattle.dist_cluster.specs.Targets.{Names, RefusedOr}
 
 refused : (is_memory : Bool) (error : NameError) (expected : Result (List ℕ) NameError) → RefusedBut is_memory error expected → RefusedOr is_memory error expected

@@ -2,10 +2,9 @@
 use Rattle.std.proofs.Common.{◌≡◌, ◌≢◌, ℕ, ◌<◌, Bool, true, false, cond, eqb, List, [], ◌∷◌, ◌++◌, Option, Some, None, length, map, filter, option_to_list}
 use Rattle.std.proofs.Common.{refl, sym, ap, subst, ◌∙◌, append_assoc}
 use Rattle.std.proofs.lemmas.List.{append-nil, length-set, length-replicate}
-use Rattle.dist_cluster.specs.declared.change.Observation.{Observation}
-use Rattle.dist_cluster.specs.declared.change.VerdictChange.{VerdictChange}
 use Rattle.dist_cluster.specs.Watching.{Verdicts, watching, verdict_of, after_one, is_other, change_from}
 use Rattle.dist_cluster.specs.History.{AreOfTargets, Moment, changes, is_change, last_observed, last_reported, moments_after, reports, verdict_before}
+use Rattle.dist_cluster.specs.declared.change.{Observation.Observation, VerdictChange.VerdictChange}
 use Rattle.dist_cluster.proofs.Lasts.{last_by-same, last_by-other}
 use Rattle.dist_cluster.proofs.Watches.{Agrees, agree-more, differs, none-shown, shown-same, shown-other, stays}
 

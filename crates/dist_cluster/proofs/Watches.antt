@@ -1,13 +1,11 @@
 -- What the targets showed last is what was observed last.
-use Rattle.std.proofs.Common.{◌≡◌, ◌≢◌, ℕ, ◌<◌, Bool, true, false, not, eqb, List, [], ◌∷◌, ◌++◌, Option, Some, None, length, get_or, set, replicate}
-use Rattle.std.proofs.Common.{refl, sym, ap, ◌∙◌, inl, inr, arith}
-use Rattle.std.specs.Cmp.Lexicographic.{pointwise, same_text, other_text}
-use Rattle.std.proofs.lemmas.Bool.{false≢true, cases_lt, eqb-true, eqb-false}
+use Rattle.std.proofs.Common.{◌≡◌, ◌≢◌, ℕ, ◌<◌, Bool, true, false, not, eqb, List, [], ◌∷◌, ◌++◌, Option, Some, None, length, get_or, set, replicate, refl}
+use Rattle.std.proofs.Common.{sym, ap, ◌∙◌, inl, inr, arith}
 use Rattle.std.proofs.lemmas.List.{get_or-set_other, get_or-replicate, get_or_past, length-replicate, set-get_or}
-use Rattle.std.proofs.lemmas.Grind.{get_or-set_at}
-use Rattle.dist_cluster.specs.declared.change.Observation.{Observation}
+use Rattle.std.proofs.lemmas.{Bool.false≢true, Bool.cases_lt, Bool.eqb-true, Bool.eqb-false, Grind.get_or-set_at}
+use Rattle.std.specs.Cmp.Lexicographic.{pointwise, same_text, other_text}
 use Rattle.dist_cluster.specs.Watching.{Verdicts, watching, verdict_of, after_one, is_other}
-use Rattle.dist_cluster.specs.History.{last_observed}
+use Rattle.dist_cluster.specs.{declared.change.Observation.Observation, History.last_observed}
 use Rattle.dist_cluster.proofs.Lasts.{last_by-same, last_by-other}
 
 -- ---- verdicts

@@ -1,10 +1,8 @@
 -- The lines in which a port mapper lists its names.
 --
 -- The ERTS User's Guide (EPMD Protocol) gives them as `name NAME at port PORT`, each with a line feed.
-use Rattle.std.specs.Prelude.{ℕ, ◌-◌, List, length, take, take_while, reverse, drop, codes, nat_eq}
-use Rattle.std.specs.Prelude.{Option, Some, None, option_and_then, if◌then◌else◌}
-use Rattle.std.specs.Char.{is_ascii_digit}
-use Rattle.std.specs.Cmp.Lexicographic.{pointwise}
+use Rattle.std.specs.Prelude.{ℕ, ◌-◌, List, length, take, take_while, reverse, drop, codes, nat_eq, Option, Some, None, option_and_then, if◌then◌else◌}
+use Rattle.std.specs.{Char.is_ascii_digit, Cmp.Lexicographic.pointwise}
 
 -- how many digits stand at the end of a line
 abbrev pub digits_at_end : List ℕ → ℕ

@@ -1,9 +1,8 @@
 -- What has to be reported of a list of observations: this speaks of the whole history, and not of a watch.
 use Rattle.std.specs.Prelude.{◌==◌, ℕ, ◌<◌, Bool, List, [], ◌∷◌, ◌++◌, Option, Some, None, map, filter, option_map, option_to_list}
 use Rattle.std.specs.List.{AllByRecursion}
-use Rattle.dist_cluster.specs.declared.change.Observation.{Observation}
-use Rattle.dist_cluster.specs.declared.change.VerdictChange.{VerdictChange}
 use Rattle.dist_cluster.specs.Watching.{Verdicts, verdict_of, after_one, is_other, change_from, report}
+use Rattle.dist_cluster.specs.declared.change.{Observation.Observation, VerdictChange.VerdictChange}
 
 -- the last element, where there is one
 abbrev pub last : {X : Type 0} → List X → Option X

@@ -1,7 +1,6 @@
 -- The latencies of one target, and their summary.
 use Rattle.std.specs.Prelude.{◌≡◌, ℕ, ◌+◌, ◌-◌, ◌/◌, ◌^◌, ◌<◌, ◌≤◌, min, max, List, [], ◌∷◌, ◌++◌, length, drop, Some, slice_get}
-use Rattle.std.specs.List.{AllByRecursion, Contains}
-use Rattle.std.specs.List.Sorted.{IsPermutation, IsNonDecreasing}
+use Rattle.std.specs.List.{AllByRecursion, Contains, Sorted.IsPermutation, Sorted.IsNonDecreasing}
 use Rattle.dist_cluster.specs.declared.latencies.LatencySummary.{LatencySummary}
 
 -- how many latencies are kept for the median

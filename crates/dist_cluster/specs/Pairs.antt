@@ -1,15 +1,11 @@
 -- What can be said of two nodes from outside.
 use Rattle.std.specs.Prelude.{ℕ, ◌==◌, ◌&&◌, Bool, true, false, not, List, Option, Some, codes, if◌then◌else◌}
-use Rattle.dist_names.specs.Order.{same_name}
-use Rattle.dist_names.specs.declared.flags.Flags.{Flags}
+use Rattle.dist_names.specs.{Order.same_name, declared.flags.Flags.Flags}
 use Rattle.dist_flags.specs.Releases.{missing, release_of, required_by}
-use Rattle.dist_probe.specs.declared.verdict.ProbeVerdict.{ProbeVerdict}
+use Rattle.dist_probe.specs.{declared.verdict.ProbeVerdict.ProbeVerdict, declared.names.NameStyle.NameStyle, Styles.style_of}
 use Rattle.dist_probe.specs.declared.verdict.ProbeVerdict.TheVariants as verdict
-use Rattle.dist_probe.specs.declared.names.NameStyle.{NameStyle}
 use Rattle.dist_probe.specs.declared.names.NameStyle.TheVariants as style
-use Rattle.dist_probe.specs.Styles.{style_of}
-use Rattle.dist_cluster.specs.declared.pairs.Half.{Half}
-use Rattle.dist_cluster.specs.declared.pairs.Pairing.{Pairing}
+use Rattle.dist_cluster.specs.declared.pairs.{Half.Half, Pairing.Pairing}
 use Rattle.dist_cluster.specs.declared.pairs.Pairing.TheVariants as pairing
 
 -- which flags the first node lacks of those that the second node's release requires

@@ -4,9 +4,7 @@ use Rattle.std.specs.Prelude.{◌≡◌, ℕ, ◌+◌, ◌-◌, ◌*◌, ◌/◌
 use Rattle.dist_names.specs.Order.{same_name}
 use Rattle.dist_probe.specs.Words.{verdict_word}
 use Rattle.dist_cluster.specs.Pairs.{pair_word, pairing_of}
-use Rattle.dist_cluster.specs.declared.pairs.Half.{Half}
-use Rattle.dist_cluster.specs.declared.summary.Summary.{Summary}
-use Rattle.dist_cluster.specs.declared.summary.WordCount.{WordCount}
+use Rattle.dist_cluster.specs.declared.{pairs.Half.Half, summary.Summary.Summary, summary.WordCount.WordCount}
 
 -- the verdict on the node has this word
 abbrev pub comes_to : List ℕ → Half → Bool

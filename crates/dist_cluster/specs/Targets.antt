@@ -1,11 +1,7 @@
 -- What a word names: a node, or all nodes of a host.
 use Rattle.std.specs.Prelude.{◌≡◌, ⊤, ℕ, ◌==◌, Bool, true, false, List, [], ◌∷◌, ◌++◌, codes, unwrap_or, Result, Ok, Err, if◌then◌else◌}
-use Rattle.dist_names.specs.Answer.{is_name_memory_error}
-use Rattle.dist_names.specs.NodeName.{name_of_bytes}
-use Rattle.dist_names.specs.declared.name_error.NameError.{NameError}
-use Rattle.dist_cluster.specs.Census.{behind_prefix}
-use Rattle.dist_cluster.specs.declared.targets.Group.{Group}
-use Rattle.dist_cluster.specs.declared.targets.Target.{Target}
+use Rattle.dist_names.specs.{Answer.is_name_memory_error, NodeName.name_of_bytes, declared.name_error.NameError.NameError}
+use Rattle.dist_cluster.specs.{Census.behind_prefix, declared.targets.Group.Group, declared.targets.Target.Target}
 use Rattle.dist_cluster.specs.declared.targets.Target.TheVariants as target
 
 -- what stands before the @ in the probe's usual name

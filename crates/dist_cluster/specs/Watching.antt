@@ -1,8 +1,7 @@
 -- A watch of targets: what is reported of an observation, and what the targets showed last after it.
 use Rattle.std.specs.Prelude.{◌==◌, ℕ, Bool, true, not, List, Option, Some, None, if◌then◌else◌, replicate, slice_set, slice_index_or}
 use Rattle.std.specs.Cmp.Lexicographic.{pointwise}
-use Rattle.dist_cluster.specs.declared.change.Observation.{Observation}
-use Rattle.dist_cluster.specs.declared.change.VerdictChange.{VerdictChange}
+use Rattle.dist_cluster.specs.declared.change.{Observation.Observation, VerdictChange.VerdictChange}
 
 -- the verdict that each target showed last, where it was observed at all
 abbrev pub Verdicts : Type 0

@@ -2,11 +2,9 @@
 //! the law.
 
 ghost use Rattle.std.specs.Prelude.{◌≡◌, ◌≢◌, ℕ, ◌-◌, ◌^◌, min, List, [], ◌∷◌, ◌++◌, Some, length};
-ghost use Rattle.dist_cluster.specs.declared.change.Observation.{Observation};
-ghost use Rattle.dist_cluster.specs.declared.change.VerdictChange.{VerdictChange};
-ghost use Rattle.dist_cluster.specs.Watching.{watching};
 ghost use Rattle.dist_cluster.specs.History.{AreOfTargets, changes, last_observed, last_reported, reports};
 ghost use Rattle.dist_cluster.specs.Latency.{FitWord, IsGreatest, IsLeast, last_few, most_kept, tally_of};
+ghost use Rattle.dist_cluster.specs.{declared.change.Observation.Observation, declared.change.VerdictChange.VerdictChange, Watching.watching};
 
 /// A watch reports the changes of a history, each once and in order, and nothing else.
 pub fn each_change_is_reported_once()

@@ -1,7 +1,6 @@
 //! The lines in which a port mapper lists the names that it knows.
 
-ghost use Rattle.std.specs.Prelude.{◌≡◌};
-ghost use Rattle.std.specs.Option.{option_copied};
+ghost use Rattle.std.specs.{Prelude.◌≡◌, Option.option_copied};
 ghost use Rattle.dist_cluster.specs.Census.{before_digits, digits_at_end, name_in_line};
 
 // How many digits stand at the end of a line.

@@ -1,8 +1,7 @@
 //! What is to be dialled: nodes by their names, and all nodes of a host by `@HOST`.
 
 ghost use Rattle.std.specs.Prelude.{◌≡◌, ◌∷◌, ◌++◌, true, false};
-ghost use Rattle.std.specs.List.{before_first, position, position_or_len};
-ghost use Rattle.std.specs.Str.{IsTrimAscii};
+ghost use Rattle.std.specs.{List.before_first, List.position, List.position_or_len, Str.IsTrimAscii};
 ghost use Rattle.dist_names.specs.NodeName.{host_of};
 ghost use Rattle.dist_cluster.specs.Targets.{Names, NamesTarget, begins_with_at, group_word, is_hash, name_behind, usual_prefix};
 

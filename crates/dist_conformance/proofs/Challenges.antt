@@ -1,25 +1,20 @@
 -- A challenge that matches is one.
 use Rattle.std.proofs.Common.{◌≡◌, ℕ, ◌+◌, Bool, true, false, List, length, Option, Some, None, Result, Ok, Err, refl, sym, ap, subst}
-use Rattle.std.specs.Prelude.{if◌then◌else◌}
-use Rattle.std.specs.Int.{w16}
+use Rattle.std.specs.{Prelude.if◌then◌else◌, Int.w16}
 use Rattle.dist_names.specs.Bytes.{IsBytes}
 use Rattle.dist_names.proofs.Bytes.{IsBytes-drop, IsBytes-take}
 use Rattle.dist_frames.specs.Stream.{first_body, head}
-use Rattle.dist_messages.specs.declared.message.Message.{Message}
-use Rattle.dist_messages.specs.declared.message.Message.TheVariants as message
-use Rattle.dist_messages.specs.declared.message.Side.TheVariants.{Acceptor}
-use Rattle.dist_messages.specs.declared.message_error.MessageError.{MessageError}
 use Rattle.dist_messages.specs.Reading.{read}
+use Rattle.dist_messages.specs.declared.{message.Message.Message, message.Side.TheVariants.Acceptor, message_error.MessageError.MessageError}
+use Rattle.dist_messages.specs.declared.message.Message.TheVariants as message
 use Rattle.dist_messages.proofs.Messages.{read_is_spelled}
-use Rattle.dist_conformance.specs.declared.patterns.FieldCheck.{FieldCheck}
-use Rattle.dist_conformance.specs.declared.patterns.Announcement.TheVariants as kind
-use Rattle.dist_conformance.specs.declared.patterns.Pattern.TheVariants as pattern
-use Rattle.dist_conformance.specs.declared.say.Learned.{Learned}
-use Rattle.dist_conformance.specs.declared.outcomes.Passage.{Passage}
-use Rattle.dist_conformance.specs.declared.outcomes.Deviation.TheVariants as deviation
-use Rattle.dist_conformance.specs.declared.outcomes.PatternOutcome.TheVariants as outcome
 use Rattle.dist_conformance.specs.Judging.{Observation, AnnouncementSaid, check_passes, by_announcement, said_in, part_outcome, outcome_of}
 use Rattle.dist_conformance.specs.Later.{IsChallenge}
+use Rattle.dist_conformance.specs.declared.{patterns.FieldCheck.FieldCheck, say.Learned.Learned, outcomes.Passage.Passage}
+use Rattle.dist_conformance.specs.declared.patterns.Announcement.TheVariants as kind
+use Rattle.dist_conformance.specs.declared.patterns.Pattern.TheVariants as pattern
+use Rattle.dist_conformance.specs.declared.outcomes.Deviation.TheVariants as deviation
+use Rattle.dist_conformance.specs.declared.outcomes.PatternOutcome.TheVariants as outcome
 use Rattle.dist_conformance.proofs.Fronts.{is_first}
 
 -- a challenge that passes is learned

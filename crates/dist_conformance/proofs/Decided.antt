@@ -1,34 +1,26 @@
 -- When the judgement is decided.
 use Rattle.std.proofs.Common.{◌≡◌, ℕ, suc, ◌+◌, ◌≤◌, Bool, true, false, List, [], ◌∷◌, take, drop, length, Option, Some, None, refl, ap, ◌∙◌, arith}
 use Rattle.std.specs.Prelude.{◌==◌, ◌||◌, ◌&&◌, not, nat_lt, if◌then◌else◌, Contains}
-use Rattle.std.specs.Int.{w16, w32}
-use Rattle.std.specs.List.{list_any}
-use Rattle.dist_names.specs.Fields.{Taken, number_at}
-use Rattle.dist_names.specs.Order.{same_name}
+use Rattle.std.specs.{Int.w16, Int.w32, List.list_any}
+use Rattle.dist_names.specs.{Fields.Taken, Fields.number_at, Order.same_name}
 use Rattle.dist_frames.specs.Stream.{first_body}
-use Rattle.dist_messages.specs.declared.message.Side.TheVariants.{Dialler}
+use Rattle.dist_messages.specs.{declared.message.Side.TheVariants.Dialler, Reading.read, Canonical.canonical}
 use Rattle.dist_messages.specs.declared.message.Message.TheVariants as message
-use Rattle.dist_messages.specs.Reading.{read}
-use Rattle.dist_messages.specs.Canonical.{canonical}
 use Rattle.dist_secret.specs.Digest.{digest_of}
-use Rattle.dist_conformance.specs.declared.patterns.FieldCheck.{FieldCheck}
-use Rattle.dist_conformance.specs.declared.patterns.Announcement.{Announcement}
-use Rattle.dist_epmd.specs.declared.message.NodeInfo.{NodeInfo}
-use Rattle.dist_conformance.specs.declared.patterns.RegistrationCheck.{RegistrationCheck}
-use Rattle.dist_conformance.specs.declared.patterns.NamesCheck.{NamesCheck}
-use Rattle.dist_conformance.specs.declared.patterns.Pattern.{Pattern}
+use Rattle.dist_conformance.specs.Judging.{Observation, AnnouncementSaid, passes, passes_if, part_outcome, open_for, by_body, place_of, by_announcement}
+use Rattle.dist_conformance.specs.Judging.{check_passes, said_in, reply_in, by_reply, registration_in, registration_passes, by_registration, by_result}
+use Rattle.dist_conformance.specs.Judging.{by_answer, are_lines, names_pass, by_names, body_outcome, outcome_of, joined, behind_match, sequence_of}
+use Rattle.dist_conformance.specs.Judging.{no_passage, outcomes_of, first_passage, is_open, first_failure, may_match, by_loose, by_wanted, judgement_of}
+use Rattle.dist_conformance.specs.{Kinds.side_of, Words.begins_with}
+use Rattle.dist_conformance.specs.declared.patterns.{FieldCheck.FieldCheck, Announcement.Announcement, RegistrationCheck.RegistrationCheck}
+use Rattle.dist_conformance.specs.declared.patterns.{NamesCheck.NamesCheck, Pattern.Pattern}
+use Rattle.dist_conformance.specs.declared.outcomes.{Passage.Passage, Deviation.Deviation, PatternOutcome.PatternOutcome}
+use Rattle.dist_conformance.specs.declared.{steps.Demand.Demand, say.Learned.Learned}
 use Rattle.dist_conformance.specs.declared.patterns.Pattern.TheVariants as pattern
-use Rattle.dist_conformance.specs.declared.steps.Demand.{Demand}
-use Rattle.dist_conformance.specs.declared.say.Learned.{Learned}
-use Rattle.dist_conformance.specs.declared.outcomes.Passage.{Passage}
-use Rattle.dist_conformance.specs.declared.outcomes.Deviation.{Deviation}
 use Rattle.dist_conformance.specs.declared.outcomes.Deviation.TheVariants as deviation
-use Rattle.dist_conformance.specs.declared.outcomes.PatternOutcome.{PatternOutcome}
 use Rattle.dist_conformance.specs.declared.outcomes.PatternOutcome.TheVariants as outcome
 use Rattle.dist_conformance.specs.declared.judging.Judgement.TheVariants as judgement
-use Rattle.dist_conformance.specs.Kinds.{side_of}
-use Rattle.dist_conformance.specs.Words.{begins_with}
-use Rattle.dist_conformance.specs.Judging.{Observation, AnnouncementSaid, passes, passes_if, part_outcome, open_for, by_body, place_of, by_announcement, check_passes, said_in, reply_in, by_reply, registration_in, registration_passes, by_registration, by_result, by_answer, are_lines, names_pass, by_names, body_outcome, outcome_of, joined, behind_match, sequence_of, no_passage, outcomes_of, first_passage, is_open, first_failure, may_match, by_loose, by_wanted, judgement_of}
+use Rattle.dist_epmd.specs.declared.message.NodeInfo.{NodeInfo}
 
 -- ---- a pattern is decided once the connection has ended
 

@@ -1,10 +1,8 @@
 -- Bytes in front of others.
-use Rattle.std.proofs.Common.{◌≡◌, ℕ, ◌+◌, ◌≤◌, Bool, true, false, List, [], ◌∷◌, ◌++◌, length, drop, Some, None, refl, sym, ap, ◌∙◌, arith, length-append, length-take, length-drop}
-use Rattle.std.specs.Prelude.{◌==◌, ◌&&◌, if◌then◌else◌}
-use Rattle.std.specs.Int.{w16, from_be_bytes}
-use Rattle.std.proofs.lemmas.Bool.{and_parts, and_from}
-use Rattle.std.proofs.lemmas.Bool.Decides.{Decides-eqb}
-use Rattle.std.proofs.lemmas.List.{take-append-le, drop-append-le}
+use Rattle.std.proofs.Common.{◌≡◌, ℕ, ◌+◌, ◌≤◌, Bool, true, false, List, [], ◌∷◌, ◌++◌, length, drop, Some, None, refl, sym, ap, ◌∙◌, arith, length-append}
+use Rattle.std.proofs.Common.{length-take, length-drop}
+use Rattle.std.proofs.lemmas.{Bool.and_parts, Bool.and_from, Bool.Decides.Decides-eqb, List.take-append-le, List.drop-append-le}
+use Rattle.std.specs.{Prelude.◌==◌, Prelude.◌&&◌, Prelude.if◌then◌else◌, Int.w16, Int.from_be_bytes}
 use Rattle.dist_frames.specs.Stream.{first_body, has_first, head, front}
 use Rattle.dist_frames.proofs.Streams.{Starts, starts, starts_true}
 use Rattle.dist_conformance.specs.Words.{begins_with}

@@ -1,29 +1,23 @@
 -- What is decided stays so as more comes.
 use Rattle.std.proofs.Common.{◌≡◌, ℕ, ◌+◌, ◌≤◌, ◌<◌, Bool, true, false, List, [], ◌∷◌, ◌++◌, length, take, drop, Option, Some, None, refl, sym, ap, subst, ◌∙◌, arith, length-append, length-drop}
-use Rattle.std.specs.Prelude.{◌==◌, ◌||◌, ◌&&◌, not, nat_lt, nat_le, if◌then◌else◌}
-use Rattle.std.specs.Int.{w16}
-use Rattle.std.specs.List.{list_any, list_all}
 use Rattle.std.proofs.lemmas.Bool.{and_parts}
 use Rattle.std.proofs.lemmas.List.{take-append-le, drop-append-le, drop-drop, drop_all}
+use Rattle.std.specs.Prelude.{◌==◌, ◌||◌, ◌&&◌, not, nat_lt, nat_le, if◌then◌else◌}
+use Rattle.std.specs.{Int.w16, List.list_any, List.list_all}
 use lib.Seq.{drop-nil}
 use Rattle.dist_frames.specs.Stream.{first_body}
 use Rattle.dist_messages.specs.Reading.{read}
-use Rattle.dist_conformance.specs.declared.patterns.Pattern.{Pattern}
+use Rattle.dist_conformance.specs.Judging.{Observation, passes, part_outcome, open_for, by_bytes, by_body, by_announcement, said_in, by_result, by_answer}
+use Rattle.dist_conformance.specs.Judging.{body_outcome, outcome_of, joined, behind_match, sequence_of, no_passage, outcomes_of, first_passage, is_open}
+use Rattle.dist_conformance.specs.Judging.{first_failure, may_match, by_loose, by_wanted, judgement_of}
+use Rattle.dist_conformance.specs.{Kinds.side_of, Words.begins_with, Outcomes.IsWithin, Later.IsLater, Later.looks_at_bytes}
+use Rattle.dist_conformance.specs.declared.outcomes.{Passage.Passage, Deviation.Deviation, PatternOutcome.PatternOutcome}
+use Rattle.dist_conformance.specs.declared.{patterns.Pattern.Pattern, steps.Demand.Demand}
 use Rattle.dist_conformance.specs.declared.patterns.Pattern.TheVariants as pattern
-use Rattle.dist_conformance.specs.declared.steps.Demand.{Demand}
-use Rattle.dist_conformance.specs.declared.outcomes.Passage.{Passage}
-use Rattle.dist_conformance.specs.declared.outcomes.Deviation.{Deviation}
 use Rattle.dist_conformance.specs.declared.outcomes.Deviation.TheVariants as deviation
-use Rattle.dist_conformance.specs.declared.outcomes.PatternOutcome.{PatternOutcome}
 use Rattle.dist_conformance.specs.declared.outcomes.PatternOutcome.TheVariants as outcome
 use Rattle.dist_conformance.specs.declared.judging.Judgement.TheVariants as judgement
-use Rattle.dist_conformance.specs.Kinds.{side_of}
-use Rattle.dist_conformance.specs.Words.{begins_with}
-use Rattle.dist_conformance.specs.Outcomes.{IsWithin}
-use Rattle.dist_conformance.specs.Judging.{Observation, passes, part_outcome, open_for, by_bytes, by_body, by_announcement, said_in, by_result, by_answer, body_outcome, outcome_of, joined, behind_match, sequence_of, no_passage, outcomes_of, first_passage, is_open, first_failure, may_match, by_loose, by_wanted, judgement_of}
-use Rattle.dist_conformance.specs.Later.{IsLater, looks_at_bytes}
-use Rattle.dist_conformance.proofs.Fronts.{begins_more, begins_never, begins_longer, first_more}
-use Rattle.dist_conformance.proofs.Within.{within}
+use Rattle.dist_conformance.proofs.{Fronts.begins_more, Fronts.begins_never, Fronts.begins_longer, Fronts.first_more, Within.within}
 
 -- what is not open at first is the same later on
 abbrev Stays : PatternOutcome → PatternOutcome → Type 0

@@ -1,9 +1,8 @@
 -- The worst of several verdicts.
 use Rattle.std.proofs.Common.{◌≡◌, ℕ, zero, suc, ◌≤◌, ◌<◌, true, false, List, [], ◌∷◌, length, refl, sym, ◌∙◌, ◌⊎◌, inl, inr, arith}
 use Rattle.std.specs.Prelude.{◌≢◌, All, Contains, nat_le, if◌then◌else◌, slice_index_or}
-use Rattle.dist_conformance.specs.declared.verdicts.TalkVerdict.{TalkVerdict}
+use Rattle.dist_conformance.specs.{declared.verdicts.TalkVerdict.TalkVerdict, Verdicts.rank_of, Verdicts.worse, Verdicts.worst_behind, Verdicts.worst_of}
 use Rattle.dist_conformance.specs.declared.verdicts.TalkVerdict.TheVariants as verdict
-use Rattle.dist_conformance.specs.Verdicts.{rank_of, worse, worst_behind, worst_of}
 
 -- the worse of two is one of them, and neither is worse than it
 record IsWorse (one other w : TalkVerdict) : Type 0 where

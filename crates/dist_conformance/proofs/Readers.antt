@@ -1,13 +1,11 @@
 -- What single words say.
 use Rattle.std.proofs.Common.{◌≡◌, ℕ, ◌<◌, ◌&&◌, List, Option, Some, None, refl, sym}
-use Rattle.std.specs.Prelude.{SomeIff, IfSome, ◌^◌, nat_lt}
-use Rattle.std.specs.Str.Parse.{IsNumeral, digits_value}
 use Rattle.std.proofs.lemmas.Bool.{and_parts}
+use Rattle.std.specs.{Prelude.SomeIff, Prelude.IfSome, Prelude.◌^◌, Prelude.nat_lt, Str.Parse.IsNumeral, Str.Parse.digits_value}
 use Rattle.dist_names.specs.Digits.{is_numeral}
 use Rattle.dist_names.proofs.Digits.{below, is_below, both, numeral, a_numeral, by_test}
 use Rattle.dist_conformance.specs.Fields.{number_32}
-use Rattle.dist_flags.specs.declared.dflag.Dflag.{Dflag}
-use Rattle.dist_flags.specs.Names.{name_of, flag_named}
+use Rattle.dist_flags.specs.{declared.dflag.Dflag.Dflag, Names.name_of, Names.flag_named}
 use Rattle.dist_flags.proofs.Naming.{found, every}
 
 no_flag : (word : List ℕ) (o : Option Dflag) → IfSome o (λ flag. name_of flag ≡ word) → ((flag : Dflag) → name_of flag ≡ word → None ≡ Some flag) → None ≡ o

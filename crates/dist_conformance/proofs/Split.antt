@@ -1,8 +1,7 @@
 -- A text is its first part and the parts behind it.
 use Rattle.std.proofs.Common.{◌≡◌, ◌∙◌, ℕ, zero, suc, ◌+◌, ◌-◌, ◌<◌, true, List, [], ◌∷◌, length, take, drop, refl, sym, ap, arith}
+use Rattle.std.proofs.lemmas.{List.take_rest, Bool.cond-true, Bool.cond-false, Bool.false_from_ne_true}
 use Rattle.std.specs.Prelude.{◌==◌}
-use Rattle.std.proofs.lemmas.List.{take_rest}
-use Rattle.std.proofs.lemmas.Bool.{cond-true, cond-false, false_from_ne_true}
 use Rattle.memchr.specs.Find.{Nowhere, NoneBefore, Passes, is_byte}
 use Rattle.dist_conformance.specs.Texts.{parts_of, before_first}
 

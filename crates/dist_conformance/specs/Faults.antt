@@ -1,7 +1,6 @@
 -- Faults of readers.
-use Rattle.dist_conformance.specs.declared.faults.ReadFault.{ReadFault}
+use Rattle.dist_conformance.specs.declared.faults.{ReadFault.ReadFault, ListFault.ListFault}
 use Rattle.dist_conformance.specs.declared.faults.ReadFault.TheVariants as read
-use Rattle.dist_conformance.specs.declared.faults.ListFault.{ListFault}
 use Rattle.dist_conformance.specs.declared.faults.ListFault.TheVariants as list
 
 -- what is bad in one of its parts makes a list bad

@@ -1,14 +1,11 @@
 -- What single words of a row say.
-use Rattle.std.specs.Prelude.{ℕ, ◌-◌, ◌^◌, ◌&&◌, nat_le, nat_lt, if◌then◌else◌, List, [], ◌∷◌, ◌++◌, length, drop, replicate, codes}
-use Rattle.std.specs.Prelude.{Option, Some, None, option_map, slice_get, bit_and, bit_or}
-use Rattle.std.specs.Result.{result_ok}
-use Rattle.std.specs.Str.Parse.{digits_value}
+use Rattle.std.specs.Prelude.{ℕ, ◌-◌, ◌^◌, ◌&&◌, nat_le, nat_lt, if◌then◌else◌, List, [], ◌∷◌, ◌++◌, length, drop, replicate, codes, Option, Some, None}
+use Rattle.std.specs.Prelude.{option_map, slice_get, bit_and, bit_or}
+use Rattle.std.specs.{Result.result_ok, Str.Parse.digits_value}
 use Rattle.hex.specs.Hex.{decode_of}
-use Rattle.dist_names.specs.Digits.{is_numeral, flags_in}
-use Rattle.dist_names.specs.declared.flags.Flags.{Flags}
+use Rattle.dist_names.specs.{Digits.is_numeral, Digits.flags_in, declared.flags.Flags.Flags}
 use Rattle.dist_flags.specs.Names.{flag_named, flag_of}
-use Rattle.dist_conformance.specs.Texts.{parts_of}
-use Rattle.dist_conformance.specs.Words.{◌>>=◌, Read, begins_with, field, field_or}
+use Rattle.dist_conformance.specs.{Texts.parts_of, Words.◌>>=◌, Words.Read, Words.begins_with, Words.field, Words.field_or}
 
 -- the number below 2^32 that decimal digits write
 unfoldable pub number_32 : List ℕ → Option ℕ

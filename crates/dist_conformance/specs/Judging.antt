@@ -1,42 +1,25 @@
 -- THE JUDGEMENT: what it means that this came.
-use Rattle.std.specs.Prelude.{ℕ, ◌+◌, ◌==◌, Bool, true, false, not, ◌&&◌, ◌||◌, nat_le, nat_lt, if◌then◌else◌}
-use Rattle.std.specs.Prelude.{List, [], ◌∷◌, length, take, drop, map, Option, Some, None, option_map, Result, Ok, Err}
-use Rattle.std.specs.List.{list_any, list_all, ends_with}
-use Rattle.std.specs.Int.{w16, w32}
-use Rattle.dist_names.specs.Fields.{Taken, number_at}
-use Rattle.dist_names.specs.Flags.{of_halves, has_all}
-use Rattle.dist_names.specs.Order.{same_name}
+use Rattle.std.specs.Prelude.{ℕ, ◌+◌, ◌==◌, Bool, true, false, not, ◌&&◌, ◌||◌, nat_le, nat_lt, if◌then◌else◌, List, [], ◌∷◌, length, take, drop, map}
+use Rattle.std.specs.Prelude.{Option, Some, None, option_map, Result, Ok, Err}
+use Rattle.std.specs.{List.list_any, List.list_all, List.ends_with, Int.w16, Int.w32}
+use Rattle.dist_names.specs.{Fields.Taken, Fields.number_at, Flags.of_halves, Flags.has_all, Order.same_name}
 use Rattle.dist_frames.specs.Stream.{first_body}
 use Rattle.dist_secret.specs.Digest.{digest_of}
-use Rattle.dist_messages.specs.declared.message.Message.{Message}
+use Rattle.dist_messages.specs.{Canonical.canonical, Reading.read}
+use Rattle.dist_messages.specs.declared.{message.Message.Message, message.Side.TheVariants.Dialler, message_error.MessageError.MessageError}
 use Rattle.dist_messages.specs.declared.message.Message.TheVariants as message
-use Rattle.dist_messages.specs.declared.message.Side.TheVariants.{Dialler}
-use Rattle.dist_messages.specs.declared.message_error.MessageError.{MessageError}
-use Rattle.dist_messages.specs.Canonical.{canonical}
-use Rattle.dist_messages.specs.Reading.{read}
-use Rattle.dist_epmd.specs.declared.message.NodeInfo.{NodeInfo}
-use Rattle.dist_epmd.specs.Reading.{info_at}
-use Rattle.dist_conformance.specs.Kinds.{side_of}
-use Rattle.dist_conformance.specs.Texts.{lines_of}
-use Rattle.dist_conformance.specs.Words.{◌>>=◌, begins_with}
-use Rattle.dist_conformance.specs.declared.patterns.Announcement.{Announcement}
+use Rattle.dist_epmd.specs.{declared.message.NodeInfo.NodeInfo, Reading.info_at}
+use Rattle.dist_conformance.specs.{Kinds.side_of, Texts.lines_of, Words.◌>>=◌, Words.begins_with}
+use Rattle.dist_conformance.specs.declared.patterns.{Announcement.Announcement, FieldCheck.FieldCheck, RegistrationCheck.RegistrationCheck}
+use Rattle.dist_conformance.specs.declared.patterns.{NamesCheck.NamesCheck, Pattern.Pattern}
+use Rattle.dist_conformance.specs.declared.outcomes.{Passage.Passage, Deviation.Deviation, PatternOutcome.PatternOutcome, Observed.Observed}
+use Rattle.dist_conformance.specs.declared.{steps.Demand.Demand, say.Learned.Learned, judging.Judgement.Judgement}
 use Rattle.dist_conformance.specs.declared.patterns.Announcement.TheVariants as kind
-use Rattle.dist_conformance.specs.declared.patterns.FieldCheck.{FieldCheck}
 use Rattle.dist_conformance.specs.declared.patterns.FieldCheck.TheVariants as check
-use Rattle.dist_conformance.specs.declared.patterns.RegistrationCheck.{RegistrationCheck}
-use Rattle.dist_conformance.specs.declared.patterns.NamesCheck.{NamesCheck}
 use Rattle.dist_conformance.specs.declared.patterns.NamesCheck.TheVariants as names
-use Rattle.dist_conformance.specs.declared.patterns.Pattern.{Pattern}
 use Rattle.dist_conformance.specs.declared.patterns.Pattern.TheVariants as pattern
-use Rattle.dist_conformance.specs.declared.steps.Demand.{Demand}
-use Rattle.dist_conformance.specs.declared.say.Learned.{Learned}
-use Rattle.dist_conformance.specs.declared.outcomes.Passage.{Passage}
-use Rattle.dist_conformance.specs.declared.outcomes.Deviation.{Deviation}
 use Rattle.dist_conformance.specs.declared.outcomes.Deviation.TheVariants as deviation
-use Rattle.dist_conformance.specs.declared.outcomes.PatternOutcome.{PatternOutcome}
 use Rattle.dist_conformance.specs.declared.outcomes.PatternOutcome.TheVariants as outcome
-use Rattle.dist_conformance.specs.declared.outcomes.Observed.{Observed}
-use Rattle.dist_conformance.specs.declared.judging.Judgement.{Judgement}
 use Rattle.dist_conformance.specs.declared.judging.Judgement.TheVariants as judgement
 
 -- what is judged: what came, whether the connection ended, times in milliseconds, what was learned before, the cookie
@@ -132,6 +115,7 @@ check_passes check.Any len learned i = true
 check_passes (check.Name name) len learned i = same_name i.name name
 check_passes (check.Creation least most) len learned i = nat_le least i.creation && nat_le i.creation most
 check_passes (check.Has flags) len learned i = has_all i.flags flags.0
+check_passes (check.Lacks flags) len learned i = not (has_all i.flags flags.0)
 check_passes check.Fresh len learned i = is_fresh i.challenge learned
 check_passes check.Bare len learned i = len == i.size
 

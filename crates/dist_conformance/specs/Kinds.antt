@@ -1,6 +1,5 @@
 -- Names, challenges and complements.
-use Rattle.dist_messages.specs.declared.message.Side.{Side}
-use Rattle.dist_messages.specs.declared.message.Side.TheVariants.{Dialler, Acceptor}
+use Rattle.dist_messages.specs.declared.message.Side.{Side, TheVariants.Dialler, TheVariants.Acceptor}
 use Rattle.dist_conformance.specs.declared.patterns.Announcement.{Announcement}
 use Rattle.dist_conformance.specs.declared.patterns.Announcement.TheVariants as kind
 

@@ -1,16 +1,11 @@
 -- What holds of the judgement as time goes on.
-use Rattle.std.specs.Prelude.{◌≡◌, ℕ, ◌≤◌, Bool, true, false, List, ◌++◌, Some}
-use Rattle.std.specs.Int.{w16}
-use Rattle.dist_names.specs.declared.flags.Flags.{Flags}
-use Rattle.dist_names.specs.declared.creation.Creation.{Creation}
+use Rattle.std.specs.{Prelude.◌≡◌, Prelude.ℕ, Prelude.◌≤◌, Prelude.Bool, Prelude.true, Prelude.false, Prelude.List, Prelude.◌++◌, Prelude.Some, Int.w16}
+use Rattle.dist_names.specs.declared.{flags.Flags.Flags, creation.Creation.Creation}
 use Rattle.dist_frames.specs.Stream.{first_body}
+use Rattle.dist_messages.specs.{declared.message.Side.TheVariants.Acceptor, Spelling.Spells}
 use Rattle.dist_messages.specs.declared.message.Message.TheVariants as message
-use Rattle.dist_messages.specs.declared.message.Side.TheVariants.{Acceptor}
-use Rattle.dist_messages.specs.Spelling.{Spells}
-use Rattle.dist_conformance.specs.declared.outcomes.Passage.{Passage}
-use Rattle.dist_conformance.specs.declared.patterns.Pattern.{Pattern}
+use Rattle.dist_conformance.specs.{declared.outcomes.Passage.Passage, declared.patterns.Pattern.Pattern, Judging.Observation}
 use Rattle.dist_conformance.specs.declared.patterns.Pattern.TheVariants as pattern
-use Rattle.dist_conformance.specs.Judging.{Observation}
 
 -- ONE OBSERVATION IS LATER than another, at which the connection had not ended: more may have come, it may have ended, time went on.
 pub record IsLater (o later : Observation) : Type 0 where

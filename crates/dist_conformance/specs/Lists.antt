@@ -1,7 +1,6 @@
 -- Lists that are read one item after the other.
 use Rattle.std.specs.Prelude.{◌≡◌, ℕ, List, [], ◌∷◌, ◌++◌, length, Option, Some, None, Result, Ok, Err, MatchResult}
-use Rattle.dist_conformance.specs.declared.faults.ListFault.{ListFault}
-use Rattle.dist_conformance.specs.declared.faults.ListFault.TheVariants.{Bad}
+use Rattle.dist_conformance.specs.declared.faults.ListFault.{ListFault, TheVariants.Bad}
 
 -- these items before the others, where the others are good
 abbrev pub behind_items : {T : Type 0} → List T → Result (List T) ℕ → Result (List T) ℕ

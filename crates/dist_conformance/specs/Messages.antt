@@ -2,33 +2,22 @@
 use Rattle.std.specs.Prelude.{ℕ, Bool, true, false, ◌||◌, if◌then◌else◌, List, [], ◌∷◌, codes, is_ok, Option, Some, None, option_map}
 use Rattle.std.specs.Result.{result_ok}
 use Rattle.dist_names.specs.Flags.{low_half, high_half}
-use Rattle.dist_messages.specs.declared.message.Message.{Message}
-use Rattle.dist_messages.specs.declared.message.Message.TheVariants as message
 use Rattle.dist_messages.specs.declared.message.Side.TheVariants.{Dialler, Acceptor}
-use Rattle.dist_messages.specs.Canonical.{own_spelling}
-use Rattle.dist_messages.specs.Reading.{read}
-use Rattle.dist_epmd.specs.declared.message.NodeInfo.{NodeInfo}
-use Rattle.dist_epmd.specs.declared.message.Request.{Request}
-use Rattle.dist_epmd.specs.declared.message.Request.TheVariants as request
-use Rattle.dist_epmd.specs.declared.message.Answer.{Answer}
-use Rattle.dist_epmd.specs.declared.message.Answer.TheVariants as answer
+use Rattle.dist_messages.specs.{declared.message.Message.Message, Canonical.own_spelling, Reading.read}
+use Rattle.dist_messages.specs.declared.message.Message.TheVariants as message
 use Rattle.dist_epmd.specs.Layout.{written_request, written_answer}
-use Rattle.dist_conformance.specs.declared.digests.ReplyDigest.{ReplyDigest}
-use Rattle.dist_conformance.specs.declared.digests.ReplyDigest.TheVariants as digest
-use Rattle.dist_conformance.specs.declared.patterns.Announcement.{Announcement}
-use Rattle.dist_conformance.specs.declared.patterns.Announcement.TheVariants as kind
-use Rattle.dist_conformance.specs.declared.steps.DigestTerms.{DigestTerms}
-use Rattle.dist_conformance.specs.declared.steps.SaidPart.{SaidPart}
-use Rattle.dist_conformance.specs.declared.steps.SaidPart.TheVariants as part
-use Rattle.dist_conformance.specs.declared.messages.MessageWord.{MessageWord}
-use Rattle.dist_conformance.specs.declared.messages.MessageWord.TheVariants as word
-use Rattle.dist_conformance.specs.declared.messages.AnnouncementTerms.{AnnouncementTerms}
-use Rattle.dist_conformance.specs.Kinds.{side_of}
-use Rattle.dist_conformance.specs.Texts.{words_of}
-use Rattle.dist_conformance.specs.Terms.{Terms, own_name}
+use Rattle.dist_epmd.specs.declared.message.{NodeInfo.NodeInfo, Request.Request, Answer.Answer}
+use Rattle.dist_epmd.specs.declared.message.Request.TheVariants as request
+use Rattle.dist_epmd.specs.declared.message.Answer.TheVariants as answer
 use Rattle.dist_conformance.specs.Words.{◌>>=◌, Read, give, next_in, field, whole, meaning_in}
 use Rattle.dist_conformance.specs.Fields.{number_in, optional_number, bytes_in, flags_said, usual_flags, name_in}
-use Rattle.dist_conformance.specs.Saying.{edited, frame_said}
+use Rattle.dist_conformance.specs.{Kinds.side_of, Texts.words_of, Terms.Terms, Terms.own_name, Saying.edited, Saying.frame_said}
+use Rattle.dist_conformance.specs.declared.{digests.ReplyDigest.ReplyDigest, patterns.Announcement.Announcement, steps.DigestTerms.DigestTerms}
+use Rattle.dist_conformance.specs.declared.{steps.SaidPart.SaidPart, messages.MessageWord.MessageWord, messages.AnnouncementTerms.AnnouncementTerms}
+use Rattle.dist_conformance.specs.declared.digests.ReplyDigest.TheVariants as digest
+use Rattle.dist_conformance.specs.declared.patterns.Announcement.TheVariants as kind
+use Rattle.dist_conformance.specs.declared.steps.SaidPart.TheVariants as part
+use Rattle.dist_conformance.specs.declared.messages.MessageWord.TheVariants as word
 
 -- ---- names, challenges and complements
 

@@ -1,13 +1,10 @@
 -- What single functions of the judgement return.
 use Rattle.std.specs.Prelude.{ℕ, ◌≤◌, List, codes}
-use Rattle.dist_conformance.specs.declared.outcomes.Deviation.{Deviation}
-use Rattle.dist_conformance.specs.declared.outcomes.Deviation.TheVariants as deviation
-use Rattle.dist_conformance.specs.declared.outcomes.PatternOutcome.{PatternOutcome}
-use Rattle.dist_conformance.specs.declared.outcomes.PatternOutcome.TheVariants as outcome
-use Rattle.dist_conformance.specs.declared.outcomes.AnnouncementFields.{AnnouncementFields}
-use Rattle.dist_epmd.specs.declared.message.NodeInfo.{NodeInfo}
-use Rattle.dist_epmd.specs.declared.fields.InfoView.{InfoView}
 use Rattle.dist_conformance.specs.Judging.{AnnouncementSaid}
+use Rattle.dist_conformance.specs.declared.outcomes.{Deviation.Deviation, PatternOutcome.PatternOutcome, AnnouncementFields.AnnouncementFields}
+use Rattle.dist_conformance.specs.declared.outcomes.Deviation.TheVariants as deviation
+use Rattle.dist_conformance.specs.declared.outcomes.PatternOutcome.TheVariants as outcome
+use Rattle.dist_epmd.specs.declared.{message.NodeInfo.NodeInfo, fields.InfoView.InfoView}
 
 -- the word of a deviation in reports
 abbrev pub deviation_word : Deviation → List ℕ

@@ -1,23 +1,16 @@
 -- What a row demands, as it writes it.
 use Rattle.std.specs.Prelude.{ℕ, Bool, true, false, List, [], ◌∷◌, ◌++◌, drop, codes, map, Option, Some, None, option_map, Ok}
 use Rattle.dist_epmd.specs.declared.message.Answer.TheVariants as answer
-use Rattle.dist_conformance.specs.declared.patterns.FieldCheck.{FieldCheck}
+use Rattle.dist_conformance.specs.Words.{◌>>=◌, Read, give, next_in, field, field_or, mark_in, value_in, whole, meaning_in}
+use Rattle.dist_conformance.specs.{Texts.parts_of, Texts.words_of, Terms.Terms, Lists.all_in, Lists.good, Fields.number_in, Fields.optional_number}
+use Rattle.dist_conformance.specs.{Fields.bytes_in, Fields.flag_in, Messages.info, Messages.answer_said, Messages.status_said}
+use Rattle.dist_conformance.specs.declared.patterns.{FieldCheck.FieldCheck, RegistrationCheck.RegistrationCheck, NamesCheck.NamesCheck, Pattern.Pattern}
+use Rattle.dist_conformance.specs.declared.{steps.Demand.Demand, demands.PatternWord.PatternWord}
 use Rattle.dist_conformance.specs.declared.patterns.FieldCheck.TheVariants as check
 use Rattle.dist_conformance.specs.declared.patterns.Announcement.TheVariants as kind
-use Rattle.dist_conformance.specs.declared.patterns.RegistrationCheck.{RegistrationCheck}
-use Rattle.dist_conformance.specs.declared.patterns.NamesCheck.{NamesCheck}
 use Rattle.dist_conformance.specs.declared.patterns.NamesCheck.TheVariants as names
-use Rattle.dist_conformance.specs.declared.patterns.Pattern.{Pattern}
 use Rattle.dist_conformance.specs.declared.patterns.Pattern.TheVariants as pattern
-use Rattle.dist_conformance.specs.declared.steps.Demand.{Demand}
-use Rattle.dist_conformance.specs.declared.demands.PatternWord.{PatternWord}
 use Rattle.dist_conformance.specs.declared.demands.PatternWord.TheVariants as word
-use Rattle.dist_conformance.specs.Texts.{parts_of, words_of}
-use Rattle.dist_conformance.specs.Terms.{Terms}
-use Rattle.dist_conformance.specs.Lists.{all_in, good}
-use Rattle.dist_conformance.specs.Words.{◌>>=◌, Read, give, next_in, field, field_or, mark_in, value_in, whole, meaning_in}
-use Rattle.dist_conformance.specs.Fields.{number_in, optional_number, bytes_in, flag_in}
-use Rattle.dist_conformance.specs.Messages.{info, answer_said, status_said}
 
 -- ---- names, challenges and complements
 
@@ -37,7 +30,8 @@ field_check words =
     field_or (codes "name=") (λ value. Some (check.Name value))
     (field_or (codes "creation=") (λ value. option_map (λ n. check.Creation n n) (number_in 4294967295 value))
     (field_or (codes "creation>=") (λ value. option_map (λ n. check.Creation n 4294967295) (number_in 4294967295 value))
-    (field_or (codes "has=") (λ value. option_map (λ f. check.Has f) (flag_in value)) (mark_check words) words) words) words) words
+    (field_or (codes "has=") (λ value. option_map (λ f. check.Has f) (flag_in value))
+    (field_or (codes "hasnot=") (λ value. option_map (λ f. check.Lacks f) (flag_in value)) (mark_check words) words) words) words) words) words
 
 -- ---- the port mapper
 

@@ -1,19 +1,15 @@
 -- What is said.
-use Rattle.std.specs.Prelude.{ℕ, ◌-◌, ◌%◌, ◌^◌, ◌==◌, nat_lt, if◌then◌else◌, List, [], ◌∷◌, ◌++◌, length, take, replicate, decimal}
-use Rattle.std.specs.Prelude.{Option, Some, None, unwrap_or, bit_xor, slice_index, slice_set}
-use Rattle.std.specs.Int.{w16, w32, to_be_bytes}
-use Rattle.std.specs.List.{flat_map}
+use Rattle.std.specs.Prelude.{ℕ, ◌-◌, ◌%◌, ◌^◌, ◌==◌, nat_lt, if◌then◌else◌, List, [], ◌∷◌, ◌++◌, length, take, replicate, decimal, Option, Some, None}
+use Rattle.std.specs.Prelude.{unwrap_or, bit_xor, slice_index, slice_set}
+use Rattle.std.specs.{Int.w16, Int.w32, Int.to_be_bytes, List.flat_map}
 use Rattle.md5.specs.Md5.{md5}
 use Rattle.dist_names.specs.Bytes.{number}
 use Rattle.dist_secret.specs.Digest.{digest_of}
 use Rattle.dist_messages.specs.declared.message.Message.TheVariants as message
 use Rattle.dist_messages.specs.Canonical.{canonical}
-use Rattle.dist_conformance.specs.declared.digests.ReplyDigest.{ReplyDigest}
+use Rattle.dist_conformance.specs.declared.{digests.ReplyDigest.ReplyDigest, steps.SaidPart.SaidPart, steps.Saying.Saying, say.Learned.Learned}
 use Rattle.dist_conformance.specs.declared.digests.ReplyDigest.TheVariants as digest
-use Rattle.dist_conformance.specs.declared.steps.SaidPart.{SaidPart}
 use Rattle.dist_conformance.specs.declared.steps.SaidPart.TheVariants as part
-use Rattle.dist_conformance.specs.declared.steps.Saying.{Saying}
-use Rattle.dist_conformance.specs.declared.say.Learned.{Learned}
 
 -- ---- digests
 

@@ -3,24 +3,13 @@ use Rattle.std.specs.Prelude.{◌≡◌, ℕ, ◌-◌, ◌==◌, ◌&&◌, Bool,
 use Rattle.std.specs.Prelude.{Option, Some, None, option_map, Result, Ok, Err}
 use Rattle.std.specs.Cmp.Lexicographic.{pointwise}
 use Rattle.dist_names.specs.Order.{same_name}
-use Rattle.dist_conformance.specs.declared.faults.RowError.{RowError}
-use Rattle.dist_conformance.specs.declared.faults.RowError.TheVariants as error
-use Rattle.dist_conformance.specs.declared.rows.Level.{Level}
-use Rattle.dist_conformance.specs.declared.rows.Level.TheVariants as level
-use Rattle.dist_conformance.specs.declared.rows.SectionKind.{SectionKind}
-use Rattle.dist_conformance.specs.declared.rows.SectionKind.TheVariants as kind
-use Rattle.dist_conformance.specs.declared.rows.Marks.{Marks}
-use Rattle.dist_conformance.specs.declared.rows.RowTalk.{RowTalk}
-use Rattle.dist_conformance.specs.declared.rows.SuiteRow.{SuiteRow}
-use Rattle.dist_conformance.specs.declared.rows.Section.{Section}
-use Rattle.dist_conformance.specs.declared.talks.RowTerms.{RowTerms}
-use Rattle.dist_conformance.specs.declared.terms.SuiteNames.{SuiteNames}
-use Rattle.dist_conformance.specs.Texts.{parts_of, words_of, lines_of}
-use Rattle.dist_conformance.specs.Terms.{Terms}
-use Rattle.dist_conformance.specs.Lists.{all_in}
 use Rattle.dist_conformance.specs.Words.{◌>>=◌, Read, give, begins_with, field, mark_in, whole, meaning_in}
-use Rattle.dist_conformance.specs.Fields.{number_in}
-use Rattle.dist_conformance.specs.Steps.{step_in}
+use Rattle.dist_conformance.specs.{Texts.parts_of, Texts.words_of, Texts.lines_of, Terms.Terms, Lists.all_in, Fields.number_in, Steps.step_in}
+use Rattle.dist_conformance.specs.declared.rows.{Level.Level, SectionKind.SectionKind, Marks.Marks, RowTalk.RowTalk, SuiteRow.SuiteRow, Section.Section}
+use Rattle.dist_conformance.specs.declared.{faults.RowError.RowError, talks.RowTerms.RowTerms, terms.SuiteNames.SuiteNames}
+use Rattle.dist_conformance.specs.declared.faults.RowError.TheVariants as error
+use Rattle.dist_conformance.specs.declared.rows.Level.TheVariants as level
+use Rattle.dist_conformance.specs.declared.rows.SectionKind.TheVariants as kind
 
 -- ---- heads
 
@@ -51,13 +40,14 @@ section_in line = quoted line >>= (λ q. section_of_words q.0 q.1)
 abbrev pub level_words : List (List ℕ × Level)
 level_words = (codes "must", level.Must) ∷ (codes "should", level.Should) ∷ (codes "otp", level.Otp) ∷ (codes "may", level.May) ∷ []
 
--- how a row is played: three marks, in this order, each of which may be left out
+-- from when on a row counts, and how it is played: four marks, in this order, each of which may be left out
 unfoldable pub marks_in : List (List ℕ) → Read Marks
 marks_in words =
-    field (codes "slow=") (number_in 4294967295) 5000 words >>= (λ limit.
+    field (codes "since=") (number_in 4294967295) 0 words >>= (λ since.
+    field (codes "slow=") (number_in 4294967295) 5000 since.1 >>= (λ limit.
     mark_in (codes "harsh") limit.1 >>= (λ harsh.
     mark_in (codes "alone") harsh.1 >>= (λ alone.
-    give (record { limit = limit.0; harsh = harsh.0; alone = alone.0 }) alone.1)))
+    give (record { since = since.0; limit = limit.0; harsh = harsh.0; alone = alone.0 }) alone.1))))
 
 -- the same, and no word more
 unfoldable pub all_marks : List (List ℕ) → Option Marks

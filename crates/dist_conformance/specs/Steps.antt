@@ -1,19 +1,11 @@
 -- The steps of a talk, as a row writes them.
 use Rattle.std.specs.Prelude.{ℕ, if◌then◌else◌, List, [], ◌∷◌, length, drop, codes, map, Option, Some, None, option_map, unwrap_or}
-use Rattle.dist_conformance.specs.declared.steps.Action.{Action}
+use Rattle.dist_conformance.specs.{declared.steps.Action.Action, declared.steps.TalkStep.TalkStep, declared.steps.Saying.Saying}
+use Rattle.dist_conformance.specs.{declared.steps.SaidPart.SaidPart, declared.actions.ActionWord.ActionWord, Texts.parts_of, Texts.words_of, Terms.Terms}
+use Rattle.dist_conformance.specs.{Terms.expanded, Lists.all_in, Lists.good, Words.◌>>=◌, Words.Read, Words.give, Words.field, Words.whole}
+use Rattle.dist_conformance.specs.{Words.begins_with, Fields.number_in, Fields.optional_number, Messages.info, Messages.part_in, Patterns.demand_in}
 use Rattle.dist_conformance.specs.declared.steps.Action.TheVariants as action
-use Rattle.dist_conformance.specs.declared.steps.TalkStep.{TalkStep}
-use Rattle.dist_conformance.specs.declared.steps.Saying.{Saying}
-use Rattle.dist_conformance.specs.declared.steps.SaidPart.{SaidPart}
-use Rattle.dist_conformance.specs.declared.actions.ActionWord.{ActionWord}
 use Rattle.dist_conformance.specs.declared.actions.ActionWord.TheVariants as word
-use Rattle.dist_conformance.specs.Texts.{parts_of, words_of}
-use Rattle.dist_conformance.specs.Terms.{Terms, expanded}
-use Rattle.dist_conformance.specs.Lists.{all_in, good}
-use Rattle.dist_conformance.specs.Words.{◌>>=◌, Read, give, field, whole, begins_with}
-use Rattle.dist_conformance.specs.Fields.{number_in, optional_number}
-use Rattle.dist_conformance.specs.Messages.{info, part_in}
-use Rattle.dist_conformance.specs.Patterns.{demand_in}
 
 -- ---- say
 

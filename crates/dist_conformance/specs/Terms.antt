@@ -1,8 +1,6 @@
 -- What the `$` words of rows stand for.
 use Rattle.std.specs.Prelude.{ℕ, if◌then◌else◌, List, [], ◌∷◌, ◌++◌, length, drop, codes, Option, Some, None}
-use Rattle.dist_conformance.specs.declared.terms.TalkTerms.{TalkTerms}
-use Rattle.dist_conformance.specs.Texts.{parts_of}
-use Rattle.dist_conformance.specs.Words.{◌>>=◌, begins_with}
+use Rattle.dist_conformance.specs.{declared.terms.TalkTerms.TalkTerms, Texts.parts_of, Words.◌>>=◌, Words.begins_with}
 
 -- what the words stand for in one talk: texts
 pub record Terms : Type 0 where

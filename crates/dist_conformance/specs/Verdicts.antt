@@ -1,10 +1,8 @@
 -- Verdicts of talks, rows and whole suites.
 use Rattle.std.specs.Prelude.{ℕ, Bool, true, false, ◌==◌, ◌&&◌, nat_le, if◌then◌else◌, List, [], ◌∷◌, codes}
-use Rattle.dist_conformance.specs.declared.rows.Level.{Level}
+use Rattle.dist_conformance.specs.declared.{rows.Level.Level, verdicts.TalkVerdict.TalkVerdict, verdicts.RowResult.RowResult}
 use Rattle.dist_conformance.specs.declared.rows.Level.TheVariants as level
-use Rattle.dist_conformance.specs.declared.verdicts.TalkVerdict.{TalkVerdict}
 use Rattle.dist_conformance.specs.declared.verdicts.TalkVerdict.TheVariants as verdict
-use Rattle.dist_conformance.specs.declared.verdicts.RowResult.{RowResult}
 
 -- the word of a level in rows
 abbrev pub level_word : Level → List ℕ

@@ -3,8 +3,7 @@ use Rattle.std.specs.Prelude.{◌≡◌, ℕ, Bool, true, false, ◌==◌, if◌
 use Rattle.std.specs.Prelude.{Option, Some, None, option_map, option_and_then, Result, MatchResult}
 use Rattle.std.specs.Cmp.Lexicographic.{pointwise}
 use Rattle.dist_names.specs.Order.{same_name}
-use Rattle.dist_conformance.specs.declared.faults.ReadFault.{ReadFault}
-use Rattle.dist_conformance.specs.declared.faults.ReadFault.TheVariants.{Bad}
+use Rattle.dist_conformance.specs.declared.faults.ReadFault.{ReadFault, TheVariants.Bad}
 
 -- ---- what a call that reads something returns
 

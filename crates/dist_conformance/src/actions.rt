@@ -1,10 +1,9 @@
 //! The steps of a talk, as a row writes them.
 
 ghost use Rattle.std.specs.Prelude.{◌≡◌, map, option_map};
-ghost use Rattle.dist_conformance.specs.Terms.{terms_of};
-ghost use Rattle.dist_conformance.specs.Words.{Reads, ReadsUpTo};
-ghost use Rattle.dist_conformance.specs.Steps.{way_fields, way_of, messages_in, with_way, saying_in};
-ghost use Rattle.dist_conformance.specs.Steps.{keyed_in, action_words, if_none, call_in, behind_word, action_in, conn_in, step_in};
+ghost use Rattle.dist_conformance.specs.Steps.{way_fields, way_of, messages_in, with_way, saying_in, keyed_in, action_words, if_none, call_in, behind_word};
+ghost use Rattle.dist_conformance.specs.Steps.{action_in, conn_in, step_in};
+ghost use Rattle.dist_conformance.specs.{Terms.terms_of, Words.Reads, Words.ReadsUpTo};
 
 use crate::demands::demand_of;
 use crate::faults::ReadFault;

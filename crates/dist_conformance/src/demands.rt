@@ -1,10 +1,9 @@
 //! What a row demands, as it writes it.
 
 ghost use Rattle.std.specs.Prelude.{◌≡◌, IfOk};
-ghost use Rattle.dist_conformance.specs.Terms.{terms_of};
-ghost use Rattle.dist_conformance.specs.Words.{Reads, ReadsUpTo};
-ghost use Rattle.dist_conformance.specs.Patterns.{mark_check, field_check, registration_check, names_line, names_check, looked_up, behind_word};
-ghost use Rattle.dist_conformance.specs.Patterns.{pattern_in, sequence_in, alternatives_in, demand_in};
+ghost use Rattle.dist_conformance.specs.Patterns.{mark_check, field_check, registration_check, names_line, names_check, looked_up, behind_word, pattern_in};
+ghost use Rattle.dist_conformance.specs.Patterns.{sequence_in, alternatives_in, demand_in};
+ghost use Rattle.dist_conformance.specs.{Terms.terms_of, Words.Reads, Words.ReadsUpTo};
 
 use crate::faults::ReadFault;
 use crate::fields::{
@@ -105,8 +104,11 @@ fn field_check(alloc: Global, words: &mut LineWords<'_>) -> Result<FieldCheck, R
     if let Some(least) = words.value(b"creation>=") {
         return Ok(FieldCheck::Creation(number_of(least, u32::MAX)?, u32::MAX));
     }
-    match words.value(b"has=") {
-        Some(flag) => Ok(FieldCheck::Has(flag_of(flag)?)),
+    if let Some(flag) = words.value(b"has=") {
+        return Ok(FieldCheck::Has(flag_of(flag)?));
+    }
+    match words.value(b"hasnot=") {
+        Some(flag) => Ok(FieldCheck::Lacks(flag_of(flag)?)),
         None => mark_check(words),
     }
 }

@@ -1,7 +1,6 @@
 //! Single words of a row, and fields with a key.
 
-ghost use Rattle.std.specs.Prelude.{◌≡◌, ◌≤◌, [], map, codes, IfOk, MatchResult};
-ghost use Rattle.std.specs.Result.{result_ok};
+ghost use Rattle.std.specs.{Prelude.◌≡◌, Prelude.◌≤◌, Prelude.[], Prelude.map, Prelude.codes, Prelude.IfOk, Prelude.MatchResult, Result.result_ok};
 ghost use Rattle.hex.specs.Hex.{decode_of};
 ghost use Rattle.dist_flags.specs.Names.{flag_named};
 ghost use Rattle.dist_conformance.specs.declared.faults.ReadFault.TheVariants.{Bad};

@@ -1,9 +1,7 @@
 //! Lists that stand in a text, one item behind the other.
 
 ghost use Rattle.std.specs.Prelude.{map};
-ghost use Rattle.dist_conformance.specs.Lists.{all_in, ReadsList};
-ghost use Rattle.dist_conformance.specs.Terms.{Terms, terms_of};
-ghost use Rattle.dist_conformance.specs.Words.{Reads};
+ghost use Rattle.dist_conformance.specs.{Lists.all_in, Lists.ReadsList, Terms.Terms, Terms.terms_of, Words.Reads};
 
 use crate::faults::{ListFault, ReadFault};
 use crate::terms::TalkTerms;

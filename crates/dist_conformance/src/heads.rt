@@ -1,9 +1,8 @@
 //! The heads of sections and of rows.
 
 ghost use Rattle.std.specs.Prelude.{◌≡◌, map, Some, None, MatchResult};
-ghost use Rattle.dist_conformance.specs.declared.faults.ReadFault.TheVariants.{Bad};
-ghost use Rattle.dist_conformance.specs.Words.{Reads, ReadsUpTo};
 ghost use Rattle.dist_conformance.specs.Sections.{quoted, section_of, section_in, marks_in, all_marks, row_of, head_in};
+ghost use Rattle.dist_conformance.specs.{declared.faults.ReadFault.TheVariants.Bad, Words.Reads, Words.ReadsUpTo};
 
 use crate::faults::ReadFault;
 use crate::fields::{mark, meaning_of, number_field, number_of};
@@ -73,6 +72,7 @@ fn marks_in(words: &mut LineWords<'_>) -> Result<Marks, ReadFault>
     ensures { ReadsUpTo result words.new (marks_in words.old) }
 {
     Ok(Marks {
+        since: number_field(words, b"since=", 0, u32::MAX)?,
         limit: number_field(words, b"slow=", 5000, u32::MAX)?,
         harsh: mark(words, b"harsh")?,
         alone: mark(words, b"alone")?,

@@ -1,7 +1,6 @@
 //! The judgement.
 
-ghost use Rattle.std.specs.Prelude.{◌≡◌, ◌<◌, ◌+◌, ◌^◌};
-ghost use Rattle.std.specs.List.{list_any};
+ghost use Rattle.std.specs.{Prelude.◌≡◌, Prelude.◌<◌, Prelude.◌+◌, Prelude.◌^◌, List.list_any};
 ghost use Rattle.dist_conformance.specs.Judging.{observation_of, no_passage, joined, sequence_of, outcomes_of};
 ghost use Rattle.dist_conformance.specs.Judging.{first_passage, is_open, first_failure, judgement_of};
 

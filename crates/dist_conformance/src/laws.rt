@@ -1,19 +1,15 @@
 //! Laws of the judgement: each is a function that does nothing, and whose contract is the law.
 
-ghost use Rattle.std.specs.Prelude.{◌≡◌, ◌≤◌, ◌<◌, ℕ, true, List, Contains};
-ghost use Rattle.std.specs.List.{list_all};
+ghost use Rattle.std.specs.{Prelude.◌≡◌, Prelude.◌≤◌, Prelude.◌<◌, Prelude.ℕ, Prelude.true, Prelude.List, Prelude.Contains, List.list_all};
 ghost use Rattle.dist_names.specs.Bytes.{IsBytes};
-ghost use Rattle.dist_conformance.specs.declared.steps.Demand.{Demand};
-ghost use Rattle.dist_conformance.specs.declared.patterns.FieldCheck.{FieldCheck};
-ghost use Rattle.dist_conformance.specs.declared.patterns.Announcement.TheVariants as kind;
-ghost use Rattle.dist_conformance.specs.declared.patterns.Pattern.{Pattern};
-ghost use Rattle.dist_conformance.specs.declared.patterns.Pattern.TheVariants as pattern;
-ghost use Rattle.dist_conformance.specs.declared.outcomes.Passage.{Passage};
-ghost use Rattle.dist_conformance.specs.declared.outcomes.Deviation.{Deviation};
-ghost use Rattle.dist_conformance.specs.declared.outcomes.PatternOutcome.TheVariants as outcome;
-ghost use Rattle.dist_conformance.specs.declared.judging.Judgement.TheVariants as judgement;
 ghost use Rattle.dist_conformance.specs.Judging.{Observation, outcome_of, sequence_of, no_passage, judgement_of};
 ghost use Rattle.dist_conformance.specs.Later.{IsLater, looks_at_bytes, IsChallenge};
+ghost use Rattle.dist_conformance.specs.declared.{steps.Demand.Demand, patterns.FieldCheck.FieldCheck, patterns.Pattern.Pattern, outcomes.Passage.Passage};
+ghost use Rattle.dist_conformance.specs.declared.{outcomes.Deviation.Deviation};
+ghost use Rattle.dist_conformance.specs.declared.patterns.Announcement.TheVariants as kind;
+ghost use Rattle.dist_conformance.specs.declared.patterns.Pattern.TheVariants as pattern;
+ghost use Rattle.dist_conformance.specs.declared.outcomes.PatternOutcome.TheVariants as outcome;
+ghost use Rattle.dist_conformance.specs.declared.judging.Judgement.TheVariants as judgement;
 
 /// The judgement is decided once the connection has ended, and once the time is over.
 pub fn decided_in_the_end()

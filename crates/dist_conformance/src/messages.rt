@@ -1,18 +1,14 @@
 //! The messages of a step `say`, as a row writes them.
 
-ghost use Rattle.std.specs.Prelude.{◌≡◌, Some, None, codes, is_ok, IfOk, MatchResult};
-ghost use Rattle.std.specs.Result.{result_ok};
-ghost use Rattle.dist_messages.specs.Canonical.{own_spelling};
-ghost use Rattle.dist_messages.specs.Reading.{read};
-ghost use Rattle.dist_conformance.specs.declared.faults.ReadFault.TheVariants.{Bad};
+ghost use Rattle.std.specs.{Prelude.◌≡◌, Prelude.Some, Prelude.None, Prelude.codes, Prelude.is_ok, Prelude.IfOk, Prelude.MatchResult, Result.result_ok};
+ghost use Rattle.dist_messages.specs.{Canonical.own_spelling, Reading.read};
+ghost use Rattle.dist_conformance.specs.Words.{Reads, ReadsUpTo, field, meaning_in};
+ghost use Rattle.dist_conformance.specs.Messages.{announcement_terms, message_of, announcement_part, status_said, digest_words, digest_terms, info_numbers};
+ghost use Rattle.dist_conformance.specs.Messages.{info, request_part, answer_said, alive_answer, answer_part, behind_word, part_in};
+ghost use Rattle.dist_conformance.specs.{declared.faults.ReadFault.TheVariants.Bad, Saying.edited, Saying.frame_said, Terms.terms_of};
 ghost use Rattle.dist_conformance.specs.declared.steps.SaidPart.TheVariants as part;
 ghost use Rattle.dist_conformance.specs.declared.digests.ReplyDigest.TheVariants as digest;
 ghost use Rattle.dist_conformance.specs.declared.messages.MessageWord.TheVariants as word;
-ghost use Rattle.dist_conformance.specs.Saying.{edited, frame_said};
-ghost use Rattle.dist_conformance.specs.Terms.{terms_of};
-ghost use Rattle.dist_conformance.specs.Words.{Reads, ReadsUpTo, field, meaning_in};
-ghost use Rattle.dist_conformance.specs.Messages.{announcement_terms, message_of, announcement_part, status_said, digest_words, digest_terms};
-ghost use Rattle.dist_conformance.specs.Messages.{info_numbers, info, request_part, answer_said, alive_answer, answer_part, behind_word, part_in};
 
 use crate::digests::ReplyDigest;
 use crate::faults::ReadFault;

@@ -1,22 +1,15 @@
 //! What a single pattern makes of what came.
 
-ghost use Rattle.std.specs.Prelude.{◌≡◌, ◌==◌, not, length, option_map, if◌then◌else◌};
-ghost use Rattle.std.specs.Int.{w32};
-ghost use Rattle.std.specs.List.{list_any};
-ghost use Rattle.dist_names.specs.Fields.{number_at};
-ghost use Rattle.dist_names.specs.Order.{same_name};
+ghost use Rattle.std.specs.{Prelude.◌≡◌, Prelude.◌==◌, Prelude.not, Prelude.length, Prelude.option_map, Prelude.if◌then◌else◌, Int.w32, List.list_any};
+ghost use Rattle.dist_names.specs.{Fields.number_at, Order.same_name};
 ghost use Rattle.dist_secret.specs.Digest.{digest_of};
+ghost use Rattle.dist_messages.specs.{declared.message.Side.TheVariants.Dialler, Canonical.canonical, Reading.read, Views.message_of};
 ghost use Rattle.dist_messages.specs.declared.message.Message.TheVariants as message;
-ghost use Rattle.dist_messages.specs.declared.message.Side.TheVariants.{Dialler};
-ghost use Rattle.dist_messages.specs.Canonical.{canonical};
-ghost use Rattle.dist_messages.specs.Reading.{read};
-ghost use Rattle.dist_messages.specs.Views.{message_of};
-ghost use Rattle.dist_conformance.specs.declared.outcomes.PatternOutcome.TheVariants as outcome;
-ghost use Rattle.dist_conformance.specs.Kinds.{side_of};
 ghost use Rattle.dist_conformance.specs.Judging.{observation_of, passes, part_outcome, open_for, if_nothing, by_bytes, passes_if, body_outcome};
-ghost use Rattle.dist_conformance.specs.Judging.{announcement_of, said_in, is_new, is_fresh, check_passes, by_announcement, reply_in, by_reply};
-ghost use Rattle.dist_conformance.specs.Judging.{by_result, by_answer, are_lines, is_line, has_line, names_pass, by_names, outcome_of};
-ghost use Rattle.dist_conformance.specs.Outcomes.{IsWithin, deviation_word, said_of};
+ghost use Rattle.dist_conformance.specs.Judging.{announcement_of, said_in, is_new, is_fresh, check_passes, by_announcement, reply_in, by_reply, by_result};
+ghost use Rattle.dist_conformance.specs.Judging.{by_answer, are_lines, is_line, has_line, names_pass, by_names, outcome_of};
+ghost use Rattle.dist_conformance.specs.{Kinds.side_of, Outcomes.IsWithin, Outcomes.deviation_word, Outcomes.said_of};
+ghost use Rattle.dist_conformance.specs.declared.outcomes.PatternOutcome.TheVariants as outcome;
 
 use crate::patterns::{Announcement, FieldCheck, NamesCheck, Pattern};
 use crate::registrations::registration_outcome;
@@ -281,6 +274,7 @@ fn check_passes(
             *least <= fields.creation && fields.creation <= *most
         }
         FieldCheck::Has(flags) => fields.flags.has(*flags),
+        FieldCheck::Lacks(flags) => !fields.flags.has(*flags),
         FieldCheck::Fresh => is_fresh(fields.challenge, learned),
         FieldCheck::Bare => len == fields.size,
     }

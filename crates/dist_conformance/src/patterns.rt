@@ -44,6 +44,8 @@ pub enum FieldCheck {
     Creation(u32, u32),
     /// It announces these flags.
     Has(Flags),
+    /// It does not announce this flag.
+    Lacks(Flags),
     /// Its challenge is none of those that came before in this talk.
     Fresh,
     /// No bytes stand behind its name.
@@ -88,7 +90,7 @@ pub struct RegistrationCheck {
 /// | `bytes BYTES` | these bytes |
 /// | `frame BYTES` | a frame of the handshake whose body begins with these bytes |
 /// | `status WORD` | the frame of this status |
-/// | `name`, `oldname`, `challenge`, `complement` | the frame of this message: `name=NAME`, `creation=N`, `creation>=N`, `has=FLAG`, `fresh` or `bare` |
+/// | `name`, `oldname`, `challenge`, `complement` | the frame of this message: `name=N`, `creation=N`, `creation>=N`, `has=F`, `hasnot=F`, `fresh` or `bare` |
 /// | `reply` | the frame of a reply to our challenge, 123456789 or `challenge=N`, by the cookie |
 /// | `ack` | the frame of the acknowledgement of our challenge, 123456789 or `challenge=N`, by the cookie |
 /// | `alive2req` | the frame of a registration, whatever stands behind its fields: `type=N` `protocol=N` `high=N` `low=N` `bare` |

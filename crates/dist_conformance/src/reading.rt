@@ -1,8 +1,7 @@
 //! The rows of a section, as a text has them.
 
 ghost use Rattle.std.specs.Prelude.{◌≡◌, ◌-◌, [], length, map, take, Ok, MatchResult};
-ghost use Rattle.dist_conformance.specs.Sections.{behind_front, row_in, rows_behind};
-ghost use Rattle.dist_conformance.specs.Sections.{section_of_lines, without_line_feed, section_of_text, IsRowError};
+ghost use Rattle.dist_conformance.specs.Sections.{behind_front, row_in, rows_behind, section_of_lines, without_line_feed, section_of_text, IsRowError};
 
 use crate::faults::{ListFault, ReadFault, RowError};
 use crate::heads::{head_in, section_in};

@@ -1,7 +1,6 @@
 //! What a node says where it registers, as its port mapper reads it.
 
-ghost use Rattle.std.specs.Prelude.{◌≡◌, ◌==◌, not, length, option_map};
-ghost use Rattle.std.specs.List.{list_all};
+ghost use Rattle.std.specs.{Prelude.◌≡◌, Prelude.◌==◌, Prelude.not, Prelude.length, Prelude.option_map, List.list_all};
 ghost use Rattle.dist_conformance.specs.Judging.{registration_in, registered_port, is_named, is_bare, registration_passes, by_registration};
 ghost use Rattle.dist_conformance.specs.Outcomes.{info_of};
 

@@ -46,6 +46,8 @@ pub enum SectionKind {
 /// How a row is played.
 #[derive(Clone, Copy)]
 pub struct Marks {
+    /// `since=N`: the release of OTP from whose guide on it is demanded. 0 where every guide does.
+    pub since: u32,
     /// How many milliseconds a demand waits. It is 5,000 unless the row is marked `slow=MS`.
     pub limit: u32,
     /// `harsh`: what the row does can end a fragile node.

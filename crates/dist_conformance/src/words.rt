@@ -1,8 +1,7 @@
 //! The words that are left of a line.
 
 ghost use Rattle.std.specs.Prelude.{◌≡◌, ◌∷◌, [], drop, map, Some, None, MatchOption, MatchResult};
-ghost use Rattle.dist_conformance.specs.declared.faults.ReadFault.TheVariants.{Bad};
-ghost use Rattle.dist_conformance.specs.Words.{Reads, value_in, whole};
+ghost use Rattle.dist_conformance.specs.{declared.faults.ReadFault.TheVariants.Bad, Words.Reads, Words.value_in, Words.whole};
 
 use crate::faults::ReadFault;
 use std::marker::Model;

@@ -2,11 +2,11 @@
 use Rattle.dist_core.proofs.Words.{◌≡◌, ℕ, true, ◌≢◌, IfOk, IsOk, IsTrue, slice_get, Some, None, Ok, Err, Option, Result, sym, refl, ap, ◌∙◌, subst, EndId}
 use Rattle.dist_core.proofs.Words.{AreLegal, is_open, End, Why, GivesReply, IsStep, Refuses, reply_of, ClosesOnReply, end_of, loss_reply, closes, is_loss}
 use Rattle.dist_core.proofs.Words.{NodeState, at_end, framed_from, opening_effect, sender_to, step, step_result, tick_effect, Effect, Event, Reply, StepError}
+use Rattle.dist_core.proofs.{Closings.closes_on_reply, Rows.loses}
 use Rattle.dist_core_ends.specs.declared.known.End.TheVariants as ends
 use Rattle.dist_core.specs.Step.{effect_of}
 use Rattle.dist_core.specs.declared.event.Event.TheVariants as event
 use Rattle.dist_core.specs.declared.step_error.StepError.TheVariants as error
-use Rattle.dist_core.proofs.{Closings.closes_on_reply, Rows.loses}
 
 -- what a call of step returns
 pub reported : (r : Result Reply StepError) (s : Result (Reply × NodeState) StepError) (old new : NodeState) → IsStep r s old new → GivesReply r s

@@ -1,9 +1,9 @@
 -- Steps that change an attempt in its place.
 use Rattle.dist_core.proofs.Words.{◌≡◌, ℕ, ◌+◌, ◌≤◌, List, length, slice_get, Some, Ok, refl, EndId, table_of, Attempt, End, table-legal, NodeState, limits_of}
 use Rattle.dist_core.proofs.Words.{CanProgress, HoldsOn, effect_by, cost_of, effect_of, Event, Progress}
+use Rattle.dist_core.proofs.{Numbers.counted, Steps.fits}
 use Rattle.dist_core_ends.specs.declared.known.End.TheVariants as ends
 use Rattle.dist_core.specs.declared.progress.Progress.TheVariants as progress
-use Rattle.dist_core.proofs.{Numbers.counted, Steps.fits}
 
 -- what is done to an attempt is done at its end
 pub end-by : (es : List End) (id : EndId) (a : Attempt) (p : Progress) → (let f = effect_by es id a p in f.reply.end_) ≡ id

@@ -1,14 +1,8 @@
 -- Runs of a node that gets events, changes its setup, forgets, and begins anew: all that is ever done to a node.
 use Rattle.std.specs.Prelude.{ℕ, ◌==◌, if◌then◌else◌, List, [], ◌∷◌, count_by, Result, Ok, Err}
-use Rattle.dist_core_ends.specs.Ends.{is_open}
-use Rattle.dist_core_ends.specs.Forgetting.{without_causes_below}
-use Rattle.dist_core.specs.declared.changing.ChangeError.{ChangeError}
-use Rattle.dist_core.specs.declared.event.Event.{Event}
-use Rattle.dist_core.specs.declared.changing.Change.{Change}
-use Rattle.dist_core.specs.Changing.{change}
-use Rattle.dist_core.specs.Node.{NodeState}
-use Rattle.dist_core.specs.Runs.{node_after, opening}
-use Rattle.dist_core.specs.Step.{step}
+use Rattle.dist_core_ends.specs.{Ends.is_open, Forgetting.without_causes_below}
+use Rattle.dist_core.specs.{Changing.change, Node.NodeState, Runs.node_after, Runs.opening, Step.step}
+use Rattle.dist_core.specs.declared.{changing.ChangeError.ChangeError, event.Event.Event, changing.Change.Change}
 
 -- what is done to a node
 pub data Act : Type 0 where

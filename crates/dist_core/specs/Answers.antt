@@ -1,13 +1,8 @@
 -- What the calls of a node return.
-use Rattle.std.specs.Prelude.{◌≡◌, ◌≢◌, Option, Some, Result, Ok, Err, IsOk}
-use Rattle.std.specs.Borrow.{Bor}
+use Rattle.std.specs.{Prelude.◌≡◌, Prelude.◌≢◌, Prelude.Option, Prelude.Some, Prelude.Result, Prelude.Ok, Prelude.Err, Prelude.IsOk, Borrow.Bor}
 use Rattle.dist_core_ends.specs.declared.known.End.{End}
-use Rattle.dist_core.specs.declared.reply.Reply.{Reply}
-use Rattle.dist_core.specs.declared.effect.Effect.{Effect}
-use Rattle.dist_core.specs.declared.step_error.StepError.{StepError}
+use Rattle.dist_core.specs.{declared.reply.Reply.Reply, declared.effect.Effect.Effect, declared.step_error.StepError.StepError, Node.NodeState, Step.at_end}
 use Rattle.dist_core.specs.declared.step_error.StepError.TheVariants as error
-use Rattle.dist_core.specs.Node.{NodeState}
-use Rattle.dist_core.specs.Step.{at_end}
 
 -- the refusal is that of the definition; memory runs out only where the definition refuses nothing
 abbrev pub Refuses : {X : Type 0} → StepError → Result X StepError → Type 0

@@ -3,17 +3,14 @@ use Rattle.std.specs.Prelude.{◌≡◌, Bool, false, not, ◌&&◌, if◌then�
 use Rattle.std.specs.List.{list_any}
 use Rattle.std.specs.FinMap as map
 use Rattle.dist_names.specs.Order.{Name}
-use Rattle.dist_peers.specs.declared.entry.Entry.{Entry}
+use Rattle.dist_peers.specs.{declared.entry.Entry.Entry, Table.up_id}
 use Rattle.dist_secret.specs.Cookies.{rekeys}
-use Rattle.dist_peers.specs.Table.{up_id}
 use Rattle.dist_core_ends.specs.Ends.{entry_in, table_of}
 use Rattle.dist_core_setup.specs.declared.setup.Setup.{Setup}
 use Rattle.dist_core_setup.specs.Changing.{has_own_cookie, lacks_room, with_own_cookie, keyed_usually, letting_in}
-use Rattle.dist_core.specs.declared.changing.Change.{Change}
 use Rattle.dist_core.specs.declared.changing.Change.TheVariants.{Cookie, UsualCookie, Allow}
-use Rattle.dist_core.specs.declared.changing.ChangeError.{ChangeError}
+use Rattle.dist_core.specs.{declared.changing.Change.Change, declared.changing.ChangeError.ChangeError, Node.NodeState}
 use Rattle.dist_core.specs.declared.changing.ChangeError.TheVariants as error
-use Rattle.dist_core.specs.Node.{NodeState}
 
 -- the setup after a change
 abbrev pub setup_after : Setup → Change → Setup

@@ -1,20 +1,14 @@
 -- What the clauses of a step say: which end an event names, the replies to a loss and a tick, and what may close an end that is up.
 use Rattle.std.specs.Prelude.{◌≡◌, ℕ, true, List, Some, Ok, slice_get, Option, None, []}
-use Rattle.dist_messages.specs.Reading.{read}
-use Rattle.dist_messages.specs.declared.message.Side.TheVariants.{Dialler}
+use Rattle.dist_messages.specs.{Reading.read, declared.message.Side.TheVariants.Dialler}
 use Rattle.dist_messages.specs.declared.message.Message.TheVariants as message
 use Rattle.dist_peers.specs.declared.entry.EndId.{EndId}
-use Rattle.dist_core_ends.specs.declared.why.Why.{Why}
-use Rattle.dist_core_ends.specs.declared.known.Attempt.{Attempt}
-use Rattle.dist_core_ends.specs.declared.known.UpRecord.{UpRecord}
+use Rattle.dist_core_ends.specs.declared.{why.Why.Why, known.Attempt.Attempt, known.UpRecord.UpRecord}
 use Rattle.dist_core_ends.specs.declared.known.End.TheVariants as ends
-use Rattle.dist_core_setup.specs.Rules.{own_digest, same_bytes}
-use Rattle.dist_core_setup.specs.Saying.{tick_text}
-use Rattle.dist_core.specs.declared.event.Event.{Event}
+use Rattle.dist_core_setup.specs.{Rules.own_digest, Rules.same_bytes, Saying.tick_text}
+use Rattle.dist_core.specs.{declared.event.Event.Event, declared.reply.Reply.Reply, Node.NodeState}
 use Rattle.dist_core.specs.declared.event.Event.TheVariants as event
-use Rattle.dist_core.specs.declared.reply.Reply.{Reply}
 use Rattle.dist_core.specs.declared.reply.Note.TheVariants as note
-use Rattle.dist_core.specs.Node.{NodeState}
 
 -- the event is a reply with the digest of the own cookie and of the challenge that was sent on the end on which it came
 pub record IsRightReply (n : NodeState) (v : Event) : Type 0 where

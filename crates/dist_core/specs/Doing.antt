@@ -1,12 +1,9 @@
 -- Whether a node can do an effect as a step that counts, and the node after it. No public contract speaks of them.
 use Rattle.std.specs.Prelude.{◌≡◌, ◌≤◌, ◌+◌, length, false, Some, slice_get}
 use Rattle.dist_peers.specs.declared.entry.EndId.{EndId}
+use Rattle.dist_core_ends.specs.{declared.known.UpRecord.UpRecord, Ends.AreLegal, Ends.table_of}
 use Rattle.dist_core_ends.specs.declared.known.End.TheVariants as ends
-use Rattle.dist_core_ends.specs.declared.known.UpRecord.{UpRecord}
-use Rattle.dist_core_ends.specs.Ends.{AreLegal, table_of}
-use Rattle.dist_core.specs.declared.effect.Effect.{Effect}
-use Rattle.dist_core.specs.Fitting.{FitsNodeTable}
-use Rattle.dist_core.specs.Node.{NodeState, ends_after, is_spent, limits_of}
+use Rattle.dist_core.specs.{declared.effect.Effect.Effect, Fitting.FitsNodeTable, Node.NodeState, Node.ends_after, Node.is_spent, Node.limits_of}
 
 -- the node can have the effect, and has a step and a number left for it
 pub record CanDo (n : NodeState) (f : Effect) : Type 0 where

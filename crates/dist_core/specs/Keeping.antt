@@ -1,20 +1,12 @@
 -- Steps whose reply is kept before they are made.
 use Rattle.std.specs.Prelude.{◌≡◌, ℕ, List, Option, Some, None, IfSome, Result, Ok, Err, slice_get}
-use Rattle.dist_peers.specs.declared.entry.EndId.{EndId}
-use Rattle.dist_peers.specs.Table.{replaced_by}
-use Rattle.dist_core_ends.specs.declared.known.UpRecord.{UpRecord}
-use Rattle.dist_core_ends.specs.declared.known.End.{End}
+use Rattle.dist_peers.specs.{declared.entry.EndId.EndId, Table.replaced_by}
+use Rattle.dist_core_ends.specs.{Ends.AreLegal, Ends.entry_in, Ends.table_of, Change.Fits, Change.with_change, Progress.CanRise, Progress.replaced_end}
+use Rattle.dist_core_ends.specs.declared.known.{UpRecord.UpRecord, End.End}
 use Rattle.dist_core_ends.specs.declared.known.End.TheVariants as ends
-use Rattle.dist_core_ends.specs.Ends.{AreLegal, entry_in, table_of}
-use Rattle.dist_core_ends.specs.Change.{Fits, with_change}
-use Rattle.dist_core_ends.specs.Progress.{CanRise, replaced_end}
-use Rattle.dist_core.specs.declared.effect.Effect.{Effect}
-use Rattle.dist_core.specs.declared.reply.Reply.{Reply}
-use Rattle.dist_core.specs.declared.step_error.StepError.{StepError}
+use Rattle.dist_core.specs.{Node.NodeState, Answers.Refuses, Doing.node_with}
+use Rattle.dist_core.specs.declared.{effect.Effect.Effect, reply.Reply.Reply, step_error.StepError.StepError}
 use Rattle.dist_core.specs.declared.step_error.StepError.TheVariants as error
-use Rattle.dist_core.specs.Node.{NodeState}
-use Rattle.dist_core.specs.Answers.{Refuses}
-use Rattle.dist_core.specs.Doing.{node_with}
 
 -- what was kept is the reply of the definition, or the call refused as the definition does; a refusal changed nothing
 abbrev pub KeepsStep : {K : Type 0} → (Reply → K → Type 0) → Result K StepError → Result (Reply × NodeState) StepError → NodeState → NodeState → Type 0

@@ -1,21 +1,14 @@
 -- What becomes of an attempt, as an effect.
 use Rattle.std.specs.Prelude.{◌≡◌, ℕ, ◌+◌, List, Some, Result, Ok, Err, IsSome, slice_get}
-use Rattle.dist_peers.specs.declared.entry.EndId.{EndId}
-use Rattle.dist_peers.specs.Table.{replaced_by}
-use Rattle.dist_core_ends.specs.declared.known.Attempt.{Attempt}
-use Rattle.dist_core_ends.specs.declared.known.End.{End}
-use Rattle.dist_core_ends.specs.declared.known.End.TheVariants as ends
+use Rattle.dist_peers.specs.{declared.entry.EndId.EndId, Table.replaced_by}
 use Rattle.dist_core_ends.specs.Ends.{AreLegal, entry_in, kind_in, table_of}
+use Rattle.dist_core_ends.specs.{declared.known.Attempt.Attempt, declared.known.End.End, Progress.at_stage}
+use Rattle.dist_core_ends.specs.declared.known.End.TheVariants as ends
 use Rattle.dist_core_ends.specs.Change as change
-use Rattle.dist_core_ends.specs.Progress.{at_stage}
-use Rattle.dist_core.specs.declared.effect.Effect.{Effect}
-use Rattle.dist_core.specs.declared.progress.Progress.{Progress}
+use Rattle.dist_core.specs.{Effects.goes_on, Effects.shuts, Effects.comes_up, Answers.Refuses, Node.NodeState, Node.ends_after}
+use Rattle.dist_core.specs.declared.{effect.Effect.Effect, progress.Progress.Progress, step_error.StepError.StepError}
 use Rattle.dist_core.specs.declared.progress.Progress.TheVariants as progress
 use Rattle.dist_core.specs.declared.reply.Note.TheVariants as note
-use Rattle.dist_core.specs.declared.step_error.StepError.{StepError}
-use Rattle.dist_core.specs.Effects.{goes_on, shuts, comes_up}
-use Rattle.dist_core.specs.Answers.{Refuses}
-use Rattle.dist_core.specs.Node.{NodeState, ends_after}
 
 -- THE EFFECT: what is done to the attempt of end id, where these are the ends
 abbrev pub effect_by : List End → EndId → Attempt → Progress → Effect

@@ -2,9 +2,8 @@
 ghost use Rattle.std.specs.Prelude.{◌≡◌, List, IfOk, true, false, Ok, Err, Some, None, slice_get};
 ghost use Rattle.dist_messages.specs.Views.{message_of};
 ghost use Rattle.dist_core_ends.specs.Ends.{entry_in};
-ghost use Rattle.dist_core.specs.Effects.{superseded_end, supersedes, held_back};
-ghost use Rattle.dist_core.specs.Progress.{effect_by, HoldsOn};
 ghost use Rattle.dist_core.specs.Accepted.{in_await_true, in_await_complement, in_await_reply, name_taken, verdict_text};
+ghost use Rattle.dist_core.specs.{Effects.superseded_end, Effects.supersedes, Effects.held_back, Progress.effect_by, Progress.HoldsOn};
 
 use crate::effect::{Effect, attempt_in, goes_on, record_of, reply_phase, shuts, shuts_other};
 use crate::node::Node;

@@ -1,14 +1,9 @@
 //! The reply that a step would have, without making the step.
 ghost use Rattle.std.specs.Prelude.{◌≡◌, ◌≢◌, ℕ, ◌+◌, ◌^◌, ◌<◌, IfOk, IfErr, OnOk, Ok, Err, IsTrue, Some, None, slice_get};
 ghost use Rattle.std.specs.Option.{option_map};
-ghost use Rattle.dist_core_ends.specs.declared.known.Attempt.{Attempt};
-ghost use Rattle.dist_core_ends.specs.Ends.{entry_in};
-ghost use Rattle.dist_core.specs.Answers.{GivesReply, Refuses};
-ghost use Rattle.dist_core.specs.Clauses.{loss_reply};
-ghost use Rattle.dist_core.specs.Doing.{TakesTick};
-ghost use Rattle.dist_core.specs.Losses.{is_loss};
-ghost use Rattle.dist_core.specs.Progress.{effect_by};
+ghost use Rattle.dist_core_ends.specs.{declared.known.Attempt.Attempt, Ends.entry_in};
 ghost use Rattle.dist_core.specs.Step.{step, step_result, at_end, came_in, dial_effect, framed_from, opening_effect, sender_to, tick_effect};
+ghost use Rattle.dist_core.specs.{Answers.GivesReply, Answers.Refuses, Clauses.loss_reply, Doing.TakesTick, Losses.is_loss, Progress.effect_by};
 
 use crate::event::Event;
 use crate::finding::open_end;

@@ -1,14 +1,10 @@
 //! What a frame does to an end that awaits a name.
 ghost use Rattle.std.specs.Prelude.{◌≡◌, IfOk, true, Ok, Err, Some, None};
-ghost use Rattle.dist_messages.specs.Reading.{read};
-ghost use Rattle.dist_messages.specs.Views.{message_of};
+ghost use Rattle.dist_messages.specs.{Reading.read, Views.message_of};
 ghost use Rattle.dist_core_ends.specs.declared.known.End.{End};
-ghost use Rattle.dist_core_setup.specs.Rules.{is_good};
-ghost use Rattle.dist_core_setup.specs.Saying.{status_text};
-ghost use Rattle.dist_core.specs.Effects.{shuts, closes};
-ghost use Rattle.dist_core.specs.Accepted.{in_await_name, name_came};
-ghost use Rattle.dist_core.specs.Answers.{Gives};
-ghost use Rattle.dist_core.specs.Step.{framed_from, message_effect};
+ghost use Rattle.dist_core_setup.specs.{Rules.is_good, Saying.status_text};
+ghost use Rattle.dist_core.specs.{Effects.shuts, Effects.closes, Accepted.in_await_name, Accepted.name_came, Answers.Gives, Step.framed_from};
+ghost use Rattle.dist_core.specs.{Step.message_effect};
 
 use crate::effect::{Effect, closes, reply_phase, shuts};
 use crate::node::Node;

@@ -1,9 +1,8 @@
 //! What each message does to a dialled end.
 ghost use Rattle.std.specs.Prelude.{◌≡◌, List, IfOk, Ok, Some, None};
 ghost use Rattle.dist_peers.specs.declared.entry.EndId.{EndId};
-ghost use Rattle.dist_core_ends.specs.declared.known.End.{End};
+ghost use Rattle.dist_core_ends.specs.{declared.known.End.End, Ends.entry_in};
 ghost use Rattle.dist_messages.specs.Views.{message_of};
-ghost use Rattle.dist_core_ends.specs.Ends.{entry_in};
 ghost use Rattle.dist_core_setup.specs.Saying.{reply_text};
 ghost use Rattle.dist_core.specs.Progress.{effect_by, HoldsOn};
 ghost use Rattle.dist_core.specs.Dialled.{in_await_status, in_doomed, challenge_effect, in_await_challenge, in_await_ack};

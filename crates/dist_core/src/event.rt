@@ -1,7 +1,6 @@
 //! The events that a node gets.
 ghost use Rattle.std.specs.Prelude.{◌≡◌};
-ghost use Rattle.dist_core.specs.Clauses.{end_of};
-ghost use Rattle.dist_core.specs.Losses.{is_loss, cause_of_loss};
+ghost use Rattle.dist_core.specs.{Clauses.end_of, Losses.is_loss, Losses.cause_of_loss};
 
 use dist_core_ends::Why;
 use dist_messages::Opening;

@@ -1,15 +1,10 @@
 //! Steps whose reply is kept before they are made: so that a step that was made needs no further memory for its reply.
 ghost use Rattle.std.specs.Prelude.{◌≡◌, ◌≢◌, ℕ, ◌≤◌, ◌+◌, IfOk, IfErr, OnOk, OnErr, Err, Some, slice_get};
 ghost use Rattle.dist_messages.specs.declared.message.Side.TheVariants.{Dialler};
-ghost use Rattle.dist_core_ends.specs.declared.known.Attempt.{Attempt};
-ghost use Rattle.dist_core_ends.specs.Ends.{entry_in};
-ghost use Rattle.dist_core.specs.declared.reply.Reply.{Reply};
-ghost use Rattle.dist_core.specs.Clauses.{loss_reply};
-ghost use Rattle.dist_core.specs.Doing.{CanDo};
-ghost use Rattle.dist_core.specs.Keeping.{KeepsDone, KeepsStep, RisesWith, with_rise};
-ghost use Rattle.dist_core.specs.Node.{ends_after, limits_of};
-ghost use Rattle.dist_core.specs.Progress.{CanProgress, effect_by, node_by};
+ghost use Rattle.dist_core_ends.specs.{declared.known.Attempt.Attempt, Ends.entry_in};
 ghost use Rattle.dist_core.specs.Step.{at_end, came_in, dial_effect, framed_from, opening_effect, sender_to, step, step_result, tick_effect};
+ghost use Rattle.dist_core.specs.{declared.reply.Reply.Reply, Clauses.loss_reply, Doing.CanDo, Keeping.KeepsDone, Keeping.KeepsStep, Keeping.RisesWith};
+ghost use Rattle.dist_core.specs.{Keeping.with_rise, Node.ends_after, Node.limits_of, Progress.CanProgress, Progress.effect_by, Progress.node_by};
 
 use crate::answering::{reply_of_end, reply_of_rise};
 use crate::effect::Effect;

@@ -2,19 +2,15 @@
 ghost use Rattle.std.specs.Prelude.{◌≡◌, ◌≢◌, ℕ, ◌≤◌, ◌<◌, ◌+◌, ◌^◌, ◌||◌, [], length, option_copied, slice_get, count_by};
 ghost use Rattle.std.specs.Prelude.{IfOk, IfErr, IsTrue, IsOk, OnOk, OnErr, true, false, Ok, Err, Some, None};
 ghost use Rattle.std.specs.Option.{option_map};
-ghost use Rattle.dist_peers.specs.Table.{up_behind};
 ghost use Rattle.std.specs.FinMap as map;
+ghost use Rattle.dist_peers.specs.Table.{up_behind};
 ghost use Rattle.dist_core_ends.specs.Ends.{AreLegal, Finds, FindsUp, entry_in, table_of, is_open, is_dialing};
 ghost use Rattle.dist_core_ends.specs.Ends.{oldest_pending, oldest_unnamed, record_in, up_from, up_pair, up_ids, still_of, awaited_of};
 ghost use Rattle.dist_core_ends.specs.Forgetting.{without_causes_below};
 ghost use Rattle.dist_core.specs.Node.{NodeState, ends_after, is_crowded, is_full_for, is_given_out, is_spent, limits_of, new_id};
 ghost use Rattle.dist_core.specs.Clauses.{ClosesOnReply, end_of, loss_reply, silent_reply, tick_reply};
-ghost use Rattle.dist_core.specs.Doing.{TakesTick};
-ghost use Rattle.dist_core.specs.Losses.{IsGone, IsSilent, is_loss};
-ghost use Rattle.dist_core.specs.Fitting.{FitsNodeTable};
-ghost use Rattle.dist_core.specs.Accepted.{verdict_in};
-ghost use Rattle.dist_core.specs.Step.{effect_of, step, at_end, tick_effect};
-ghost use Rattle.dist_core.specs.Answers.{IsStep, GivesReply, Refuses};
+ghost use Rattle.dist_core.specs.{Doing.TakesTick, Losses.IsGone, Losses.IsSilent, Losses.is_loss, Fitting.FitsNodeTable, Accepted.verdict_in};
+ghost use Rattle.dist_core.specs.{Step.effect_of, Step.step, Step.at_end, Step.tick_effect, Answers.IsStep, Answers.GivesReply, Answers.Refuses};
 
 use crate::event::Event;
 use crate::finding::open_end;

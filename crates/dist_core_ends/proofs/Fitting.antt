@@ -5,11 +5,11 @@ use Rattle.dist_core_ends.proofs.Words.{Name, same_name, itself_lem, one_lem, Ta
 use Rattle.dist_core_ends.proofs.Words.{AsksRaise, AsksShift, IsThere, OtherStaysClosed, StaysClosed, claim_at, put_end, table_after_rise, table_after_shift}
 use Rattle.dist_core_ends.proofs.Words.{view_after, Agree, Claim, claim_of, holds_at, is_claim, is_held, is_open, is_pending, is_unnamed, kind_in, names}
 use Rattle.dist_core_ends.proofs.Words.{same_kind, End, Kind, In, Out, Up, Phase, Why}
+use Rattle.dist_core_ends.proofs.Changes.{Agrees, get-put, get-after, changes-one, changes-two, stays, claimless}
 use Rattle.std.specs.FinMap as map
 use Rattle.dist_peers.specs.declared.entry.Entry.TheVariants as entry
 use Rattle.dist_core_ends.specs.declared.known.End.TheVariants as ends
 use Rattle.dist_core_ends.specs.declared.phase.Phase.TheVariants as phase
-use Rattle.dist_core_ends.proofs.Changes.{Agrees, get-put, get-after, changes-one, changes-two, stays, claimless}
 
 -- an end that holds a peer exists
 pub there : (es : List End) (p : Name) (k : Kind) (i : ℕ) → holds_at es p k i ≡ true → i < length es

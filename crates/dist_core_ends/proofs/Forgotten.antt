@@ -2,10 +2,10 @@
 use Rattle.dist_core_ends.proofs.Words.{◌≡◌, ℕ, zero, suc, ◌+◌, true, List, [], ◌∷◌, length, slice_get, Some, count_by, Option, sym, refl, ap, ◌∙◌, Name, Table}
 use Rattle.dist_core_ends.proofs.Words.{one_if, Agree, holds, is_held, is_open, without_cause, without_causes_below, AreKept, Slots, end_of_row, ends_of_rows}
 use Rattle.dist_core_ends.proofs.Words.{found_end, rows_forgotten, without_row_cause, End, Kind, EndPlace}
+use Rattle.dist_core_ends.proofs.Opens.{count-cons}
 use Rattle.std.specs.FinMap as entries
 use Rattle.dist_core_ends.specs.declared.known.End.TheVariants as ends
 use Rattle.dist_core_ends.specs.declared.slots.EndPlace.TheVariants as row
-use Rattle.dist_core_ends.proofs.Opens.{count-cons}
 
 -- ---- what an end still is once its cause is forgotten
 

@@ -3,10 +3,10 @@ use Rattle.dist_core_ends.proofs.Words.{◌≡◌, ℕ, zero, suc, ◌+◌, ◌<
 use Rattle.dist_core_ends.proofs.Words.{slice_get, Some, None, count_by, Option, sym, refl, ap, ◌∙◌, subst, inl, inr, arith, cases_eq, eqb-false, nat_tests}
 use Rattle.dist_core_ends.proofs.Words.{slice_get_within, StaysClosed, one_if, put_end, is_open, AreKept, GivesRow, IsFull, Puts, RoomyEnds, Slots, end_of_row}
 use Rattle.dist_core_ends.proofs.Words.{ends_of_rows, found_end, in_slot, Attempt, End, EndPlace, Why}
+use Rattle.dist_core_ends.proofs.{Changes.get-set, Opens.count-set, Opens.count-push}
 use Rattle.slab.specs.Slab.{Slab, ContainsKey}
 use Rattle.dist_core_ends.specs.declared.known.End.TheVariants as ends
 use Rattle.dist_core_ends.specs.declared.slots.EndPlace.TheVariants as row
-use Rattle.dist_core_ends.proofs.{Changes.get-set, Opens.count-set, Opens.count-push}
 
 -- ---- the ends that rows show
 

@@ -1,7 +1,7 @@
 -- The ends that hold a peer are those that make an entry.
 use Rattle.dist_core_ends.proofs.Words.{List, [], Option, sym, refl, ap, ◌∙◌, Name, Entry, Agree, AreLegal, names, table_of, End}
-use Rattle.std.specs.FinMap as map
 use Rattle.dist_core_ends.proofs.{Agreement.entry-agreed, Tables.get-table, Tables.agree-empty}
+use Rattle.std.specs.FinMap as map
 
 -- ends with which entries agree are legal
 pub legal : (t : Name → Option Entry) (es : List End) → Agree t es → AreLegal es

@@ -3,12 +3,12 @@ use Rattle.dist_core_ends.proofs.Words.{◌≡◌, ℕ, true, List, [], set, IsS
 use Rattle.dist_core_ends.proofs.Words.{false≢true, slice_get_within, Name, Table, entry_of, is_waiting, replaced_by, EndId, Entry, Fits, AsksShift, HasEntry}
 use Rattle.dist_core_ends.proofs.Words.{claim_at, put_end, table_after_shift, Agree, AreLegal, Claim, claim_of, entry_in, kind_in, names, same_kind, table_of}
 use Rattle.dist_core_ends.proofs.Words.{CanRise, at_stage, replaced_end, Attempt, End, Stage, UpRecord, Kind, In, Out, Up, Phase}
+use Rattle.dist_core_ends.proofs.{Agreement.entry-agreed, Keeping.put-within, Legal.legal, Tables.table-agreed}
+use Rattle.dist_core_ends.proofs.Fitting.{claims, named-at, own-claim, same-shift, stays-open, fit-keeps}
 use Rattle.std.specs.FinMap as map
 use Rattle.dist_peers.specs.declared.entry.Entry.TheVariants as entry
 use Rattle.dist_core_ends.specs.declared.known.End.TheVariants as ends
 use Rattle.dist_core_ends.specs.declared.phase.Phase.TheVariants as phase
-use Rattle.dist_core_ends.proofs.{Agreement.entry-agreed, Keeping.put-within, Legal.legal, Tables.table-agreed}
-use Rattle.dist_core_ends.proofs.Fitting.{claims, named-at, own-claim, same-shift, stays-open, fit-keeps}
 
 -- an end took the place of another
 pub put-there : (es new : List End) (i : ℕ) (d e : End) → slice_get es i ≡ Some d → new ≡ set es i e → new ≡ put_end es i e

@@ -4,10 +4,10 @@ use Rattle.dist_core_ends.proofs.Words.{◌≡◌, ℕ, zero, suc, ◌<◌, ◌�
 use Rattle.dist_core_ends.proofs.Words.{ap, ◌∙◌, subst, arith, length-set, eqb-true, false≢true, slice_get-get_or, Name, Table, EndId, Fits, IsThere}
 use Rattle.dist_core_ends.proofs.Words.{OtherStaysClosed, StaysClosed, put_end, table_after, with_change, is_pending, is_unnamed, without_cause}
 use Rattle.dist_core_ends.proofs.Words.{without_causes_below, AreSettled, IsPast, KeepsEnds, finds_sought, is_sought, End, Sought}
-use Rattle.dist_core_ends.specs.declared.known.End.TheVariants as ends
-use Rattle.dist_core_ends.specs.declared.slots.Sought.TheVariants as sought
 use Rattle.dist_core_ends.proofs.{Changes.get-put, Changes.length-put, Fitting.named-settled, Forgotten.forgotten-length, Forgotten.agree-forgotten}
 use Rattle.dist_core_ends.proofs.Keeping.{put-within}
+use Rattle.dist_core_ends.specs.declared.known.End.TheVariants as ends
+use Rattle.dist_core_ends.specs.declared.slots.Sought.TheVariants as sought
 
 still-settled : (k : Sought) (d e : End) → is_sought k d ≡ false → StaysClosed (Some d) e → is_sought k e ≡ false
 still-settled sought.Pending (ends.Up r) e h s = s

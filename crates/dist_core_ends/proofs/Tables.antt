@@ -3,8 +3,8 @@ use Rattle.dist_core_ends.proofs.Words.{and-false, ◌≡◌, ℕ, zero, suc, Bo
 use Rattle.dist_core_ends.proofs.Words.{option_map, filter_map, sym, refl, ap, ◌∙◌, or_parts, get-empty, get-from_entries, same_map, find, cons_option, Name}
 use Rattle.dist_core_ends.proofs.Words.{name_cmp, same_name, one_lem, Table, Entry, exact, order, Agree, Claim, claim_of, entry_from, entry_in, first_of, holds}
 use Rattle.dist_core_ends.proofs.Words.{holds_at, is_claim, names, row_in, same_kind, table_of, End, Kind, In, Out, Up}
-use Rattle.std.specs.FinMap as map
 use Rattle.dist_core_ends.proofs.Agreement.{none-first, no-names, passes, entry-agreed}
+use Rattle.std.specs.FinMap as map
 
 abbrev pub is_of : Name → Option Claim → Bool
 is_of q None = false

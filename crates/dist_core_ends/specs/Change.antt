@@ -3,15 +3,12 @@ use Rattle.std.specs.Prelude.{◌≡◌, ℕ, ◌==◌, Bool, ◌<◌, ◌≤◌
 use Rattle.std.specs.Prelude.{List, [], ◌∷◌, ◌++◌, length, Option, Some, None, IsSome, slice_get, slice_set}
 use Rattle.std.specs.FinMap as map
 use Rattle.dist_names.specs.Order.{Name, same_name}
-use Rattle.dist_peers.specs.declared.entry.EndId.{EndId}
-use Rattle.dist_peers.specs.declared.entry.Entry.TheVariants as entry
 use Rattle.dist_peers.specs.Table.{Table, entry_of, with_entry, left_by, is_waiting}
-use Rattle.dist_peers.specs.Verdicts.{ruling, is_greater}
-use Rattle.dist_core_ends.specs.declared.phase.Kind.{Kind}
-use Rattle.dist_core_ends.specs.declared.phase.Kind.TheVariants.{Out, In, Up}
-use Rattle.dist_core_ends.specs.declared.known.End.{End}
-use Rattle.dist_core_ends.specs.declared.known.End.TheVariants as ends
+use Rattle.dist_peers.specs.{declared.entry.EndId.EndId, Verdicts.ruling, Verdicts.is_greater}
+use Rattle.dist_peers.specs.declared.entry.Entry.TheVariants as entry
 use Rattle.dist_core_ends.specs.Ends.{Claim, claim_of, is_pending, is_unnamed, Agree}
+use Rattle.dist_core_ends.specs.declared.{phase.Kind.Kind, phase.Kind.TheVariants.Out, phase.Kind.TheVariants.In, phase.Kind.TheVariants.Up, known.End.End}
+use Rattle.dist_core_ends.specs.declared.known.End.TheVariants as ends
 
 -- the ends with this one at place i, which may be the place after the last
 abbrev pub put_end : List End → ℕ → End → List End

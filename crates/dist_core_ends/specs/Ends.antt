@@ -1,29 +1,18 @@
 -- The ends of a node, and the entries that they make.
 use Rattle.std.specs.Prelude.{◌≡◌, ℕ, suc, ◌==◌, Bool, true, false, ◌&&◌, if◌then◌else◌, List, [], ◌∷◌, Option, Some, None, Result, Ok, Err, slice_get}
-use Rattle.std.specs.Borrow.{Bor}
-use Rattle.std.specs.Option.{option_map}
-use Rattle.std.specs.List.{filter_map}
+use Rattle.std.specs.{Borrow.Bor, Option.option_map, List.filter_map}
 use Rattle.std.specs.FinMap as map
 use Rattle.dist_names.specs.Order.{Name, same_name}
-use Rattle.dist_peers.specs.declared.entry.EndId.{EndId}
-use Rattle.dist_peers.specs.Table.{Table}
-pub use Rattle.dist_peers.specs.Table.{up_id, up_ids}
-use Rattle.dist_peers.specs.declared.entry.Entry.{Entry}
-use Rattle.dist_peers.specs.declared.entry.Entry.TheVariants as entry
-use Rattle.dist_peers.specs.declared.entry.Verdict.{Verdict}
 use Rattle.dist_peers.specs.Verdicts.{ruling, is_greater}
-use Rattle.dist_core_ends.specs.declared.phase.Absent.{Absent}
+use Rattle.dist_peers.specs.{declared.entry.EndId.EndId, Table.Table, declared.entry.Entry.Entry, declared.entry.Verdict.Verdict}
+use Rattle.dist_peers.specs.declared.entry.Entry.TheVariants as entry
+pub use Rattle.dist_peers.specs.Table.{up_id, up_ids}
+use Rattle.dist_core_ends.specs.declared.{phase.Absent.Absent, phase.Still.Still, phase.Awaited.Awaited, phase.Kind.Kind, phase.Kind.TheVariants.Out}
+use Rattle.dist_core_ends.specs.declared.{phase.Kind.TheVariants.In, phase.Kind.TheVariants.Up, phase.Phase.Phase, known.UpRecord.UpRecord, known.End.End}
 use Rattle.dist_core_ends.specs.declared.phase.Absent.TheVariants as absent
-use Rattle.dist_core_ends.specs.declared.phase.Still.{Still}
 use Rattle.dist_core_ends.specs.declared.phase.Still.TheVariants as still
-use Rattle.dist_core_ends.specs.declared.phase.Awaited.{Awaited}
 use Rattle.dist_core_ends.specs.declared.phase.Awaited.TheVariants as awaited
-use Rattle.dist_core_ends.specs.declared.phase.Kind.{Kind}
-use Rattle.dist_core_ends.specs.declared.phase.Kind.TheVariants.{Out, In, Up}
-use Rattle.dist_core_ends.specs.declared.phase.Phase.{Phase}
 use Rattle.dist_core_ends.specs.declared.phase.Phase.TheVariants as phase
-use Rattle.dist_core_ends.specs.declared.known.UpRecord.{UpRecord}
-use Rattle.dist_core_ends.specs.declared.known.End.{End}
 use Rattle.dist_core_ends.specs.declared.known.End.TheVariants as ends
 
 -- an attempt holds its peer as dialled or as accepted, unless it is doomed

@@ -4,14 +4,12 @@ use Rattle.std.specs.Prelude.{is_some, slice_get, slice_index_or, count_by}
 use Rattle.std.specs.FinMap as map
 use Rattle.slab.specs.Slab.{Slab, slab_len}
 use Rattle.dist_peers.specs.Table.{Table}
-use Rattle.dist_core_ends.specs.declared.why.Why.TheVariants as why
-use Rattle.dist_core_ends.specs.declared.known.End.{End}
-use Rattle.dist_core_ends.specs.declared.known.End.TheVariants as ends
-use Rattle.dist_core_ends.specs.declared.slots.EndPlace.{EndPlace}
-use Rattle.dist_core_ends.specs.declared.slots.EndPlace.TheVariants as row
-use Rattle.dist_core_ends.specs.declared.slots.Sought.{Sought}
-use Rattle.dist_core_ends.specs.declared.slots.Sought.TheVariants as sought
 use Rattle.dist_core_ends.specs.Ends.{is_open, is_pending, is_unnamed, Agree}
+use Rattle.dist_core_ends.specs.declared.{known.End.End, slots.EndPlace.EndPlace, slots.Sought.Sought}
+use Rattle.dist_core_ends.specs.declared.why.Why.TheVariants as why
+use Rattle.dist_core_ends.specs.declared.known.End.TheVariants as ends
+use Rattle.dist_core_ends.specs.declared.slots.EndPlace.TheVariants as row
+use Rattle.dist_core_ends.specs.declared.slots.Sought.TheVariants as sought
 
 -- all ends, by their numbers, and how many more fit without taking memory
 pub record RoomyEnds : Type 0 where

@@ -1,14 +1,10 @@
 -- An attempt that goes on in its place.
-use Rattle.std.specs.Prelude.{◌≡◌, Option, Some, IsSome}
-use Rattle.std.specs.Option.{option_map}
+use Rattle.std.specs.{Prelude.◌≡◌, Prelude.Option, Prelude.Some, Prelude.IsSome, Option.option_map}
 use Rattle.dist_names.specs.Order.{Name}
 use Rattle.dist_peers.specs.declared.entry.EndId.{EndId}
+use Rattle.dist_core_ends.specs.{declared.known.Attempt.Attempt, declared.known.Stage.Stage, declared.known.End.End, Ends.kind_in}
 use Rattle.dist_core_ends.specs.declared.why.Why.TheVariants as why
-use Rattle.dist_core_ends.specs.declared.known.Attempt.{Attempt}
-use Rattle.dist_core_ends.specs.declared.known.Stage.{Stage}
-use Rattle.dist_core_ends.specs.declared.known.End.{End}
 use Rattle.dist_core_ends.specs.declared.known.End.TheVariants as ends
-use Rattle.dist_core_ends.specs.Ends.{kind_in}
 
 -- the stage that an attempt has reached
 abbrev pub stage_of : Attempt → Stage

@@ -3,13 +3,11 @@ ghost use Rattle.std.specs.Prelude.{◌≡◌, ℕ, ◌<◌, ◌^◌, [], length
 ghost use Rattle.std.specs.Option.{option_map, option_and_then};
 ghost use Rattle.std.specs.FinMap as map;
 ghost use Rattle.dist_names.specs.Order.{Name};
-ghost use Rattle.dist_peers.specs.Table.{entry_of, replaced_by, up_behind};
-ghost use Rattle.dist_peers.specs.Verdicts.{is_full};
-ghost use Rattle.dist_core_ends.specs.Ends.{AreLegal, FindsUp, Finds, entry_in, table_of, is_open, is_dialing, claim_of, end_id};
-ghost use Rattle.dist_core_ends.specs.Ends.{record_in, up_from, up_pair, up_id, up_ids, oldest_pending, oldest_unnamed, still_of, awaited_of, verdict_of};
-ghost use Rattle.dist_core_ends.specs.Change.{Fits, StaysClosed, with_change};
-ghost use Rattle.dist_core_ends.specs.Forgetting.{without_causes_below};
+ghost use Rattle.dist_peers.specs.{Table.entry_of, Table.replaced_by, Table.up_behind, Verdicts.is_full};
+ghost use Rattle.dist_core_ends.specs.Ends.{AreLegal, FindsUp, Finds, entry_in, table_of, is_open, is_dialing, claim_of, end_id, record_in, up_from};
+ghost use Rattle.dist_core_ends.specs.Ends.{up_pair, up_id, up_ids, oldest_pending, oldest_unnamed, still_of, awaited_of, verdict_of};
 ghost use Rattle.dist_core_ends.specs.Progress.{at_stage, replaced_end, CanAdvance, CanRise};
+ghost use Rattle.dist_core_ends.specs.{Change.Fits, Change.StaysClosed, Change.with_change, Forgetting.without_causes_below};
 
 use crate::known::{Attempt, End, Stage, UpRecord};
 use crate::phase::{Absent, Awaited, Phase, Still};

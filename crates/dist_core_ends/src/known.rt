@@ -1,7 +1,6 @@
 //! What a node keeps of an end.
 ghost use Rattle.std.specs.Prelude.{◌≡◌, ◌↔◌, IsTrue, IfOk};
-ghost use Rattle.dist_core_ends.specs.declared.known.Attempt.{Attempt};
-ghost use Rattle.dist_core_ends.specs.Progress.{at_stage, stage_of};
+ghost use Rattle.dist_core_ends.specs.{declared.known.Attempt.Attempt, Progress.at_stage, Progress.stage_of};
 
 use crate::phase::Phase;
 use crate::why::Why;

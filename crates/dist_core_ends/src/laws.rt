@@ -1,9 +1,7 @@
 //! Laws of the lists of ends: each is a function that does nothing, and whose contract is the law.
 ghost use Rattle.std.specs.Prelude.{◌≡◌, ◌≤◌, ℕ, List, [], Option, length, slice_get};
 ghost use Rattle.dist_peers.specs.declared.entry.EndId.{EndId};
-ghost use Rattle.dist_core_ends.specs.declared.known.End.{End};
-ghost use Rattle.dist_core_ends.specs.Ends.{AreLegal};
-ghost use Rattle.dist_core_ends.specs.Change.{IsThere, with_change, view_after};
+ghost use Rattle.dist_core_ends.specs.{declared.known.End.End, Ends.AreLegal, Change.IsThere, Change.with_change, Change.view_after};
 
 /// After a change of one end (or of a new one behind the last), and perhaps of one other: these are changed, all else stays.
 pub fn ends_after_a_change()

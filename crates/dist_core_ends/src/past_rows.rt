@@ -1,9 +1,8 @@
 //! The rows of the ends that were given out long ago: one byte for each end that is not forgotten, and beside the bytes the rows
 //! of the open ends.
 ghost use Rattle.std.specs.Prelude.{◌≡◌, ◌<◌, ◌≤◌, ◌+◌, ◌^◌, ◌++◌, ◌∷◌, [], ℕ, length, drop, nat_eq, slice_get, slice_set, Some, None, OnOk};
-ghost use Rattle.dist_core_ends.specs.Keeping.{rows_forgotten};
 ghost use Rattle.std.specs.HashMap.{get};
-ghost use Rattle.dist_core_ends.specs.Places.{IsSlot, all_causes, kept_row};
+ghost use Rattle.dist_core_ends.specs.{Keeping.rows_forgotten, Places.IsSlot, Places.all_causes, Places.kept_row};
 
 use crate::slots::EndPlace;
 use crate::why::Why;

@@ -1,7 +1,6 @@
 //! Where each end is, by its number.
 ghost use Rattle.std.specs.Prelude.{◌≡◌, ◌<◌, ◌≤◌, ◌+◌, ◌^◌, ◌++◌, ◌∷◌, [], length, slice_get, slice_set, Some, OnOk, vec_capacity};
-ghost use Rattle.dist_core_ends.specs.Keeping.{rows_forgotten, without_row_cause};
-ghost use Rattle.dist_core_ends.specs.Places.{IsSlot};
+ghost use Rattle.dist_core_ends.specs.{Keeping.rows_forgotten, Keeping.without_row_cause, Places.IsSlot};
 
 use crate::past_rows::PastRows;
 use crate::slots::EndPlace;

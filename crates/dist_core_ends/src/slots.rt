@@ -4,10 +4,9 @@ ghost use Rattle.std.specs.Option.{option_map};
 ghost use Rattle.slab.specs.Slab.{ContainsKey, HasRoomFor};
 ghost use Rattle.dist_core_ends.specs.Ends.{is_open, Finds, end_id, first_of};
 ghost use Rattle.dist_core_ends.specs.Change.{put_end, with_change, claim_at, StaysClosed, OtherStaysClosed, IsThere};
-ghost use Rattle.dist_core_ends.specs.Forgetting.{without_causes_below};
 ghost use Rattle.dist_core_ends.specs.Keeping.{in_slot, Refills, Empties, GivesRow, IsPast, is_sought, finds_sought};
-ghost use Rattle.dist_core_ends.specs.declared.known.Attempt.{Attempt};
 ghost use Rattle.dist_core_ends.specs.Progress.{at_stage, replaced_end, IsAttempt, IsAttemptWith};
+ghost use Rattle.dist_core_ends.specs.{Forgetting.without_causes_below, declared.known.Attempt.Attempt};
 
 use crate::known::{End, Stage, UpRecord};
 use crate::phase::Absent;

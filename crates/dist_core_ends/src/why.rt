@@ -1,8 +1,6 @@
 //! Why an end is closed.
-ghost use Rattle.std.specs.Prelude.{◌≡◌, IfSome, Some};
-ghost use Rattle.dist_core_ends.specs.declared.why.Why.{Why};
-ghost use Rattle.std.specs.List.{find};
-ghost use Rattle.dist_core_ends.specs.Words.{why_word, has_word};
+ghost use Rattle.std.specs.{Prelude.◌≡◌, Prelude.IfSome, Prelude.Some, List.find};
+ghost use Rattle.dist_core_ends.specs.{declared.why.Why.Why, Words.why_word, Words.has_word};
 
 use std::error::Error;
 use std::fmt;

@@ -1,9 +1,8 @@
 -- The ends that hold a peer are always exactly those that its entry names.
 use Rattle.std.specs.FinMap as map
 use Rattle.dist_core.specs.declared.event.Event.{Event}
-use Rattle.dist_core.proofs.Steps.{fits}
-use Rattle.dist_core.proofs.Words.{legal, none-legal, table-legal, ℕ, List, AreLegal, table_of, Setup, table_after_effect, NodeState, ends_after, node_after}
-use Rattle.dist_core.proofs.Words.{opening, run, step}
+use Rattle.dist_core.proofs.{Steps.fits, Words.legal, Words.none-legal, Words.table-legal, Words.ℕ, Words.List, Words.AreLegal, Words.table_of, Words.Setup}
+use Rattle.dist_core.proofs.{Words.table_after_effect, Words.NodeState, Words.ends_after, Words.node_after, Words.opening, Words.run, Words.step}
 use Rattle.dist_core_laws.proofs.Constant.{after-run, after-step}
 
 pub legal_step : (n : NodeState) (v : Event) (fresh : ℕ) → AreLegal n.ends → AreLegal (node_after n (step n v fresh)).ends

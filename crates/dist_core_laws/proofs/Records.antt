@@ -4,8 +4,7 @@ use Rattle.std.specs.FinMap as map
 use Rattle.dist_peers.specs.declared.entry.Entry.TheVariants as entry
 use Rattle.dist_core_ends.specs.declared.known.End.TheVariants as ends
 use Rattle.dist_core_ends.specs.declared.phase.Phase.TheVariants as phase
-use Rattle.dist_core_ends.proofs.Forgotten.{agree-forgotten}
-use Rattle.dist_core_ends.proofs.Words.{is_some, ◌==◌, find, itself_lem, one_lem}
+use Rattle.dist_core_ends.proofs.{Forgotten.agree-forgotten, Words.is_some, Words.◌==◌, Words.find, Words.itself_lem, Words.one_lem}
 use Rattle.dist_core_setup.specs.Changing.{DigestsStay, has_own_cookie, with_own_cookie}
 use Rattle.dist_core_setup.proofs.Keys.{others-stay, same-stays, owners-stay, all-stay}
 use Rattle.dist_core.specs.declared.changing.{Change.Change, Change.TheVariants.Allow, Change.TheVariants.Cookie, Change.TheVariants.UsualCookie}

@@ -1,13 +1,9 @@
 -- Nodes that differ only in why their closed ends were closed.
 use Rattle.std.specs.Prelude.{◌≡◌, map, List, [], ◌∷◌, Result, Ok, Err}
-use Rattle.dist_core_ends.specs.declared.why.Why.{Why}
-use Rattle.dist_core_ends.specs.Forgetting.{without_cause}
-use Rattle.dist_core.specs.declared.reply.Reply.{Reply}
-use Rattle.dist_core.specs.declared.step_error.StepError.{StepError}
+use Rattle.dist_core_ends.specs.{declared.why.Why.Why, Forgetting.without_cause}
+use Rattle.dist_core.specs.{declared.reply.Reply.Reply, declared.step_error.StepError.StepError, Acts.Act, Node.NodeState}
 use Rattle.dist_core.specs.declared.step_error.StepError.TheVariants as error
-use Rattle.dist_core.specs.Acts.{Act}
 use Rattle.dist_core.specs.Acts as acts
-use Rattle.dist_core.specs.Node.{NodeState}
 
 -- THE TWO NODES ARE ALIKE: they have the same setup and made as many steps, and their ends are the same, except for why the closed
 -- ones were closed

@@ -1,36 +1,20 @@
 -- What the laws of a step say.
 use Rattle.std.specs.Prelude.{◌≡◌, ◌≢◌, ◌≤◌, ℕ, Bool, true, false, List, [], Option, Some, None, Ok, count_by, length, slice_get}
 use Rattle.std.specs.FinMap as map
-use Rattle.dist_names.specs.Order.{Name}
-use Rattle.dist_names.specs.declared.flags.Flags.{Flags}
-use Rattle.dist_names.specs.declared.creation.Creation.{Creation}
-use Rattle.dist_messages.specs.Reading.{read}
-use Rattle.dist_messages.specs.declared.message.Side.TheVariants.{Acceptor}
-use Rattle.dist_messages.specs.declared.message.Message.{Message}
-use Rattle.dist_messages.specs.declared.form.Form.{Form}
+use Rattle.dist_names.specs.{Order.Name, declared.flags.Flags.Flags, declared.creation.Creation.Creation}
+use Rattle.dist_messages.specs.{Reading.read, declared.message.Side.TheVariants.Acceptor, declared.message.Message.Message, declared.form.Form.Form}
 use Rattle.dist_peers.specs.declared.entry.EndId.{EndId}
 use Rattle.dist_peers.specs.declared.entry.Entry.TheVariants as entry
-use Rattle.dist_core_ends.specs.declared.phase.Kind.{Kind}
-use Rattle.dist_core_ends.specs.declared.phase.Phase.{Phase}
-use Rattle.dist_core_ends.specs.declared.phase.Phase.TheVariants as phase
-use Rattle.dist_core_ends.specs.declared.why.Why.{Why}
-use Rattle.dist_core_ends.specs.declared.why.Why.TheVariants as why
-use Rattle.dist_core_ends.specs.declared.known.Attempt.{Attempt}
-use Rattle.dist_core_ends.specs.declared.known.UpRecord.{UpRecord}
-use Rattle.dist_core_ends.specs.declared.known.End.{End}
-use Rattle.dist_core_ends.specs.declared.known.End.TheVariants as ends
 use Rattle.dist_core_ends.specs.Ends.{entry_in, holds, is_open, table_of}
-use Rattle.dist_core_setup.specs.declared.setup.Setup.{Setup}
-use Rattle.dist_core_setup.specs.Rules.{own_digest, same_bytes}
-use Rattle.dist_core.specs.declared.event.Event.{Event}
+use Rattle.dist_core_ends.specs.declared.{phase.Kind.Kind, phase.Phase.Phase, why.Why.Why, known.Attempt.Attempt, known.UpRecord.UpRecord, known.End.End}
+use Rattle.dist_core_ends.specs.declared.phase.Phase.TheVariants as phase
+use Rattle.dist_core_ends.specs.declared.why.Why.TheVariants as why
+use Rattle.dist_core_ends.specs.declared.known.End.TheVariants as ends
+use Rattle.dist_core_setup.specs.{declared.setup.Setup.Setup, Rules.own_digest, Rules.same_bytes}
+use Rattle.dist_core.specs.{declared.event.Event.Event, declared.reply.Reply.Reply, declared.effect.Effect.Effect, Node.NodeState, Node.limits_of}
+use Rattle.dist_core.specs.{Node.new_id, Effects.dooms_other, Effects.shuts_other, Rows.IsChallenge, Step.effect_of, Step.after}
 use Rattle.dist_core.specs.declared.event.Event.TheVariants as event
-use Rattle.dist_core.specs.declared.reply.Reply.{Reply}
 use Rattle.dist_core.specs.declared.reply.Note.TheVariants as note
-use Rattle.dist_core.specs.declared.effect.Effect.{Effect}
-use Rattle.dist_core.specs.Node.{NodeState, limits_of, new_id}
-use Rattle.dist_core.specs.Effects.{dooms_other, shuts_other}
-use Rattle.dist_core.specs.Rows.{IsChallenge}
-use Rattle.dist_core.specs.Step.{effect_of, after}
 
 -- an open end of the node that holds a peer, and is not this one
 pub record IsOther (n : NodeState) (id x : EndId) : Type 0 where

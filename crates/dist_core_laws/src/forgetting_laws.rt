@@ -1,11 +1,7 @@
 //! Laws of what a node may forget: each is a function that does nothing, and whose contract is the law.
 ghost use Rattle.std.specs.Prelude.{ℕ, List};
 ghost use Rattle.dist_core_ends.specs.Forgetting.{without_causes_below};
-ghost use Rattle.dist_core.specs.declared.event.Event.{Event};
-ghost use Rattle.dist_core.specs.Acts.{Act, run_acts};
-ghost use Rattle.dist_core.specs.Node.{NodeState};
-ghost use Rattle.dist_core.specs.Runs.{run};
-ghost use Rattle.dist_core.specs.Step.{step};
+ghost use Rattle.dist_core.specs.{declared.event.Event.Event, Acts.Act, Acts.run_acts, Node.NodeState, Runs.run, Step.step};
 ghost use Rattle.dist_core_laws.specs.Forgetting.{AreAlike, AreAlikeAnswers, without_forgetting};
 
 /// Why ends were closed changes no step: nodes that differ only in that give the same reply to each event, or refuse it in the

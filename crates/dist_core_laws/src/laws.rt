@@ -1,26 +1,17 @@
 //! Laws of one step, and of all runs of a node.
 ghost use Rattle.std.specs.Prelude.{◌≡◌, ◌+◌, ◌⊎◌, ℕ, List, true, Ok, Some, None, count_by, slice_get};
 ghost use Rattle.dist_peers.specs.declared.entry.EndId.{EndId};
-ghost use Rattle.dist_core_setup.specs.declared.setup.Setup.{Setup};
-ghost use Rattle.dist_core.specs.declared.event.Event.{Event};
-ghost use Rattle.dist_core.specs.declared.event.Event.TheVariants as event;
-ghost use Rattle.dist_core.specs.declared.effect.Effect.{Effect};
-ghost use Rattle.dist_core_ends.specs.declared.known.End.{End};
-ghost use Rattle.dist_core_ends.specs.declared.known.UpRecord.{UpRecord};
-ghost use Rattle.dist_core_ends.specs.declared.known.End.TheVariants as ends;
-ghost use Rattle.dist_core_ends.specs.declared.why.Why.{Why};
-ghost use Rattle.dist_core_ends.specs.Ends.{AreLegal, entry_in, is_open};
 ghost use Rattle.dist_peers.specs.declared.entry.Entry.TheVariants as entry;
-ghost use Rattle.dist_core_ends.specs.declared.known.Attempt.{Attempt};
-ghost use Rattle.dist_core.specs.declared.reply.Reply.{Reply};
-ghost use Rattle.dist_core.specs.declared.reply.Note.TheVariants as note;
-ghost use Rattle.dist_core.specs.Effects.{superseded_end, supersedes};
-ghost use Rattle.dist_core_laws.specs.Laws.{IsDialledChallenge, IsOther, IsRightRecord, Supersedes, is_doomed, given_by, closed_by};
-ghost use Rattle.dist_core.specs.Node.{NodeState, ends_after};
-ghost use Rattle.dist_core_ends.specs.Change.{put_end};
-ghost use Rattle.dist_core.specs.Rows.{StepRow};
+ghost use Rattle.dist_core_setup.specs.declared.setup.Setup.{Setup};
 ghost use Rattle.dist_core.specs.Runs.{run, node_after, opening};
-ghost use Rattle.dist_core.specs.Step.{effect_of, step};
+ghost use Rattle.dist_core.specs.{Effects.superseded_end, Effects.supersedes, Node.NodeState, Node.ends_after, Rows.StepRow, Step.effect_of, Step.step};
+ghost use Rattle.dist_core.specs.declared.{event.Event.Event, effect.Effect.Effect, reply.Reply.Reply};
+ghost use Rattle.dist_core.specs.declared.event.Event.TheVariants as event;
+ghost use Rattle.dist_core.specs.declared.reply.Note.TheVariants as note;
+ghost use Rattle.dist_core_ends.specs.{Ends.AreLegal, Ends.entry_in, Ends.is_open, Change.put_end};
+ghost use Rattle.dist_core_ends.specs.declared.{known.End.End, known.UpRecord.UpRecord, why.Why.Why, known.Attempt.Attempt};
+ghost use Rattle.dist_core_ends.specs.declared.known.End.TheVariants as ends;
+ghost use Rattle.dist_core_laws.specs.Laws.{IsDialledChallenge, IsOther, IsRightRecord, Supersedes, is_doomed, given_by, closed_by};
 
 /// A step that succeeds is one of the rows of the tables, with all facts of that row.
 pub fn steps_are_rows()

@@ -1,11 +1,8 @@
 //! Laws of a node's limits: each is a function that does nothing, and whose contract is the law.
 ghost use Rattle.std.specs.Prelude.{◌≡◌, ◌≤◌, ◌||◌, ℕ, List, length};
-ghost use Rattle.dist_core_setup.specs.declared.setup.Setup.{Setup};
-ghost use Rattle.dist_core_setup.specs.Limits.{usual_limits};
-ghost use Rattle.dist_core.specs.declared.event.Event.{Event};
+ghost use Rattle.dist_core_setup.specs.{declared.setup.Setup.Setup, Limits.usual_limits};
 ghost use Rattle.dist_core.specs.Node.{NodeState, is_given_out, is_spent, limits_of};
-ghost use Rattle.dist_core.specs.Runs.{run, node_after, opening};
-ghost use Rattle.dist_core.specs.Step.{step};
+ghost use Rattle.dist_core.specs.{declared.event.Event.Event, Runs.run, Runs.node_after, Runs.opening, Step.step};
 ghost use Rattle.dist_core_ends.specs.Ends.{AreLegal};
 ghost use Rattle.dist_core_laws.specs.Laws.{IsWithinLimits};
 

@@ -1,18 +1,11 @@
 //! Laws of nodes to which more is done than steps: each is a function that does nothing, and whose contract is the law.
 ghost use Rattle.std.specs.Prelude.{◌≡◌, ℕ, List, true};
 ghost use Rattle.dist_names.specs.Order.{Name};
-ghost use Rattle.dist_core_setup.specs.declared.setup.Setup.{Setup};
-ghost use Rattle.dist_core_setup.specs.Changing.{DigestsStay};
+ghost use Rattle.dist_core_setup.specs.{declared.setup.Setup.Setup, Changing.DigestsStay};
 ghost use Rattle.dist_core_ends.specs.Ends.{AreLegal, entry_in};
-ghost use Rattle.dist_core.specs.declared.event.Event.{Event};
-ghost use Rattle.dist_core.specs.Acts.{Act, act, changed_or, run_acts};
-ghost use Rattle.dist_core.specs.declared.changing.Change.{Change};
-ghost use Rattle.dist_core.specs.Changing.{change, is_up};
-ghost use Rattle.dist_core.specs.Node.{NodeState, limits_of};
-ghost use Rattle.dist_core.specs.Runs.{node_after, opening};
-ghost use Rattle.dist_core.specs.Step.{step};
-ghost use Rattle.dist_core_laws.specs.Laws.{IsWithinLimits};
-ghost use Rattle.dist_core_laws.specs.Records.{AreRight};
+ghost use Rattle.dist_core.specs.{declared.event.Event.Event, Acts.Act, Acts.act, Acts.changed_or, Acts.run_acts, declared.changing.Change.Change};
+ghost use Rattle.dist_core.specs.{Changing.change, Changing.is_up, Node.NodeState, Node.limits_of, Runs.node_after, Runs.opening, Step.step};
+ghost use Rattle.dist_core_laws.specs.{Laws.IsWithinLimits, Records.AreRight};
 
 /// Cookies in use stay. Whatever change is asked for, a peer with which an end is up keeps its cookie.
 pub fn cookies_in_use_stay()

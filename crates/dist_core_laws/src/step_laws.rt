@@ -2,22 +2,13 @@
 ghost use Rattle.std.specs.Prelude.{◌≡◌, ◌+◌, ◌≤◌, ℕ, List, true, Ok, Some, length, slice_get, count_by};
 ghost use Rattle.dist_messages.specs.declared.message.Message.{Message};
 ghost use Rattle.dist_peers.specs.declared.entry.EndId.{EndId};
-ghost use Rattle.dist_core_ends.specs.declared.known.End.{End};
+ghost use Rattle.dist_core_ends.specs.{Change.IsThere, Change.view_after, Ends.AreLegal, Ends.is_open};
+ghost use Rattle.dist_core_ends.specs.declared.{known.End.End, known.UpRecord.UpRecord, why.Why.Why};
 ghost use Rattle.dist_core_ends.specs.declared.known.End.TheVariants as ends;
-ghost use Rattle.dist_core_ends.specs.declared.known.UpRecord.{UpRecord};
-ghost use Rattle.dist_core_ends.specs.declared.why.Why.{Why};
-ghost use Rattle.dist_core_ends.specs.Change.{IsThere, view_after};
-ghost use Rattle.dist_core_ends.specs.Ends.{AreLegal, is_open};
-ghost use Rattle.dist_core.specs.declared.effect.Effect.{Effect};
-ghost use Rattle.dist_core.specs.declared.event.Event.{Event};
+ghost use Rattle.dist_core.specs.{Clauses.IsRightReply, Losses.is_loss, Node.NodeState, Node.ends_after, Rows.Heard, Step.effect_of, Step.step};
+ghost use Rattle.dist_core.specs.declared.{effect.Effect.Effect, event.Event.Event, reply.Reply.Reply};
 ghost use Rattle.dist_core.specs.declared.event.Event.TheVariants as event;
-ghost use Rattle.dist_core.specs.declared.reply.Reply.{Reply};
-ghost use Rattle.dist_core.specs.Clauses.{IsRightReply};
 ghost use Rattle.dist_core_laws.specs.Laws.{HasEffect, IsOfItsEnd, closed_by, given_by};
-ghost use Rattle.dist_core.specs.Losses.{is_loss};
-ghost use Rattle.dist_core.specs.Node.{NodeState, ends_after};
-ghost use Rattle.dist_core.specs.Rows.{Heard};
-ghost use Rattle.dist_core.specs.Step.{effect_of, step};
 
 /// A step that succeeds has an effect: its reply, and the node after it.
 pub fn a_step_has_an_effect()

@@ -3,8 +3,7 @@ use Rattle.std.specs.Prelude.{◌≡◌, ℕ, Bool, not, if◌then◌else◌, Li
 use Rattle.std.specs.List.{filter}
 use Rattle.dist_names.specs.Order.{Name, same_name, is_listed}
 use Rattle.dist_secret.specs.Cookies.{owns, keyed, with_usual, is_full_for}
-use Rattle.dist_core_setup.specs.declared.setup.Setup.{Setup}
-use Rattle.dist_core_setup.specs.Rules.{own_digest}
+use Rattle.dist_core_setup.specs.{declared.setup.Setup.Setup, Rules.own_digest}
 
 -- the peer has a cookie of its own
 abbrev pub has_own_cookie : Setup → Name → Bool

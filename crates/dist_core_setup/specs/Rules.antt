@@ -1,17 +1,12 @@
 -- What a node's setup decides: what it announces and requires, its digests, and the checks on a name.
 use Rattle.std.specs.Prelude.{◌≡◌, ℕ, Bool, true, false, not, ◌&&◌, ◌||◌, if◌then◌else◌, nat_eq, bit_and, List, Option, Some, None, Result, Ok, Err}
 use Rattle.std.specs.Cmp.Lexicographic.{pointwise}
-use Rattle.dist_names.specs.Order.{Name, same_name, is_listed}
-use Rattle.dist_names.specs.NodeName.{name_of_bytes}
-use Rattle.dist_names.specs.Flags.{announced, required, low_half, has_all, handshake_23, name_me}
-use Rattle.dist_names.specs.declared.flags.Flags.{Flags}
-use Rattle.dist_names.specs.declared.name_error.NameError.{NameError}
-use Rattle.dist_secret.specs.Digest.{digest_of}
-use Rattle.dist_secret.specs.Cookies.{cookie_for}
+use Rattle.dist_names.specs.{Order.Name, Order.same_name, Order.is_listed, NodeName.name_of_bytes, Flags.announced, Flags.required, Flags.low_half}
+use Rattle.dist_names.specs.{Flags.has_all, Flags.handshake_23, Flags.name_me, declared.flags.Flags.Flags, declared.name_error.NameError.NameError}
+use Rattle.dist_secret.specs.{Digest.digest_of, Cookies.cookie_for}
 use Rattle.dist_messages.specs.declared.form.Form.{Form}
 use Rattle.dist_messages.specs.declared.form.Form.TheVariants as form
-use Rattle.dist_core_setup.specs.declared.setup.Setup.{Setup}
-use Rattle.dist_core_setup.specs.declared.version.Version.{Version}
+use Rattle.dist_core_setup.specs.declared.{setup.Setup.Setup, version.Version.Version}
 use Rattle.dist_core_setup.specs.declared.version.Version.TheVariants as version
 
 -- ---- versions

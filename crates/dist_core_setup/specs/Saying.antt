@@ -4,14 +4,10 @@ use Rattle.std.specs.Int.{w16, w32}
 use Rattle.dist_names.specs.Flags.{low_half, high_half}
 use Rattle.dist_frames.specs.Stream.{body_frame}
 use Rattle.dist_messages.specs.Canonical.{canonical, own_spelling}
-use Rattle.dist_messages.specs.declared.message.Side.{Side}
-use Rattle.dist_messages.specs.declared.message.Status.{Status}
-use Rattle.dist_messages.specs.declared.message.Message.{Message}
+use Rattle.dist_messages.specs.declared.{message.Side.Side, message.Status.Status, message.Message.Message, form.Form.Form}
 use Rattle.dist_messages.specs.declared.message.Message.TheVariants as message
-use Rattle.dist_messages.specs.declared.form.Form.{Form}
 use Rattle.dist_messages.specs.declared.form.Form.TheVariants as form
-use Rattle.dist_core_setup.specs.declared.setup.Setup.{Setup}
-use Rattle.dist_core_setup.specs.Rules.{announced_by, opens_new, own_digest}
+use Rattle.dist_core_setup.specs.{declared.setup.Setup.Setup, Rules.announced_by, Rules.opens_new, Rules.own_digest}
 
 -- the frame of the one spelling in which a message is sent
 unfoldable pub frame_of : Message → List ℕ

@@ -1,26 +1,15 @@
 //! Laws of what a node sends: each is a function whose contract is the law.
 ghost use Rattle.std.specs.Prelude.{◌≡◌, ℕ, ◌<◌, ◌^◌, ◌&&◌, List, [], Option, length, map, true, false, Ok};
-ghost use Rattle.std.specs.List.{AllByRecursion};
-ghost use Rattle.std.specs.Int.{w16};
-ghost use Rattle.dist_names.specs.Order.{Name, same_name};
-ghost use Rattle.dist_names.specs.NodeName.{IsNodeName};
+ghost use Rattle.std.specs.{List.AllByRecursion, Int.w16};
 ghost use Rattle.dist_names.specs.Flags.{low_half, common, has_all, handshake_23};
-ghost use Rattle.dist_names.specs.declared.flags.Flags.{Flags};
-ghost use Rattle.dist_names.specs.declared.creation.Creation.{Creation};
+ghost use Rattle.dist_names.specs.{Order.Name, Order.same_name, NodeName.IsNodeName, declared.flags.Flags.Flags, declared.creation.Creation.Creation};
 ghost use Rattle.dist_frames.specs.Stream.{Splits};
-ghost use Rattle.dist_messages.specs.declared.message.Side.{Side};
-ghost use Rattle.dist_messages.specs.declared.message.Side.TheVariants.{Dialler, Acceptor};
-ghost use Rattle.dist_messages.specs.declared.message.Status.{Status};
-ghost use Rattle.dist_messages.specs.declared.message.Message.{Message};
+ghost use Rattle.dist_messages.specs.{Spelling.Fits, Spelling.is_said_by, Canonical.canonical, Reading.read};
+ghost use Rattle.dist_messages.specs.declared.message.{Side.Side, Side.TheVariants.Dialler, Side.TheVariants.Acceptor, Status.Status, Message.Message};
 ghost use Rattle.dist_messages.specs.declared.message.Message.TheVariants as message;
-ghost use Rattle.dist_messages.specs.Spelling.{Fits, is_said_by};
-ghost use Rattle.dist_messages.specs.Canonical.{canonical};
-ghost use Rattle.dist_messages.specs.Reading.{read};
-ghost use Rattle.dist_core_setup.specs.declared.setup.Setup.{Setup};
-ghost use Rattle.dist_core_setup.specs.Rules.{announced_by, knows_six};
-ghost use Rattle.dist_secret.specs.Cookies.{rekeys};
 ghost use Rattle.dist_core_setup.specs.Changing.{DigestsStay, has_own_cookie, with_own_cookie, keyed_usually, letting_in};
-ghost use Rattle.dist_core_setup.specs.Saying.{CanBeSaid, frames_of_messages};
+ghost use Rattle.dist_core_setup.specs.{declared.setup.Setup.Setup, Rules.announced_by, Rules.knows_six, Saying.CanBeSaid, Saying.frames_of_messages};
+ghost use Rattle.dist_secret.specs.Cookies.{rekeys};
 
 use dist_messages::written_is_read;
 

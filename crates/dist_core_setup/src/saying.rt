@@ -2,8 +2,7 @@
 //!
 //! Each frame is appended to what is sent before it, and the own name is read from the setup, not copied: what is sent in one
 //! step takes memory once.
-ghost use Rattle.std.specs.Prelude.{◌≡◌, ◌<◌, ◌^◌, ◌++◌, [], IfOk, OnOk};
-ghost use Rattle.std.specs.Int.{w16, to_be_bytes};
+ghost use Rattle.std.specs.{Prelude.◌≡◌, Prelude.◌<◌, Prelude.◌^◌, Prelude.◌++◌, Prelude.[], Prelude.IfOk, Prelude.OnOk, Int.w16, Int.to_be_bytes};
 ghost use Rattle.dist_messages.specs.declared.message.Message.TheVariants as message;
 ghost use Rattle.dist_core_setup.specs.Saying.{frame_of, status_text, name_text, challenge_text, greeting_text, reply_text, ack_text};
 ghost use Rattle.dist_core_setup.specs.Saying.{challenge_message, complement_message, name_message, reply_message, ack_message};

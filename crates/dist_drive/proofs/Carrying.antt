@@ -5,15 +5,15 @@ use Rattle.dist_drive.proofs.Words.{Short, next_body, to_come, with_bytes, witho
 use Rattle.dist_drive.proofs.Words.{DeskFacts, IsOther, Step, event_of, last_reply, Carries, Course, Does, Finish, HandsOnAll, HasCause, IsFront, Start}
 use Rattle.dist_drive.proofs.Words.{WritesAll, events_of, frames_of, is_of_end, is_of_failed_read, next_frame, text_of, whole_course, DrawsOneAtMost, Gives}
 use Rattle.dist_drive.proofs.Words.{Goes, HandsOn, HearsPiece, Keeps, Place, Runs, TakesFrame, after_step, ending_of_refusal, ending_of_stream, own_why, Ending}
+use Rattle.dist_drive.proofs.Keeping.{frames_are, next_is, next_none, keeps_next, keeps_rest, keeps_fed, keeps_noted, FrameLaws}
+use Rattle.dist_drive.proofs.Shown.{same_length, events_one, does_step, does_read, no_mark, goes_on, shows, endings_are, not_refused, unheard_shows, ends_as}
+use Rattle.dist_drive.proofs.Shown.{marks_since, reply_marks, hear_marks}
+use Rattle.dist_drive.proofs.{Steps.last_pushed, Texts.IsFront-refl, Texts.IsFront-more, Texts.text_front, Texts.text_one, Texts.text_before}
 use Rattle.dist_core_ends.specs.declared.phase.Still.TheVariants as still
 use Rattle.dist_core_ends.specs.declared.why.Why.TheVariants as why
 use Rattle.dist_core.specs.declared.event.Event.TheVariants as event
 use Rattle.dist_core.specs.declared.step_error.StepError.TheVariants as error
 use Rattle.dist_drive.specs.declared.outcome.Ending.TheVariants as ending
-use Rattle.dist_drive.proofs.Keeping.{frames_are, next_is, next_none, keeps_next, keeps_rest, keeps_fed, keeps_noted, FrameLaws}
-use Rattle.dist_drive.proofs.Shown.{same_length, events_one, does_step, does_read, no_mark, goes_on, shows, endings_are, not_refused, unheard_shows, ends_as}
-use Rattle.dist_drive.proofs.Shown.{marks_since, reply_marks, hear_marks}
-use Rattle.dist_drive.proofs.{Steps.last_pushed, Texts.IsFront-refl, Texts.IsFront-more, Texts.text_front, Texts.text_one, Texts.text_before}
 
 module _ (laws : FrameLaws) where
   -- what was handed on is a front of the frames of the call

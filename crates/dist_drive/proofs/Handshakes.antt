@@ -1,8 +1,8 @@
 -- How a handshake ends well.
 use Rattle.dist_drive.proofs.Words.{◌≡◌, ℕ, true, List, ◌++◌, flat_map, sym, refl, ap, ◌∙◌, subst, append-nil, w16, Linked, Reader, Short, as_linked, rest_of}
 use Rattle.dist_drive.proofs.Words.{body_frame, UpRecord, DeskFacts, Does, IsOnlyGone, Start, frames_of, whole_course, Gives, Goes, Place}
-use Rattle.dist_drive.specs.Handshaking.{IsUpWith, ComesUp}
 use Rattle.dist_drive.proofs.{Carrying.finish_at, Keeping.FrameLaws, Keeping.frames_are, Shown.same_length}
+use Rattle.dist_drive.specs.Handshaking.{IsUpWith, ComesUp}
 
 pub comes_up : FrameLaws → {D W : Type 0} (facts : DeskFacts D) (gives : Gives W) (start : Start D W) (place : Place D W) (r : Reader) (kept : UpRecord) (rest : List ℕ)
     → Goes facts gives start place r true

@@ -6,13 +6,13 @@ use Rattle.dist_drive.proofs.Words.{map-append, Accounts, Short, EndId, Why, IsG
 use Rattle.dist_drive.proofs.Words.{Spends, TurnError, DeskFacts, Step, event_of, last_reply, number_of, Carries, Course, Does, Finish, HandsOnAll, HasCause}
 use Rattle.dist_drive.proofs.Words.{LeavesUnread, Marks, ReportsLoss, SetsNoMark, Start, WritesAll, events_of, frames_of, is_of_end, is_of_failed_read, text_of}
 use Rattle.dist_drive.proofs.Words.{whole_course, DrawsAll, Gives, HandsOn, Place, Runs, SaysReply, TakesFrame, after_reply, ending_of_stream, own_why, Ending}
+use Rattle.dist_drive.proofs.Keeping.{keeps_none}
 use Rattle.std.specs.Io.KnownBytes.{append_known, prepend_known}
 use Rattle.dist_core_ends.specs.declared.why.Why.TheVariants as why
 use Rattle.dist_core.specs.declared.event.Event.TheVariants as event
 use Rattle.dist_stream.specs.declared.turn_error.TurnError.TheVariants as fault
 use Rattle.dist_stream.proofs.Talks.{append_known-append, prepend_known-append, Rises-trans}
 use Rattle.dist_drive.specs.declared.outcome.Ending.TheVariants as ending
-use Rattle.dist_drive.proofs.Keeping.{keeps_none}
 
 pub says_as : {end_ : EndId} {old new : StreamState} {turns left : ℕ} {result : Result Bool Ending} (r q : Reply) → r ≡ q → SaysReply end_ r old new turns left result → SaysReply end_ q old new turns left result
 says_as {end_ = end_} {old = old} {new = new} {turns = turns} {left = left} {result = result} r q e p = subst (λ (x : Reply). SaysReply end_ x old new turns left result) e p

@@ -1,28 +1,20 @@
 -- ONE DRIVEN CALL: what it read, what it handed on, what it wrote, and how it ended.
-use Rattle.std.specs.Prelude.{◌≡◌, ◌≢◌, ℕ, ◌+◌, ◌-◌, ◌*◌, ◌<◌, ◌≤◌, ◌⊎◌, Bool, true, false, ◌||◌}
-use Rattle.std.specs.Prelude.{List, [], ◌∷◌, ◌++◌, length, take, map, Option, Some, None, is_some, slice_get, position}
-use Rattle.std.specs.List.{flat_map}
-use Rattle.std.specs.Io.KnownBytes.{prepend_known, append_known, IsAtEnd}
+use Rattle.std.specs.Prelude.{◌≡◌, ◌≢◌, ℕ, ◌+◌, ◌-◌, ◌*◌, ◌<◌, ◌≤◌, ◌⊎◌, Bool, true, false, ◌||◌, List, [], ◌∷◌, ◌++◌, length, take, map, Option, Some}
+use Rattle.std.specs.Prelude.{None, is_some, slice_get, position}
+use Rattle.std.specs.{List.flat_map, Io.KnownBytes.prepend_known, Io.KnownBytes.append_known, Io.KnownBytes.IsAtEnd}
 use Rattle.dist_frames.specs.Stream.{bodies}
 use Rattle.dist_peers.specs.declared.entry.EndId.{EndId}
-use Rattle.dist_core_ends.specs.declared.why.Why.{Why}
+use Rattle.dist_core_ends.specs.declared.{why.Why.Why, phase.Still.Still}
 use Rattle.dist_core_ends.specs.declared.why.Why.TheVariants as why
-use Rattle.dist_core.specs.declared.event.Event.{Event}
-use Rattle.dist_core.specs.declared.event.Event.TheVariants as event
-use Rattle.dist_core.specs.declared.reply.Reply.{Reply}
-use Rattle.dist_core_ends.specs.declared.phase.Still.{Still}
 use Rattle.dist_core_ends.specs.declared.phase.Still.TheVariants as still
-use Rattle.dist_core.specs.declared.step_error.StepError.{StepError}
+use Rattle.dist_core.specs.{declared.event.Event.Event, declared.reply.Reply.Reply, declared.step_error.StepError.StepError, Losses.IsGone}
+use Rattle.dist_core.specs.declared.event.Event.TheVariants as event
 use Rattle.dist_core.specs.declared.step_error.StepError.TheVariants as error
-use Rattle.dist_core.specs.Losses.{IsGone}
-use Rattle.dist_stream.specs.Stream.{StreamState}
-use Rattle.dist_stream.specs.Turns.{Rises}
-use Rattle.dist_drive.specs.declared.outcome.Outcome.{Outcome}
-use Rattle.dist_drive.specs.declared.outcome.Outcome.TheVariants as outcome
-use Rattle.dist_drive.specs.declared.outcome.Ending.{Ending}
-use Rattle.dist_drive.specs.declared.outcome.Ending.TheVariants as ending
+use Rattle.dist_stream.specs.{Stream.StreamState, Turns.Rises}
 use Rattle.dist_drive.specs.Desks.{Step, event_of, number_of, reply_of, last_reply, DeskFacts, IsOther}
-use Rattle.dist_drive.specs.Numbers.{Gives, DrawsAll, DrawsOneAtMost}
+use Rattle.dist_drive.specs.{declared.outcome.Outcome.Outcome, declared.outcome.Ending.Ending, Numbers.Gives, Numbers.DrawsAll, Numbers.DrawsOneAtMost}
+use Rattle.dist_drive.specs.declared.outcome.Outcome.TheVariants as outcome
+use Rattle.dist_drive.specs.declared.outcome.Ending.TheVariants as ending
 
 -- ---- a call, as it begins, what it does, and what it leaves
 

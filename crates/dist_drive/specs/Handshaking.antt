@@ -1,15 +1,11 @@
 -- ONE HANDSHAKE: an end that is driven until it is up.
-use Rattle.std.specs.Prelude.{◌≡◌, ℕ, List, ◌++◌, map, Some}
-use Rattle.std.specs.List.{flat_map}
-use Rattle.std.specs.Int.{w16}
+use Rattle.std.specs.{Prelude.◌≡◌, Prelude.ℕ, Prelude.List, Prelude.◌++◌, Prelude.map, Prelude.Some, List.flat_map, Int.w16}
 use Rattle.dist_frames.specs.Stream.{body_frame}
 use Rattle.dist_core_ends.specs.declared.known.UpRecord.{UpRecord}
 use Rattle.dist_core.specs.declared.reply.Reply.{Reply}
-use Rattle.dist_drive.specs.declared.reached.Reached.{Reached}
-use Rattle.dist_drive.specs.declared.reached.Reached.TheVariants as reached
-use Rattle.dist_drive.specs.Desks.{Step, event_of, last_reply, DeskFacts}
-use Rattle.dist_drive.specs.Numbers.{Gives}
 use Rattle.dist_drive.specs.Driven.{Start, Finish, frames_of, events_of, whole_course, SetsNoMark, IsOnlyGone, Does, Drives}
+use Rattle.dist_drive.specs.{declared.reached.Reached.Reached, Desks.Step, Desks.event_of, Desks.last_reply, Desks.DeskFacts, Numbers.Gives}
+use Rattle.dist_drive.specs.declared.reached.Reached.TheVariants as reached
 
 -- the newest reply brought the end up, with this record
 abbrev pub IsUpWith : List Step → UpRecord → Type 0

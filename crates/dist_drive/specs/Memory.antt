@@ -1,16 +1,9 @@
 -- A desk that holds its node itself.
 use Rattle.std.specs.Prelude.{◌≡◌, ◌≢◌, ℕ, ◌<◌, ◌⊎◌, true, List, Some, slice_get}
 use Rattle.dist_peers.specs.declared.entry.EndId.{EndId}
-use Rattle.dist_core_ends.specs.declared.known.End.{End}
-use Rattle.dist_core_ends.specs.declared.phase.Still.{Still}
-use Rattle.dist_core.specs.declared.event.Event.{Event}
-use Rattle.dist_core.specs.declared.step_error.StepError.{StepError}
+use Rattle.dist_core_ends.specs.{declared.known.End.End, declared.phase.Still.Still, Ends.is_open, Ends.still_of}
+use Rattle.dist_core.specs.{declared.event.Event.Event, declared.step_error.StepError.StepError, Answers.Refuses, Clauses.end_of, Node.NodeState, Step.step}
 use Rattle.dist_core.specs.declared.step_error.StepError.TheVariants as error
-use Rattle.dist_core.specs.Answers.{Refuses}
-use Rattle.dist_core_ends.specs.Ends.{is_open, still_of}
-use Rattle.dist_core.specs.Clauses.{end_of}
-use Rattle.dist_core.specs.Node.{NodeState}
-use Rattle.dist_core.specs.Step.{step}
 use Rattle.dist_drive.specs.Desks.{Step, DeskFacts}
 
 -- what contracts see of it

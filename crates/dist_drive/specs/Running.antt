@@ -7,19 +7,14 @@ use Rattle.dist_frames.specs.History.{Accounts, IsBytes}
 use Rattle.dist_peers.specs.declared.entry.EndId.{EndId}
 use Rattle.dist_core_ends.specs.declared.why.Why.{Why}
 use Rattle.dist_core_ends.specs.declared.why.Why.TheVariants as why
+use Rattle.dist_core.specs.declared.{reply.Reply.Reply, step_error.StepError.StepError}
 use Rattle.dist_core.specs.declared.event.Event.TheVariants as event
-use Rattle.dist_core.specs.declared.reply.Reply.{Reply}
-use Rattle.dist_core.specs.declared.step_error.StepError.{StepError}
 use Rattle.dist_core.specs.declared.step_error.StepError.TheVariants as error
-use Rattle.dist_stream.specs.Stream.{StreamState}
-use Rattle.dist_stream.specs.Turns.{Hears, SaysFront}
-use Rattle.dist_stream.specs.declared.turn_error.TurnError.{TurnError}
+use Rattle.dist_stream.specs.{Stream.StreamState, Turns.Hears, Turns.SaysFront, declared.turn_error.TurnError.TurnError}
 use Rattle.dist_stream.specs.declared.turn_error.TurnError.TheVariants as fault
-use Rattle.dist_drive.specs.declared.outcome.Ending.{Ending}
-use Rattle.dist_drive.specs.declared.outcome.Ending.TheVariants as ending
-use Rattle.dist_drive.specs.Desks.{Step, event_of, last_reply, DeskFacts}
-use Rattle.dist_drive.specs.Numbers.{Gives}
 use Rattle.dist_drive.specs.Driven.{Start, Finish, is_up, events_of, whole_course, SetsNoMark, Does, Carries}
+use Rattle.dist_drive.specs.{declared.outcome.Ending.Ending, Desks.Step, Desks.event_of, Desks.last_reply, Desks.DeskFacts, Numbers.Gives}
+use Rattle.dist_drive.specs.declared.outcome.Ending.TheVariants as ending
 
 -- ---- the reader
 

@@ -1,12 +1,10 @@
 //! One end, driven over a stream.
 ghost use Rattle.std.specs.Prelude.{◌≡◌, ℕ, ◌<◌, ◌≤◌, ◌+◌, ◌++◌, ◌∷◌, [], true, List, MatchOption, Err, IfOk, IfErr, OnOk};
-ghost use Rattle.dist_drive.specs.Desks.{Step};
-ghost use Rattle.dist_drive.specs.Driven.{Carries, Drives, IsOnlyGone, LeavesUnread, ReportsLoss, outcome_of};
-ghost use Rattle.dist_frames.specs.Reader.{next_body, without_next, to_come, with_bytes, without_count};
-ghost use Rattle.dist_frames.specs.History.{IsBytes};
+ghost use Rattle.dist_drive.specs.{Desks.Step, Driven.Carries, Driven.Drives, Driven.IsOnlyGone, Driven.LeavesUnread, Driven.ReportsLoss};
+ghost use Rattle.dist_drive.specs.{Driven.outcome_of, Running.after_reply, Running.after_step, Running.ending_of_refusal, Running.ending_of_stream};
+ghost use Rattle.dist_drive.specs.{Running.own_why, Running.SaysReply, Running.HandsOn, Running.Goes, Running.GoesOn, Running.EndsSo, Running.HearsPiece};
+ghost use Rattle.dist_frames.specs.{Reader.next_body, Reader.without_next, Reader.to_come, Reader.with_bytes, Reader.without_count, History.IsBytes};
 ghost use Rattle.dist_stream.specs.Turns.{fault_of};
-ghost use Rattle.dist_drive.specs.Running.{after_reply, after_step, ending_of_refusal, ending_of_stream, own_why};
-ghost use Rattle.dist_drive.specs.Running.{SaysReply, HandsOn, Goes, GoesOn, EndsSo, HearsPiece};
 
 use crate::desk::Desk;
 use crate::draws::Draws;

@@ -1,7 +1,6 @@
 //! One end, driven until it is up.
 ghost use Rattle.std.specs.Prelude.{◌≡◌, IfOk};
-ghost use Rattle.dist_drive.specs.Handshaking.{IsUpWith, ShakesHands};
-ghost use Rattle.dist_drive.specs.Running.{IsUpNow};
+ghost use Rattle.dist_drive.specs.{Handshaking.IsUpWith, Handshaking.ShakesHands, Running.IsUpNow};
 
 use crate::desk::Desk;
 use crate::draws::Draws;

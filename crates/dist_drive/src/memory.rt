@@ -1,9 +1,5 @@
-ghost use Rattle.std.specs.Prelude.{◌≡◌, ◌≢◌, ◌<◌, ◌≤◌, ◌+◌, ◌++◌, ◌∷◌, [], vec_len, vec_capacity, false, IsTrue};
-ghost use Rattle.std.specs.Prelude.{Some, Ok, Err, IfOk, IfErr, OnOk, OnErr};
-ghost use Rattle.dist_core.specs.declared.reply.Reply.{Reply};
-ghost use Rattle.dist_core.specs.Clauses.{end_of};
-ghost use Rattle.dist_core.specs.Losses.{IsGone, is_loss};
-ghost use Rattle.dist_core.specs.Step.{step};
+ghost use Rattle.std.specs.Prelude.{◌≡◌, ◌≢◌, ◌<◌, ◌≤◌, ◌+◌, ◌++◌, ◌∷◌, [], vec_len, vec_capacity, false, IsTrue, Some, Ok, Err, IfOk, IfErr, OnOk, OnErr};
+ghost use Rattle.dist_core.specs.{declared.reply.Reply.Reply, Clauses.end_of, Losses.IsGone, Losses.is_loss, Step.step};
 ghost use Rattle.dist_drive.specs.Memory.{MayRefuse};
 
 use crate::desk::Desk;

@@ -1,8 +1,8 @@
 -- Where each row stands at its name, rows are found, put and dropped as in a list in order of names.
 use Rattle.dist_epmd.proofs.Words.{◌≡◌, ℕ, Bool, true, false, cond, ◌||◌, List, [], ◌∷◌, is_some, Some, filter, Option, Vec, find, is_eq, sym, refl, ap, ◌∙◌}
 use Rattle.dist_epmd.proofs.Words.{ap₂, or_parts, insert_entry, list_any, lookup, values_of, match_ordering, IsAtItsName, StandAtNames, is_named, with_row, Row}
-use Rattle.std.specs.declared.cmp.Ordering.TheVariants.{Less, Equal, Greater}
 use Rattle.dist_epmd.proofs.Legal.{compared, named_is, row_first, row_later}
+use Rattle.std.specs.declared.cmp.Ordering.TheVariants.{Less, Equal, Greater}
 
 pub at_name : {Z : Type 0} (name : List ℕ) (e : Vec ℕ Z × Row) → IsAtItsName e → is_eq (compared name e.0.items) ≡ is_named name e.1
 at_name name e own = ap (λ k. is_eq (compared name k)) own ∙ named_is name e.1.info.name

@@ -1,12 +1,10 @@
 -- What a call that may run out of memory returns.
 use Rattle.std.specs.Prelude.{ℕ, Bool, true, false, List, codes, Result, Ok, Err}
 use Rattle.dist_names.specs.Answer.{AnswersBut}
-use Rattle.dist_epmd.specs.declared.message.Answer.{Answer}
-use Rattle.dist_epmd.specs.declared.message.Answer.TheVariants as answer
-use Rattle.dist_epmd.specs.declared.message.Request.{Request}
-use Rattle.dist_epmd.specs.declared.message.Request.TheVariants as request
-use Rattle.dist_epmd.specs.declared.epmd_error.EpmdError.{EpmdError}
 use Rattle.dist_epmd.specs.declared.epmd_error.EpmdError.TheVariants.{Malformed, Short, Trailing, NoMemory}
+use Rattle.dist_epmd.specs.declared.{message.Answer.Answer, message.Request.Request, epmd_error.EpmdError.EpmdError}
+use Rattle.dist_epmd.specs.declared.message.Answer.TheVariants as answer
+use Rattle.dist_epmd.specs.declared.message.Request.TheVariants as request
 
 -- memory ran out
 abbrev pub is_want : EpmdError → Bool

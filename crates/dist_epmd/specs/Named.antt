@@ -1,6 +1,5 @@
 -- How a registry keeps its rows.
-use Rattle.std.specs.Prelude.{◌≡◌, ℕ, List, Vec}
-use Rattle.std.specs.List.{AllByRecursion}
+use Rattle.std.specs.{Prelude.◌≡◌, Prelude.ℕ, Prelude.List, Prelude.Vec, List.AllByRecursion}
 use Rattle.dist_epmd.specs.declared.row.Row.{Row}
 
 -- The row stands at its own name.

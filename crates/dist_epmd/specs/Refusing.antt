@@ -1,9 +1,8 @@
 -- Why bytes are refused, in the words of the layouts.
 use Rattle.std.specs.Prelude.{◌≡◌, ℕ, ◌<◌, List, ◌++◌, length}
-use Rattle.dist_epmd.specs.declared.message.Asked.{Asked}
-use Rattle.dist_epmd.specs.declared.epmd_error.EpmdError.{EpmdError}
 use Rattle.dist_epmd.specs.declared.epmd_error.EpmdError.TheVariants.{Malformed, Short, Trailing, NoMemory}
 use Rattle.dist_epmd.specs.Layout.{SpellsRequest, SpellsAnswer, RequestFits, AnswerFits}
+use Rattle.dist_epmd.specs.declared.{message.Asked.Asked, epmd_error.EpmdError.EpmdError}
 
 -- of messages, which bytes spell which, and whose values fit their fields
 module _ {M : Type 0} (Spells : M → List ℕ → Type 0) (Fits : M → Type 0) (bytes : List ℕ) where

@@ -1,17 +1,11 @@
 -- Which nodes are registered with the port mapper, and what it answers.
-use Rattle.std.specs.Prelude.{◌≡◌, ◌≢◌, ℕ, ◌+◌, ◌%◌, ◌^◌, ◌<◌, ◌≤◌, Bool, ◌&&◌, not, nat_lt, nat_le, ◌==◌, if◌then◌else◌}
-use Rattle.std.specs.Prelude.{List, [], ◌∷◌, ◌++◌, length, codes, decimal, filter, find, insert, flat_map, Option, option_map}
+use Rattle.std.specs.Prelude.{◌≡◌, ◌≢◌, ℕ, ◌+◌, ◌%◌, ◌^◌, ◌<◌, ◌≤◌, Bool, ◌&&◌, not, nat_lt, nat_le, ◌==◌, if◌then◌else◌, List, [], ◌∷◌, ◌++◌, length}
+use Rattle.std.specs.Prelude.{codes, decimal, filter, find, insert, flat_map, Option, option_map}
 use Rattle.std.specs.List.{list_all, list_any, position_or_len, AllByRecursion}
-use Rattle.std.specs.Int.{w32}
-use Rattle.std.specs.Str.{bytes_eq}
-use Rattle.std.specs.Ordering.{nat_cmp, is_lt}
-use Rattle.std.specs.Cmp.Lexicographic.{slice_cmp}
-use Rattle.std.specs.declared.cmp.Ordering.TheVariants.{Less}
+use Rattle.std.specs.{Int.w32, Str.bytes_eq, Ordering.nat_cmp, Ordering.is_lt, Cmp.Lexicographic.slice_cmp, declared.cmp.Ordering.TheVariants.Less}
 use Rattle.dist_names.specs.Bytes.{is_visible, number}
-use Rattle.dist_epmd.specs.declared.message.NodeInfo.{NodeInfo}
-use Rattle.dist_epmd.specs.declared.message.Answer.{Answer}
+use Rattle.dist_epmd.specs.declared.{message.NodeInfo.NodeInfo, message.Answer.Answer, row.Row.Row}
 use Rattle.dist_epmd.specs.declared.message.Answer.TheVariants as answer
-use Rattle.dist_epmd.specs.declared.row.Row.{Row}
 
 -- THE REGISTRATIONS of a port mapper
 pub record Registrations : Type 0 where

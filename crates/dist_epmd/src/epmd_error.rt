@@ -1,8 +1,7 @@
 //! Why bytes are not a message of the port mapper, or a message has no bytes.
 
 ghost use Rattle.std.specs.Prelude.{◌≡◌};
-ghost use Rattle.dist_epmd.specs.declared.epmd_error.EpmdError.TheVariants.{NoMemory};
-ghost use Rattle.dist_epmd.specs.Answering.{error_name};
+ghost use Rattle.dist_epmd.specs.{declared.epmd_error.EpmdError.TheVariants.NoMemory, Answering.error_name};
 
 use std::alloc::{AllocError, AllocFailed};
 use thiserror::Error;

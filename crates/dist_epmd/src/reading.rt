@@ -1,13 +1,10 @@
 //! Reading messages.
 
 ghost use Rattle.std.specs.Prelude.{IfOk, IfErr};
-ghost use Rattle.dist_epmd.specs.declared.message.Answer.{Answer};
-ghost use Rattle.dist_epmd.specs.declared.message.Asked.{Asked};
-ghost use Rattle.dist_epmd.specs.declared.message.Request.{Request};
 ghost use Rattle.dist_epmd.specs.Layout.{SpellsRequest, SpellsAnswer, RequestFits, AnswerFits};
-ghost use Rattle.dist_epmd.specs.Answering.{Answers, LacksName, LacksText};
-ghost use Rattle.dist_epmd.specs.Refusing.{RefusesRequest, RefusesAnswer};
 ghost use Rattle.dist_epmd.specs.Reading.{whole_info, alive_x, alive, node_answer, read_request, read_answer};
+ghost use Rattle.dist_epmd.specs.{Answering.Answers, Answering.LacksName, Answering.LacksText, Refusing.RefusesRequest, Refusing.RefusesAnswer};
+ghost use Rattle.dist_epmd.specs.declared.message.{Answer.Answer, Asked.Asked, Request.Request};
 
 use crate::epmd_error::EpmdError;
 use crate::fields::{info_at, u16_at, u32_at};

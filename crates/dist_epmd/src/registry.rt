@@ -1,8 +1,8 @@
 //! The registry from which the port mapper answers.
 
 ghost use Rattle.std.specs.Prelude.{◌≡◌, ◌⊎◌, ℕ, false, IfOk, OnOk, OnErr, IsTrue, Some, flat_map, nat_lt, if◌then◌else◌, option_copied};
-ghost use Rattle.dist_epmd.specs.declared.message.Answer.TheVariants.{Alive, AliveX};
 ghost use Rattle.std.specs.List.{list_any};
+ghost use Rattle.dist_epmd.specs.declared.message.Answer.TheVariants.{Alive, AliveX};
 ghost use Rattle.dist_epmd.specs.Registrations.{Registrations, IsLegal, opening, is_accepted, is_of, after_request, after_closed, after_closed_as};
 ghost use Rattle.dist_epmd.specs.Registrations.{answer_to, registered_info, registered_name, line_of, names_text};
 

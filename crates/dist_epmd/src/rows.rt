@@ -1,8 +1,7 @@
 //! The rows of a registry: a map from a name to the row of that name.
 
 ghost use Rattle.std.specs.Prelude.{◌≡◌, ◌++◌, false, not, length, filter, find, flat_map, nat_lt, option_copied, OnOk, OnErr};
-ghost use Rattle.std.specs.BTreeMap.{values};
-ghost use Rattle.std.specs.List.{list_all, list_any};
+ghost use Rattle.std.specs.{BTreeMap.values, List.list_all, List.list_any};
 ghost use Rattle.dist_epmd.specs.Registrations.{InOrder, is_short_byte, is_short_name, is_named, is_of, is_own, with_row, line_of};
 ghost use Rattle.dist_epmd.specs.Named.{StandAtNames};
 

@@ -1,9 +1,9 @@
 -- One frame, put together from its length and its body.
 use Rattle.dist_epmd_calls.proofs.Words.{◌≡◌, ℕ, ◌^◌, ◌<◌, ◌≤◌, List, ◌++◌, length, get_or, take, Some, None, Ok, Err, sym, ap, ◌∙◌, inr, arith, length-take-le}
 use Rattle.dist_epmd_calls.proofs.Words.{w16, from_be_bytes, to_be_bytes, body_frame, StreamState, HearsFront, TurnError, Hears-trans, HearsFrame, HearsLen}
+use Rattle.dist_epmd_calls.proofs.Registering.{all_heard}
 use Rattle.std.proofs.lemmas.Nat.{be_bytes_2}
 use Rattle.dist_epmd_calls.specs.declared.bodies.Arrived.TheVariants as arrived
-use Rattle.dist_epmd_calls.proofs.Registering.{all_heard}
 
 pub len_cut : {old new : StreamState} {turns left : ℕ} (e : TurnError) (header : List ℕ) → length header ≡ 2 → HearsFront old new turns left (Some e) header → HearsLen old new turns left (Err e)
 len_cut e header two p =

@@ -3,9 +3,9 @@ use Rattle.dist_epmd_calls.proofs.Words.{◌≡◌, ℕ, ◌<◌, ◌≢◌, Lis
 use Rattle.dist_epmd_calls.proofs.Words.{inl, inr, arith, length-drop, take-append-drop, RefusedBut, StreamState, SaysFront, Spends, TurnError, Says-none}
 use Rattle.dist_epmd_calls.proofs.Words.{Spends-trans, append_known-none, is_want, written_answer, EpmdError, Answer, Request, lookup_error, whole_refusal}
 use Rattle.dist_epmd_calls.proofs.Words.{BringsRequest, Came, IsSaid, Replies, Serves, HearsSo, SaysSo, LookupError, Served}
+use Rattle.dist_epmd_calls.proofs.Asks.{no_refusal}
 use Rattle.std.specs.Io.KnownBytes.{prepend_known, append_known}
 use Rattle.dist_epmd.specs.declared.epmd_error.EpmdError.TheVariants as epmd
-use Rattle.dist_epmd_calls.proofs.Asks.{no_refusal}
 
 is_refused : {X : Type 0} (r : Result X EpmdError) (why : EpmdError) → r ≡ Err why → IsErr r
 is_refused (Ok x) why e = absurd cc

@@ -1,27 +1,17 @@
 -- What a client of the port mapper writes and reads, and what the answer means to it.
 use Rattle.std.specs.Prelude.{◌≡◌, ℕ, ◌+◌, ◌<◌, ◌≤◌, ◌⊎◌, List, [], ◌∷◌, ◌++◌, length, Option, Some, None, Result, Ok, Err, ◌==◌, if◌then◌else◌}
-use Rattle.std.specs.Int.{w16}
-use Rattle.std.specs.Io.KnownBytes.{prepend_known, append_known}
+use Rattle.std.specs.{Int.w16, Io.KnownBytes.prepend_known, Io.KnownBytes.append_known}
 use Rattle.dist_names.specs.declared.creation.Creation.{Creation}
 use Rattle.dist_frames.specs.Stream.{body_frame}
-use Rattle.dist_epmd.specs.declared.epmd_error.EpmdError.{EpmdError}
-use Rattle.dist_epmd.specs.declared.message.NodeInfo.{NodeInfo}
-use Rattle.dist_epmd.specs.declared.message.Request.{Request}
+use Rattle.dist_epmd.specs.{declared.epmd_error.EpmdError.EpmdError, declared.message.NodeInfo.NodeInfo, declared.message.Request.Request}
+use Rattle.dist_epmd.specs.{declared.message.Answer.Answer, declared.message.Asked.Asked, Answering.BearsText, Layout.written_request, Reading.read_answer}
 use Rattle.dist_epmd.specs.declared.message.Request.TheVariants as request
-use Rattle.dist_epmd.specs.declared.message.Answer.{Answer}
 use Rattle.dist_epmd.specs.declared.message.Answer.TheVariants as answer
-use Rattle.dist_epmd.specs.declared.message.Asked.{Asked}
 use Rattle.dist_epmd.specs.declared.message.Asked.TheVariants as asked
-use Rattle.dist_epmd.specs.Answering.{BearsText}
-use Rattle.dist_epmd.specs.Layout.{written_request}
-use Rattle.dist_epmd.specs.Reading.{read_answer}
-use Rattle.dist_stream.specs.declared.turn_error.TurnError.{TurnError}
+use Rattle.dist_stream.specs.{declared.turn_error.TurnError.TurnError, Stream.StreamState, Turns.Spends}
 use Rattle.dist_stream.specs.declared.turn_error.TurnError.TheVariants as fault
-use Rattle.dist_stream.specs.Stream.{StreamState}
-use Rattle.dist_stream.specs.Turns.{Spends}
-use Rattle.dist_epmd_calls.specs.declared.lookup_error.LookupError.{LookupError}
+use Rattle.dist_epmd_calls.specs.{declared.lookup_error.LookupError.LookupError, Refusals.lookup_error, Refusals.whole_refusal, Refusals.end_refusal}
 use Rattle.dist_epmd_calls.specs.declared.lookup_error.LookupError.TheVariants as error
-use Rattle.dist_epmd_calls.specs.Refusals.{lookup_error, whole_refusal, end_refusal}
 
 -- ---- what an answer means
 

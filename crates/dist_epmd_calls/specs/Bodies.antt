@@ -1,13 +1,9 @@
 -- One frame that is read from a stream: its length in 2 bytes, and as many bytes.
-use Rattle.std.specs.Prelude.{◌≡◌, ℕ, ◌<◌, ◌≤◌, List, length, Option, Some, None}
-use Rattle.std.specs.Int.{w16}
+use Rattle.std.specs.{Prelude.◌≡◌, Prelude.ℕ, Prelude.◌<◌, Prelude.◌≤◌, Prelude.List, Prelude.length, Prelude.Option, Prelude.Some, Prelude.None, Int.w16}
 use Rattle.dist_names.specs.Bytes.{number}
 use Rattle.dist_frames.specs.Stream.{body_frame}
-use Rattle.dist_stream.specs.Stream.{StreamState}
-use Rattle.dist_stream.specs.Turns.{Hears}
-use Rattle.dist_stream.specs.declared.turn_error.TurnError.{TurnError}
-use Rattle.dist_epmd_calls.specs.Serving.{IsInside, IsLength}
-use Rattle.dist_epmd_calls.specs.declared.bodies.Arrived.{Arrived}
+use Rattle.dist_stream.specs.{Stream.StreamState, Turns.Hears, declared.turn_error.TurnError.TurnError}
+use Rattle.dist_epmd_calls.specs.{Serving.IsInside, Serving.IsLength, declared.bodies.Arrived.Arrived}
 use Rattle.dist_epmd_calls.specs.declared.bodies.Arrived.TheVariants as arrived
 
 -- the fault of the stream, if one ended the reading

@@ -1,12 +1,9 @@
 -- What the registry answers when it serves as the mapper.
-use Rattle.std.specs.Prelude.{◌≡◌, ℕ, Option, Some, None, Ok, Err}
-use Rattle.std.specs.List.{flat_map}
-use Rattle.dist_epmd.specs.declared.message.NodeInfo.{NodeInfo}
-use Rattle.dist_epmd.specs.declared.message.Request.{Request}
-use Rattle.dist_epmd.specs.declared.message.Request.TheVariants as request
-use Rattle.dist_epmd.specs.declared.message.Answer.{Answer}
-use Rattle.dist_epmd.specs.declared.message.Answer.TheVariants as answer
+use Rattle.std.specs.{Prelude.◌≡◌, Prelude.ℕ, Prelude.Option, Prelude.Some, Prelude.None, Prelude.Ok, Prelude.Err, List.flat_map}
 use Rattle.dist_epmd.specs.Registrations.{Registrations, after_closed, after_request, answer_to, registered_info, line_of}
+use Rattle.dist_epmd.specs.declared.message.{NodeInfo.NodeInfo, Request.Request, Answer.Answer}
+use Rattle.dist_epmd.specs.declared.message.Request.TheVariants as request
+use Rattle.dist_epmd.specs.declared.message.Answer.TheVariants as answer
 
 -- the answer to a lookup: what was found, or result 1
 abbrev pub port_answer : Option NodeInfo → Answer

@@ -1,24 +1,16 @@
 -- What is read and written when one request is served, and what becomes of the mapper.
 use Rattle.std.specs.Prelude.{◌≡◌, ◌≢◌, ℕ, ◌^◌, ◌<◌, ◌⊎◌, List, [], ◌++◌, length, Option, Some, None, Result, Ok, Err, IsOk, IsErr, ◌==◌, if◌then◌else◌}
-use Rattle.std.specs.Int.{w16}
+use Rattle.std.specs.{Int.w16, Io.KnownBytes.prepend_known, Io.KnownBytes.append_known}
 use Rattle.dist_names.specs.Bytes.{number}
-use Rattle.std.specs.Io.KnownBytes.{prepend_known, append_known}
 use Rattle.dist_frames.specs.Stream.{body_frame}
-use Rattle.dist_epmd.specs.declared.epmd_error.EpmdError.{EpmdError}
-use Rattle.dist_epmd.specs.declared.message.Request.{Request}
+use Rattle.dist_epmd.specs.{Layout.written_answer, Reading.read_request}
+use Rattle.dist_epmd.specs.declared.{epmd_error.EpmdError.EpmdError, message.Request.Request, message.Answer.Answer}
 use Rattle.dist_epmd.specs.declared.message.Request.TheVariants as request
-use Rattle.dist_epmd.specs.declared.message.Answer.{Answer}
 use Rattle.dist_epmd.specs.declared.message.Answer.TheVariants as answer
-use Rattle.dist_epmd.specs.Layout.{written_answer}
-use Rattle.dist_epmd.specs.Reading.{read_request}
-use Rattle.dist_stream.specs.declared.turn_error.TurnError.{TurnError}
-use Rattle.dist_stream.specs.Stream.{StreamState}
-use Rattle.dist_stream.specs.Turns.{Spends}
-use Rattle.dist_epmd_calls.specs.declared.lookup_error.LookupError.{LookupError}
+use Rattle.dist_stream.specs.{declared.turn_error.TurnError.TurnError, Stream.StreamState, Turns.Spends}
+use Rattle.dist_epmd_calls.specs.{declared.lookup_error.LookupError.LookupError, declared.serve.Served.Served, Refusals.lookup_error}
 use Rattle.dist_epmd_calls.specs.declared.lookup_error.LookupError.TheVariants as error
-use Rattle.dist_epmd_calls.specs.declared.serve.Served.{Served}
 use Rattle.dist_epmd_calls.specs.declared.serve.Served.TheVariants as served
-use Rattle.dist_epmd_calls.specs.Refusals.{lookup_error}
 
 -- ---- the request
 

@@ -4,12 +4,9 @@ use Rattle.std.specs.Int.{w16}
 use Rattle.dist_names.specs.Bytes.{number}
 use Rattle.dist_frames.specs.Stream.{body_frame}
 use Rattle.dist_epmd.specs.declared.epmd_error.EpmdError.{EpmdError}
-use Rattle.dist_stream.specs.declared.turn_error.TurnError.{TurnError}
-use Rattle.dist_stream.specs.Stream.{StreamState}
-use Rattle.dist_stream.specs.Turns.{Says, Hears, fault_of}
-use Rattle.dist_epmd_calls.specs.declared.lookup_error.LookupError.{LookupError}
+use Rattle.dist_stream.specs.{declared.turn_error.TurnError.TurnError, Stream.StreamState, Turns.Says, Turns.Hears, Turns.fault_of}
+use Rattle.dist_epmd_calls.specs.{declared.lookup_error.LookupError.LookupError, Asking.answer_len}
 use Rattle.dist_epmd_calls.specs.declared.lookup_error.LookupError.TheVariants as error
-use Rattle.dist_epmd_calls.specs.Asking.{answer_len}
 
 -- Bytes were read, and this holds of them and of the fault that stopped the reading, if one did.
 pub record HearsSo (old new : StreamState) (turns left : ℕ) (Means : Option TurnError → List ℕ → Type 0) : Type 0 where

@@ -1,10 +1,7 @@
 //! The questions of a client: one node's address, or all nodes.
 
 ghost use Rattle.std.specs.Prelude.{◌≡◌, ◌++◌, Ok};
-ghost use Rattle.dist_epmd.specs.Layout.{written_request};
-ghost use Rattle.dist_epmd.specs.Reading.{read_answer};
-ghost use Rattle.dist_epmd.specs.declared.message.Asked.{Asked};
-ghost use Rattle.dist_epmd.specs.declared.message.Request.{Request};
+ghost use Rattle.dist_epmd.specs.{Layout.written_request, Reading.read_answer, declared.message.Asked.Asked, declared.message.Request.Request};
 ghost use Rattle.dist_epmd_calls.specs.Asking.{Asks, AsksFor, IfItFits, ReportsBy, Settles, info_meant, names_meant};
 ghost use Rattle.dist_epmd_calls.specs.Steps.{HearsSo, IsFrameOf};
 

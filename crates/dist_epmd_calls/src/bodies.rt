@@ -1,8 +1,7 @@
 //! One frame, read from a stream.
 
 ghost use Rattle.std.specs.Prelude.{◌≡◌, length};
-ghost use Rattle.dist_epmd_calls.specs.Bodies.{HearsFrame};
-ghost use Rattle.dist_epmd_calls.specs.Steps.{HearsLen};
+ghost use Rattle.dist_epmd_calls.specs.{Bodies.HearsFrame, Steps.HearsLen};
 
 use dist_names::ByteString;
 use dist_stream::{Limited, Stream, TurnError};

@@ -1,15 +1,10 @@
 //! Laws of the calls, over the definitions alone.
 
 ghost use Rattle.std.specs.Prelude.{◌≡◌, ℕ, Ok, Result};
-ghost use Rattle.dist_epmd.specs.Registrations.{Registrations, IsLegal};
-ghost use Rattle.dist_epmd.specs.History.{IsIn};
-ghost use Rattle.dist_epmd.specs.declared.row.Row.{Row};
+ghost use Rattle.dist_epmd.specs.{Registrations.Registrations, Registrations.IsLegal, History.IsIn, declared.row.Row.Row};
 ghost use Rattle.dist_stream.specs.Stream.{StreamState};
-ghost use Rattle.dist_epmd_calls.specs.Mapping.{Allows, Leaves};
-ghost use Rattle.dist_epmd_calls.specs.Serving.{Serves};
-ghost use Rattle.dist_epmd_calls.specs.declared.lookup_error.LookupError.{LookupError};
-ghost use Rattle.dist_epmd_calls.specs.declared.serve.Served.{Served};
-ghost use Rattle.dist_epmd_calls.specs.declared.serve.Served.TheVariants.{Registered};
+ghost use Rattle.dist_epmd_calls.specs.{Mapping.Allows, Mapping.Leaves, Serving.Serves};
+ghost use Rattle.dist_epmd_calls.specs.declared.{lookup_error.LookupError.LookupError, serve.Served.Served, serve.Served.TheVariants.Registered};
 
 /// However the serving of a request ends, the registrations that were lent keep their invariant, and none is new except one
 /// that was answered whole with result 0.

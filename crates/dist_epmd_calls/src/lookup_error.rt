@@ -1,8 +1,7 @@
 //! Why a call over a stream gave no answer.
 
 ghost use Rattle.std.specs.Prelude.{◌≡◌};
-ghost use Rattle.dist_epmd_calls.specs.Refusals.{lookup_error_name, lookup_error};
-ghost use Rattle.dist_epmd_calls.specs.declared.lookup_error.LookupError.TheVariants.{NoMemory};
+ghost use Rattle.dist_epmd_calls.specs.{Refusals.lookup_error_name, Refusals.lookup_error, declared.lookup_error.LookupError.TheVariants.NoMemory};
 
 use crate::refusals::lookup_error;
 use dist_stream::TurnError;

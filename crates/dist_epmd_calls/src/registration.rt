@@ -2,9 +2,7 @@
 
 ghost use Rattle.std.specs.Prelude.{◌≡◌, length, nat_lt, false};
 ghost use Rattle.dist_epmd.specs.Layout.{request_text, written_request};
-ghost use Rattle.dist_epmd.specs.Reading.{read_answer};
-ghost use Rattle.dist_epmd.specs.declared.message.Asked.{Asked};
-ghost use Rattle.dist_epmd.specs.declared.message.Request.{Request};
+ghost use Rattle.dist_epmd.specs.{Reading.read_answer, declared.message.Asked.Asked, declared.message.Request.Request};
 ghost use Rattle.dist_epmd_calls.specs.Asking.{Registers, RegistersFor, Settles, creation_in, creation_meant, creation_unless, rest_len};
 ghost use Rattle.dist_epmd_calls.specs.Steps.{HearsAnswer, IsFrameOf};
 

@@ -1,9 +1,9 @@
 -- A frame, its fronts, and what stands behind it.
 use Rattle.std.proofs.Common.{◌≡◌, ℕ, ◌<◌, ◌≤◌, Bool, true, false, cond, List, [], ◌++◌, length, take, drop, refl, sym, ap, ◌∙◌, append_assoc, arith, length-append, length-drop}
+use Rattle.std.proofs.lemmas.Nat.{from_be_bytes-to_be_bytes_2}
 use Rattle.std.specs.Prelude.{nat_lt}
 use Rattle.dist_epmd_clients.proofs.Words.{w16, from_be_bytes, to_be_bytes, cond-false, cond-true, le-ltb, lt-ltb, take_at, drop_at, append-nil, take-append-le}
 use Rattle.dist_epmd_clients.proofs.Words.{body_frame, read_request, Inside, Nothing}
-use Rattle.std.proofs.lemmas.Nat.{from_be_bytes-to_be_bytes_2}
 use Rattle.dist_epmd_clients.specs.Asking.{request_question, front, question, question_behind_length}
 
 -- the length that a frame begins with

@@ -4,8 +4,7 @@ use Rattle.std.specs.Prelude.{◌≢◌}
 use Rattle.dist_epmd_clients.proofs.Words.{cond-false, ne_eqb, take_at, append-nil, info_at, read_request, NodeInfo, Request}
 use Rattle.dist_epmd.specs.Layout.{InfoFits, RequestFits, TextsFit, SpellsRequest, request_text}
 use Rattle.dist_epmd.specs.declared.message.Request.TheVariants as request
-use Rattle.dist_epmd.proofs.FieldLaws.{info_field}
-use Rattle.dist_epmd.proofs.Messages.{request_again}
+use Rattle.dist_epmd.proofs.{FieldLaws.info_field, Messages.request_again}
 use Rattle.dist_epmd_clients.specs.Asking.{front, up_to}
 
 -- a text with bytes behind it, up to its end

@@ -2,13 +2,12 @@
 use Rattle.std.proofs.Common.{◌≡◌, ℕ, ◌<◌, ◌≤◌, Bool, List, [], ◌∷◌, ◌++◌, length, Some, refl, sym, ap, ◌∙◌, append_assoc, arith}
 use Rattle.std.specs.Prelude.{◌≢◌}
 use Rattle.dist_epmd_clients.proofs.Words.{w16, AllByRecursion, concat, append-nil, body_frame, served_as, Client, Asking, Inside, Asks, Nothing, new_client}
+use Rattle.dist_epmd_clients.proofs.Frames.{front_waits}
 use Rattle.dist_epmd.specs.Registrations.{Registrations}
 use Rattle.dist_epmd_calls.specs.declared.serve.Served.{Served}
 use Rattle.dist_epmd_calls.specs.declared.serve.Served.TheVariants as served
-use Rattle.dist_epmd_clients.specs.declared.question.Question.{Question}
-use Rattle.dist_epmd_clients.specs.Asking.{question}
 use Rattle.dist_epmd_clients.specs.Replying.{after_piece, after_pieces, answer_for, name_in, registrations_after, outcome, replies, text_of, with_talk}
-use Rattle.dist_epmd_clients.proofs.Frames.{front_waits}
+use Rattle.dist_epmd_clients.specs.{declared.question.Question.Question, Asking.question}
 
 some_left : (next rest : List ℕ) → next ≢ [] → 0 < length (next ++ rest)
 some_left [] rest some = absurd (some refl)

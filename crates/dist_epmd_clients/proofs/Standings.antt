@@ -1,9 +1,9 @@
 -- Registrations stand exactly while their clients are here.
 use Rattle.std.proofs.Common.{◌≡◌, ℕ, zero, suc, Bool, true, false, not, ◌||◌, cond, List, [], ◌∷◌, Option, Some, None, is_some, refl, sym, ap, subst, ◌∙◌, ◌<◌, arith}
 use Rattle.std.specs.Prelude.{◌≤◌, filter, find, insert, ◌==◌, nat_lt, IsSome, option_map}
+use Rattle.std.specs.Cmp.{unsigned_tied}
 use Rattle.dist_epmd_clients.proofs.Words.{list_any, position_or_len, nat_cmp, BTreeMap, get, Updates, and_parts, eq-eqb, eqb-true, not-false, not-true}
 use Rattle.dist_epmd_clients.proofs.Words.{or_parts, NodeInfo, Request, served_as, Talk, Asking, Registered, Keeps, Client}
-use Rattle.std.specs.Cmp.{unsigned_tied}
 use Rattle.dist_epmd.specs.declared.row.Row.{Row}
 use Rattle.dist_epmd.specs.Registrations.{Registrations, is_of, is_behind, after_closed, is_accepted, with_registration, registered_name, creation_answer, refusal_answer, short_creation}
 use Rattle.dist_epmd.specs.declared.message.Request.TheVariants as request

@@ -1,12 +1,9 @@
 -- Clients that have not asked leave, and no registration does.
 use Rattle.std.proofs.Common.{◌≡◌, ℕ, suc, Bool, true, false, not, ◌&&◌, cond, List, [], ◌∷◌, Option, Some, None, is_some, refl, sym, ap, ◌∙◌}
-use Rattle.std.specs.Prelude.{filter, ◌-◌, nat_le, slice_get, IfSome}
-use Rattle.dist_epmd_clients.proofs.Words.{filter_map, nat_cmp, eq_by_cmp, BTreeMap, get, IsOrdered, Client, Talk, Asking, Registered}
-use Rattle.std.specs.Map.{lookup, keys_of}
-use Rattle.std.proofs.lemmas.Cmp.{nat_cmp_total, eq_by_cmp_equiv}
-use Rattle.std.proofs.lemmas.Map.Keys.{IsDistinct-from_sorted}
 use Rattle.std.proofs.lemmas.Map.Entries.{lookup-filter-values, option_filter, btree_map_get_place}
-use Rattle.std.proofs.lemmas.Option.{same_Some}
+use Rattle.std.proofs.lemmas.{Cmp.nat_cmp_total, Cmp.eq_by_cmp_equiv, Map.Keys.IsDistinct-from_sorted, Option.same_Some}
+use Rattle.std.specs.{Prelude.filter, Prelude.◌-◌, Prelude.nat_le, Prelude.slice_get, Prelude.IfSome, Map.lookup, Map.keys_of}
+use Rattle.dist_epmd_clients.proofs.Words.{filter_map, nat_cmp, eq_by_cmp, BTreeMap, get, IsOrdered, Client, Talk, Asking, Registered}
 use Rattle.dist_epmd.specs.Registrations.{Registrations}
 use Rattle.dist_epmd_clients.specs.Standing.{Stand, NumbersBelow, is_registered, is_registered_talk, talk_name, client_name, asking_since}
 use Rattle.dist_epmd_clients.specs.Sweeping.{is_late}

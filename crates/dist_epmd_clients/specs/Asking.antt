@@ -2,13 +2,10 @@
 -- length in 2 bytes).
 use Rattle.std.specs.Prelude.{ℕ, ◌-◌, Bool, List, [], ◌∷◌, length, take, drop, Some, None, Result, Ok, Err, nat_lt, ◌==◌, if◌then◌else◌}
 use Rattle.std.specs.Int.{w16, from_be_bytes}
-use Rattle.dist_epmd.specs.declared.epmd_error.EpmdError.{EpmdError}
-use Rattle.dist_epmd.specs.declared.message.Request.{Request}
+use Rattle.dist_epmd.specs.{declared.epmd_error.EpmdError.EpmdError, declared.message.Request.Request, Reading.info_at, Reading.read_request}
 use Rattle.dist_epmd.specs.declared.message.Request.TheVariants as request
 use Rattle.dist_names.specs.Fields.{Taken}
-use Rattle.dist_epmd.specs.Reading.{info_at, read_request}
-use Rattle.dist_epmd_clients.specs.declared.question.Question.{Question}
-use Rattle.dist_epmd_clients.specs.declared.question.Question.TheVariants.{Inside, Asks, Nothing}
+use Rattle.dist_epmd_clients.specs.declared.question.Question.{Question, TheVariants.Inside, TheVariants.Asks, TheVariants.Nothing}
 
 -- all of some bytes up to the end of what was read in them, and all of them where they end inside it
 abbrev pub up_to : {A : Type 0} → List ℕ → Taken A → List ℕ

@@ -1,10 +1,8 @@
 -- What a read or a write of a connection changes: its stream, and nothing else.
 use Rattle.std.specs.Prelude.{◌≡◌, ℕ, Option, Some, None}
-use Rattle.std.specs.Ordering.{nat_cmp}
-use Rattle.std.specs.BTreeMap.{BTreeMap, get, Updates}
-use Rattle.dist_epmd_clients.specs.declared.client.Client.{Client}
-use Rattle.dist_epmd_clients.specs.declared.holding.Clients.{Clients}
+use Rattle.std.specs.{Ordering.nat_cmp, BTreeMap.BTreeMap, BTreeMap.get, BTreeMap.Updates}
 use Rattle.dist_epmd_clients.specs.Clients.{registrations_of, client_of, OthersStay}
+use Rattle.dist_epmd_clients.specs.declared.{client.Client.Client, holding.Clients.Clients}
 
 module _ {S : Type 0} where
   -- the client with another stream

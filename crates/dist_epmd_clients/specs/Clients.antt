@@ -1,12 +1,9 @@
 -- What a contract sees of the clients of a port mapper.
 use Rattle.std.specs.Prelude.{◌≡◌, ◌≢◌, ℕ, ◌≤◌, Bool, false, ◌==◌, List, [], Option, Some, None}
-use Rattle.std.specs.Ordering.{nat_cmp}
-use Rattle.std.specs.BTreeMap.{get}
+use Rattle.std.specs.{Ordering.nat_cmp, BTreeMap.get}
 use Rattle.dist_epmd.specs.Registrations.{Registrations, after_closed}
-use Rattle.dist_epmd_clients.specs.declared.client.Client.{Client}
-use Rattle.dist_epmd_clients.specs.declared.client.Talk.TheVariants.{Asking}
-use Rattle.dist_epmd_clients.specs.declared.holding.Clients.{Clients}
 use Rattle.dist_epmd_clients.specs.Standing.{is_registered}
+use Rattle.dist_epmd_clients.specs.declared.{client.Client.Client, client.Talk.TheVariants.Asking, holding.Clients.Clients}
 
 -- The registrations are those that there were, at the same port. A creation may be used up.
 pub record Keeps (before after : Registrations) : Type 0 where

@@ -1,9 +1,7 @@
 -- What happened at a port mapper, and how often.
 use Rattle.std.specs.Prelude.{◌≡◌, ℕ, ◌+◌, Bool, true, false, List, [], ◌∷◌, ◌++◌, Option, Some, None, length, nat_lt, if◌then◌else◌}
-use Rattle.dist_epmd_clients.specs.declared.counts.Counts.{Counts}
-use Rattle.dist_epmd_clients.specs.declared.event.ClientEvent.{ClientEvent}
+use Rattle.dist_epmd_clients.specs.declared.{counts.Counts.Counts, event.ClientEvent.ClientEvent, journal.Journal.Journal}
 use Rattle.dist_epmd_clients.specs.declared.event.ClientEvent.TheVariants as event
-use Rattle.dist_epmd_clients.specs.declared.journal.Journal.{Journal}
 
 -- whether a log has a line for it: questions that are answered have none
 abbrev pub is_line : ClientEvent → Bool

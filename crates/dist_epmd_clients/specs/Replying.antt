@@ -1,23 +1,16 @@
 -- What is sent to a client, and what is left of it and of the registry (ERTS User's Guide, Distribution Protocol, EPMD Protocol).
 use Rattle.std.specs.Prelude.{ℕ, List, [], ◌∷◌, ◌++◌, Option, Some, None, Result, Ok, Err}
-use Rattle.dist_epmd.specs.declared.epmd_error.EpmdError.{EpmdError}
-use Rattle.dist_epmd.specs.declared.message.Request.{Request}
-use Rattle.dist_epmd.specs.declared.message.Request.TheVariants as request
-use Rattle.dist_epmd.specs.declared.message.Answer.{Answer}
 use Rattle.dist_epmd.specs.Registrations.{Registrations, after_closed, after_request, answer_to, registered_info}
 use Rattle.dist_epmd.specs.Layout.{written_answer}
-use Rattle.dist_epmd_calls.specs.Mapping.{port_answer, names_answer}
-use Rattle.dist_epmd_calls.specs.Serving.{served_as}
-use Rattle.dist_epmd_calls.specs.declared.serve.Served.{Served}
-use Rattle.dist_epmd_calls.specs.declared.serve.Served.TheVariants.{Registered, Answered}
-use Rattle.dist_epmd_clients.specs.declared.client.Client.{Client}
-use Rattle.dist_epmd_clients.specs.declared.client.Talk.{Talk}
-use Rattle.dist_epmd_clients.specs.declared.client.Talk.TheVariants as talk
-use Rattle.dist_epmd_clients.specs.declared.question.Question.{Question}
+use Rattle.dist_epmd.specs.declared.{epmd_error.EpmdError.EpmdError, message.Request.Request, message.Answer.Answer}
+use Rattle.dist_epmd.specs.declared.message.Request.TheVariants as request
+use Rattle.dist_epmd_calls.specs.{Mapping.port_answer, Mapping.names_answer, Serving.served_as}
+use Rattle.dist_epmd_calls.specs.declared.serve.Served.{Served, TheVariants.Registered, TheVariants.Answered}
 use Rattle.dist_epmd_clients.specs.declared.question.Question.TheVariants.{Inside, Asks, Nothing}
-use Rattle.dist_epmd_clients.specs.declared.client.Turn.{Turn}
 use Rattle.dist_epmd_clients.specs.declared.client.Turn.TheVariants.{Wait, Stay, Leave}
 use Rattle.dist_epmd_clients.specs.Asking.{question}
+use Rattle.dist_epmd_clients.specs.declared.{client.Client.Client, client.Talk.Talk, question.Question.Question, client.Turn.Turn}
+use Rattle.dist_epmd_clients.specs.declared.client.Talk.TheVariants as talk
 
 -- ---- what the registry answers
 

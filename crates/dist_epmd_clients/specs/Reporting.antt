@@ -1,24 +1,16 @@
 -- What a log hears of the clients of a port mapper.
 use Rattle.std.specs.Prelude.{ℕ, Bool, List, [], ◌++◌, Option, Some, None, is_some, nat_lt, if◌then◌else◌}
-use Rattle.dist_epmd.specs.declared.message.Request.{Request}
+use Rattle.dist_epmd.specs.{declared.message.Request.Request, Registrations.Registrations, Registrations.registered_info}
 use Rattle.dist_epmd.specs.declared.message.Request.TheVariants as request
-use Rattle.dist_epmd.specs.Registrations.{Registrations, registered_info}
-use Rattle.dist_epmd_calls.specs.Serving.{served_as}
-use Rattle.dist_epmd_calls.specs.declared.serve.Served.{Served}
 use Rattle.dist_epmd_calls.specs.declared.serve.Served.TheVariants.{Registered, Answered}
-use Rattle.dist_epmd_clients.specs.declared.client.Client.{Client}
-use Rattle.dist_epmd_clients.specs.declared.client.Talk.{Talk}
-use Rattle.dist_epmd_clients.specs.declared.client.Talk.TheVariants as talk
-use Rattle.dist_epmd_clients.specs.declared.counts.Counts.{Counts}
-use Rattle.dist_epmd_clients.specs.declared.event.ClientEvent.{ClientEvent}
-use Rattle.dist_epmd_clients.specs.declared.event.ClientEvent.TheVariants as event
-use Rattle.dist_epmd_clients.specs.declared.holding.Clients.{Clients}
-use Rattle.dist_epmd_clients.specs.declared.journal.Journal.{Journal}
-use Rattle.dist_epmd_clients.specs.declared.question.Question.{Question}
+use Rattle.dist_epmd_calls.specs.{Serving.served_as, declared.serve.Served.Served}
 use Rattle.dist_epmd_clients.specs.declared.question.Question.TheVariants.{Inside, Asks, Nothing}
-use Rattle.dist_epmd_clients.specs.Asking.{question}
 use Rattle.dist_epmd_clients.specs.Journal.{counts_in, events_in, most_in}
-use Rattle.dist_epmd_clients.specs.Replying.{answer_for, registrations_after}
+use Rattle.dist_epmd_clients.specs.{Asking.question, Replying.answer_for, Replying.registrations_after}
+use Rattle.dist_epmd_clients.specs.declared.{client.Client.Client, client.Talk.Talk, counts.Counts.Counts, event.ClientEvent.ClientEvent}
+use Rattle.dist_epmd_clients.specs.declared.{holding.Clients.Clients, journal.Journal.Journal, question.Question.Question}
+use Rattle.dist_epmd_clients.specs.declared.client.Talk.TheVariants as talk
+use Rattle.dist_epmd_clients.specs.declared.event.ClientEvent.TheVariants as event
 
 -- ---- what happens
 

@@ -1,11 +1,8 @@
 -- Which clients are registered, and that the registrations are theirs.
 use Rattle.std.specs.Prelude.{◌≡◌, ℕ, ◌<◌, Bool, true, false, List, Option, Some, None, is_some}
-use Rattle.std.specs.Ordering.{nat_cmp}
-use Rattle.std.specs.BTreeMap.{BTreeMap, get}
+use Rattle.std.specs.{Ordering.nat_cmp, BTreeMap.BTreeMap, BTreeMap.get}
 use Rattle.dist_epmd.specs.Registrations.{Registrations, registered_name}
-use Rattle.dist_epmd_clients.specs.declared.client.Client.{Client}
-use Rattle.dist_epmd_clients.specs.declared.client.Talk.{Talk}
-use Rattle.dist_epmd_clients.specs.declared.client.Talk.TheVariants.{Asking, Registered}
+use Rattle.dist_epmd_clients.specs.declared.client.{Client.Client, Talk.Talk, Talk.TheVariants.Asking, Talk.TheVariants.Registered}
 
 -- whether this is where the talk of a registered client stands
 abbrev pub is_registered_talk : Talk → Bool

@@ -1,12 +1,9 @@
 //! What came on a connection, and what is written on it, where its stream is held.
 
 ghost use Rattle.std.specs.Prelude.{◌≡◌, ◌<◌, IfSome, IfNone, None, length};
-ghost use Rattle.std.specs.Ordering.{nat_cmp};
-ghost use Rattle.std.specs.BTreeMap.{get, IsUnchanged};
+ghost use Rattle.std.specs.{Ordering.nat_cmp, BTreeMap.get, BTreeMap.IsUnchanged};
 ghost use Rattle.dist_stream.specs.Stream.{Reads, Writes};
-ghost use Rattle.dist_epmd_clients.specs.Carrying.{Carries, Moves};
-ghost use Rattle.dist_epmd_clients.specs.Clients.{client_of, next_of, IsSame};
-ghost use Rattle.dist_epmd_clients.specs.Reporting.{journal_of};
+ghost use Rattle.dist_epmd_clients.specs.{Carrying.Carries, Carrying.Moves, Clients.client_of, Clients.next_of, Clients.IsSame, Reporting.journal_of};
 
 use crate::client::Client;
 use crate::holding::Clients;

@@ -1,18 +1,14 @@
 //! All clients of a port mapper, and its registry.
 
-ghost use Rattle.std.specs.Prelude.{◌≡◌, ◌↔◌, ◌+◌, ◌^◌, ◌++◌, ℕ, false, IfOk, IsErrOf, OnOk, OnErr};
-ghost use Rattle.std.specs.Prelude.{[], IfSome, None, Some, IsSome, option_map, option_copied, length, slice_get};
-ghost use Rattle.std.specs.List.{list_any, filter_map};
-ghost use Rattle.std.specs.Ordering.{nat_cmp};
-ghost use Rattle.std.specs.BTreeMap.{get, Updates};
+ghost use Rattle.std.specs.Prelude.{◌≡◌, ◌↔◌, ◌+◌, ◌^◌, ◌++◌, ℕ, false, IfOk, IsErrOf, OnOk, OnErr, [], IfSome, None, Some, IsSome, option_map};
+ghost use Rattle.std.specs.Prelude.{option_copied, length, slice_get};
+ghost use Rattle.std.specs.{List.list_any, List.filter_map, Ordering.nat_cmp, BTreeMap.get, BTreeMap.Updates};
 ghost use Rattle.dist_epmd.specs.Registrations.{opening, after_closed, is_of};
 ghost use Rattle.dist_epmd_clients.specs.Journal.{no_counts, HasEvents, Journals};
-ghost use Rattle.dist_epmd_clients.specs.declared.event.ClientEvent.TheVariants.{NoMemory};
 ghost use Rattle.dist_epmd_clients.specs.Reporting.{asked_event, ended_event, piece_event, question_event, counts_of, events_of, journal_of, most_of};
-ghost use Rattle.dist_epmd_clients.specs.Standing.{asking_since, is_registered};
-ghost use Rattle.dist_epmd_clients.specs.Asking.{question};
 ghost use Rattle.dist_epmd_clients.specs.Replying.{after_piece, asks, leaves, outcome, with_talk};
 ghost use Rattle.dist_epmd_clients.specs.Clients.{registrations_of, client_of, clients_of, next_of, new_client, Becomes, CanLack, Drops, IsKept, IsSame};
+ghost use Rattle.dist_epmd_clients.specs.{declared.event.ClientEvent.TheVariants.NoMemory, Standing.asking_since, Standing.is_registered, Asking.question};
 
 use crate::client::{Client, OpenError, Talk, Turn};
 use crate::counts::Counts;

@@ -1,18 +1,13 @@
 //! Laws of the definitions alone: the pieces in which a request comes do not matter.
 
 ghost use Rattle.std.specs.Prelude.{◌≡◌, ◌≢◌, ℕ, ◌<◌, ◌≤◌, ◌∷◌, ◌++◌, [], Bool, List, None, Some, Ok, length};
-ghost use Rattle.std.specs.Int.{w16};
-ghost use Rattle.std.specs.List.{AllByRecursion, concat};
+ghost use Rattle.std.specs.{Int.w16, List.AllByRecursion, List.concat};
 ghost use Rattle.dist_frames.specs.Stream.{body_frame};
-ghost use Rattle.dist_epmd.specs.Registrations.{Registrations};
 ghost use Rattle.dist_epmd.specs.Layout.{InfoFits, RequestFits, TextsFit, SpellsRequest, request_text};
-ghost use Rattle.dist_epmd.specs.Reading.{info_at, read_request};
-ghost use Rattle.dist_epmd.specs.declared.message.NodeInfo.{NodeInfo};
-ghost use Rattle.dist_epmd.specs.declared.message.Request.{Request};
-ghost use Rattle.dist_epmd.specs.declared.message.Request.TheVariants.{Alive, Names};
+ghost use Rattle.dist_epmd.specs.{Registrations.Registrations, Reading.info_at, Reading.read_request};
+ghost use Rattle.dist_epmd.specs.declared.message.{NodeInfo.NodeInfo, Request.Request, Request.TheVariants.Alive, Request.TheVariants.Names};
 ghost use Rattle.dist_epmd_clients.specs.Asking.{request_question, front, question};
-ghost use Rattle.dist_epmd_clients.specs.Clients.{new_client};
-ghost use Rattle.dist_epmd_clients.specs.Replying.{after_piece, after_pieces};
+ghost use Rattle.dist_epmd_clients.specs.{Clients.new_client, Replying.after_piece, Replying.after_pieces};
 ghost use Rattle.dist_epmd_clients.specs.declared.question.Question.TheVariants.{Inside, Nothing};
 
 /// A body asks for what its front spells. The front of a spelling of a request is the whole. Bytes behind a registration's extra

@@ -1,12 +1,9 @@
 //! What the registry answers to a client that asks.
 
-ghost use Rattle.std.specs.Prelude.{◌≡◌, false, IfOk, OnOk, OnErr, option_copied};
-ghost use Rattle.std.specs.List.{list_any};
+ghost use Rattle.std.specs.{Prelude.◌≡◌, Prelude.false, Prelude.IfOk, Prelude.OnOk, Prelude.OnErr, Prelude.option_copied, List.list_any};
 ghost use Rattle.dist_epmd.specs.Registrations.{after_closed, is_of, registered_name};
 ghost use Rattle.dist_epmd_calls.specs.Serving.{served_as};
-ghost use Rattle.dist_epmd_clients.specs.Replying.{answer_for, registrations_after, text_of};
-ghost use Rattle.dist_epmd_clients.specs.Clients.{Keeps};
-ghost use Rattle.dist_epmd_clients.specs.Standing.{client_name};
+ghost use Rattle.dist_epmd_clients.specs.{Replying.answer_for, Replying.registrations_after, Replying.text_of, Clients.Keeps, Standing.client_name};
 
 use crate::client::{Client, Talk};
 use dist_epmd::{Answer, EpmdError, Registry, Request, encode_answer};

@@ -1,8 +1,7 @@
 //! What the journal hears of what is done.
 
 ghost use Rattle.std.specs.Prelude.{◌≡◌, IfOk};
-ghost use Rattle.dist_epmd_clients.specs.Replying.{name_in};
-ghost use Rattle.dist_epmd_clients.specs.Reporting.{answered_event, registered_event, talk_ended};
+ghost use Rattle.dist_epmd_clients.specs.{Replying.name_in, Reporting.answered_event, Reporting.registered_event, Reporting.talk_ended};
 
 use crate::client::Talk;
 use crate::event::ClientEvent;

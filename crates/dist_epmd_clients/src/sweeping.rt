@@ -1,16 +1,10 @@
 //! Clients that make room, or are late, since they have not asked.
 
 ghost use Rattle.std.specs.Prelude.{◌≡◌, ◌-◌, length, false, not, None, IfSome, slice_get};
-ghost use Rattle.std.specs.List.{filter, filter_map};
-ghost use Rattle.std.specs.Option.{MatchOption, option_map};
-ghost use Rattle.std.specs.Ordering.{nat_cmp};
-ghost use Rattle.std.specs.BTreeMap.{get, IsOrdered};
+ghost use Rattle.std.specs.{List.filter, List.filter_map, Option.MatchOption, Option.option_map, Ordering.nat_cmp, BTreeMap.get, BTreeMap.IsOrdered};
 ghost use Rattle.dist_epmd_clients.specs.Clients.{registrations_of, client_of, clients_of, next_of, Becomes, IsSame};
-ghost use Rattle.dist_epmd_clients.specs.declared.event.ClientEvent.TheVariants.{MadeRoom};
-ghost use Rattle.dist_epmd_clients.specs.Journal.{Journals};
-ghost use Rattle.dist_epmd_clients.specs.Reporting.{journal_of, late_event};
-ghost use Rattle.dist_epmd_clients.specs.Standing.{asking_since, is_registered};
-ghost use Rattle.dist_epmd_clients.specs.Sweeping.{is_late};
+ghost use Rattle.dist_epmd_clients.specs.{declared.event.ClientEvent.TheVariants.MadeRoom, Journal.Journals, Reporting.journal_of, Reporting.late_event};
+ghost use Rattle.dist_epmd_clients.specs.{Standing.asking_since, Standing.is_registered, Sweeping.is_late};
 
 use crate::client::{Client, Talk};
 use crate::event::ClientEvent;

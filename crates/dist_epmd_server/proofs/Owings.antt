@@ -1,8 +1,7 @@
 -- What becomes of what is owed on a connection after one try more.
 use Rattle.std.proofs.Common.{◌≡◌, Bool, true, false, Option, Some, None, refl, subst}
 use Rattle.dist_stream.specs.Stream.{StreamState}
-use Rattle.dist_epmd_server.specs.declared.owed.Owed.{Owed}
-use Rattle.dist_epmd_server.specs.Owing.{AfterTry, Tried, TryMore}
+use Rattle.dist_epmd_server.specs.{declared.owed.Owed.Owed, Owing.AfterTry, Owing.Tried, Owing.TryMore}
 
 -- what is over is owed no longer
 pub is_over : {S : Type 0} (meaning : S → StreamState) (over : Bool) (old mid new : Option (Owed S)) → over ≡ true → Tried meaning over old mid → new ≡ None → AfterTry meaning false old new

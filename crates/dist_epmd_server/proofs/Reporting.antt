@@ -3,8 +3,7 @@ use Rattle.std.proofs.Common.{◌≡◌, ℕ, ◌+◌, ◌-◌, ◌≤◌, List,
 use Rattle.std.proofs.lemmas.List.{take-append-drop}
 use lib.Seq.{drop-drop}
 use Rattle.std.specs.Io.KnownBytes.{append_known}
-use Rattle.dist_stream.proofs.Rooms.{take_more}
-use Rattle.dist_stream.proofs.Talks.{append_known-append}
+use Rattle.dist_stream.proofs.{Rooms.take_more, Talks.append_known-append}
 
 pub sent_on : (before old new : Option (List ℕ)) (text slice : List ℕ) (done count : ℕ) → slice ≡ text → done ≤ length text → new ≡ append_known old (take count (take (length slice - done) (drop done slice))) → old ≡ append_known before (take done text) → new ≡ append_known before (take (done + count) text)
 sent_on before old new text slice done count same within written reported =

@@ -1,8 +1,7 @@
 -- A connection is read whose client is here.
 use Rattle.std.proofs.Common.{Option, Some, None}
 use Rattle.std.specs.Option.{MatchOption}
-use Rattle.dist_epmd_clients.specs.declared.client.Client.{Client}
-use Rattle.dist_epmd_clients.specs.Carrying.{Moved}
+use Rattle.dist_epmd_clients.specs.{declared.client.Client.Client, Carrying.Moved}
 
 -- a client is here that was read from
 pub matched : {S : Type 0} (P : S → S → Type 0) (a b : Option (Client S)) (A B : Type 0) → Moved P a b → B → MatchOption a A (λ client. B)

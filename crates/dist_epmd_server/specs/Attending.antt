@@ -1,14 +1,10 @@
 -- What is done for a connection that is ready.
-use Rattle.std.specs.Prelude.{◌≡◌, ℕ, Bool, true, false}
-use Rattle.std.specs.Option.{MatchOption}
+use Rattle.std.specs.{Prelude.◌≡◌, Prelude.ℕ, Prelude.Bool, Prelude.true, Prelude.false, Option.MatchOption}
 use Rattle.dist_stream.specs.Stream.{StreamState}
-use Rattle.dist_epmd_clients.specs.declared.holding.Clients.{Clients}
-use Rattle.dist_epmd_clients.specs.Clients.{client_of}
-use Rattle.dist_epmd_server.specs.declared.owing.Owing.{Owing}
-use Rattle.dist_epmd_server.specs.declared.turns.ReadStep.{ReadStep}
-use Rattle.dist_epmd_server.specs.declared.turns.ReadStep.TheVariants as step
+use Rattle.dist_epmd_clients.specs.{declared.holding.Clients.Clients, Clients.client_of}
 use Rattle.dist_epmd_server.specs.Owing.{all_owed, owed_to, AfterLeave, AfterTry, OthersOwed}
-use Rattle.dist_epmd_server.specs.Turns.{Chain}
+use Rattle.dist_epmd_server.specs.{declared.owing.Owing.Owing, declared.turns.ReadStep.ReadStep, Turns.Chain}
+use Rattle.dist_epmd_server.specs.declared.turns.ReadStep.TheVariants as step
 
 module _ {S : Type 0} (meaning : S → StreamState) where
   -- WHAT IS OWED AFTER A STEP, and whether the connection is watched again: a client that leaves is sent its text, or the text is owed

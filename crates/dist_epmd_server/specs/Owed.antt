@@ -1,6 +1,5 @@
 -- What is owed to a client that has left: the rest of a text.
-use Rattle.std.specs.Prelude.{◌≡◌, ℕ, List, Option, take, drop}
-use Rattle.std.specs.Io.KnownBytes.{append_known}
+use Rattle.std.specs.{Prelude.◌≡◌, Prelude.ℕ, Prelude.List, Prelude.Option, Prelude.take, Prelude.drop, Io.KnownBytes.append_known}
 use Rattle.dist_stream.specs.Stream.{StreamState}
 use Rattle.dist_epmd_server.specs.declared.owed.Owed.{Owed}
 

@@ -1,13 +1,9 @@
 -- What is owed to all clients that have left.
-use Rattle.std.specs.Prelude.{◌≡◌, ℕ, ◌==◌, ◌||◌, ◌++◌, Bool, true, false, List, Option}
-use Rattle.std.specs.Prelude.{Some, None, length, take, drop, nat_le, if◌then◌else◌}
-use Rattle.std.specs.Io.KnownBytes.{append_known}
-use Rattle.std.specs.Ordering.{nat_cmp}
-use Rattle.std.specs.BTreeMap.{BTreeMap, get, insert_entry, Updates}
+use Rattle.std.specs.Prelude.{◌≡◌, ℕ, ◌==◌, ◌||◌, ◌++◌, Bool, true, false, List, Option, Some, None, length, take, drop, nat_le, if◌then◌else◌}
+use Rattle.std.specs.{Io.KnownBytes.append_known, Ordering.nat_cmp, BTreeMap.BTreeMap, BTreeMap.get, BTreeMap.insert_entry, BTreeMap.Updates}
 use Rattle.dist_stream.specs.Stream.{StreamState}
-use Rattle.dist_epmd_server.specs.declared.owed.Owed.{Owed}
-use Rattle.dist_epmd_server.specs.declared.owing.Owing.{Owing}
 use Rattle.dist_epmd_server.specs.Owed.{stream_of, owed_text, since_of, said_of, left_of, sent_in_all, IsSent}
+use Rattle.dist_epmd_server.specs.declared.{owed.Owed.Owed, owing.Owing.Owing}
 
 module _ {S : Type 0} where
   -- all that is owed, with the numbers of the connections, in the order in which they came

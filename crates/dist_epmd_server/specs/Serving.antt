@@ -2,16 +2,10 @@
 use Rattle.std.specs.Prelude.{◌≡◌, ◌⊎◌, IfSome, ℕ, ◌+◌, Bool, true, false, Option, Some, None, drop, length, nat_lt, slice_get}
 use Rattle.std.specs.List.{filter_map}
 use Rattle.dist_epmd.specs.Registrations.{after_closed}
-use Rattle.dist_stream.specs.Stream.{StreamState}
-use Rattle.dist_stream.specs.declared.socket.SocketStream.{SocketStream}
-use Rattle.dist_epmd_clients.specs.declared.holding.Clients.{Clients}
+use Rattle.dist_stream.specs.{Stream.StreamState, declared.socket.SocketStream.SocketStream}
 use Rattle.dist_epmd_clients.specs.Clients.{registrations_of, clients_of, next_of, new_client, Becomes, IsSame}
-use Rattle.dist_epmd_clients.specs.Journal.{most_in}
-use Rattle.dist_epmd_clients.specs.Standing.{asking_since}
-use Rattle.dist_epmd_server.specs.declared.owing.Owing.{Owing}
-use Rattle.dist_epmd_server.specs.declared.server.Server.{Server}
-use Rattle.dist_epmd_server.specs.Attending.{Attends}
-use Rattle.dist_epmd_server.specs.Owing.{all_owed}
+use Rattle.dist_epmd_clients.specs.{declared.holding.Clients.Clients, Journal.most_in, Standing.asking_since}
+use Rattle.dist_epmd_server.specs.{declared.owing.Owing.Owing, declared.server.Server.Server, Attending.Attends, Owing.all_owed}
 
 -- its clients
 abbrev pub clients_at : Server → Clients SocketStream

@@ -2,18 +2,13 @@
 use Rattle.std.specs.Prelude.{◌≡◌, ◌≢◌, ◌⊎◌, ℕ, ◌==◌, Bool, true, false, List, Option, None, IfSome, take, length}
 use Rattle.std.specs.Option.{MatchOption}
 use Rattle.dist_epmd.specs.Registrations.{Registrations, after_closed}
-use Rattle.dist_stream.specs.Stream.{StreamState, Reads, Writes}
-use Rattle.dist_stream.specs.declared.stream.Heard.{Heard}
+use Rattle.dist_stream.specs.{Stream.StreamState, Stream.Reads, Stream.Writes, declared.stream.Heard.Heard, declared.stream.Took.Took}
 use Rattle.dist_stream.specs.declared.stream.Heard.TheVariants as heard
-use Rattle.dist_stream.specs.declared.stream.Took.{Took}
 use Rattle.dist_stream.specs.declared.stream.Took.TheVariants as took
-use Rattle.dist_epmd_clients.specs.declared.client.Client.{Client}
-use Rattle.dist_epmd_clients.specs.declared.holding.Clients.{Clients}
-use Rattle.dist_epmd_clients.specs.declared.client.Turn.{Turn}
-use Rattle.dist_epmd_clients.specs.declared.client.Turn.TheVariants as turn
-use Rattle.dist_epmd_clients.specs.Carrying.{Carries, Moved}
 use Rattle.dist_epmd_clients.specs.Clients.{registrations_of, client_of, OthersStay, Becomes, CanLack, Drops, IsSame}
-use Rattle.dist_epmd_clients.specs.Replying.{Outcome, after_piece}
+use Rattle.dist_epmd_clients.specs.{Carrying.Carries, Carrying.Moved, Replying.Outcome, Replying.after_piece}
+use Rattle.dist_epmd_clients.specs.declared.{client.Client.Client, holding.Clients.Clients, client.Turn.Turn}
+use Rattle.dist_epmd_clients.specs.declared.client.Turn.TheVariants as turn
 use Rattle.dist_epmd_server.specs.declared.turns.ReadStep.{ReadStep}
 use Rattle.dist_epmd_server.specs.declared.turns.ReadStep.TheVariants as step
 

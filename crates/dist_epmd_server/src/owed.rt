@@ -1,7 +1,6 @@
 //! What is sent on a stream, and what it has not taken yet.
 
-ghost use Rattle.std.specs.Prelude.{◌≡◌, ◌≤◌, ◌||◌, length, take};
-ghost use Rattle.std.specs.Io.KnownBytes.{append_known};
+ghost use Rattle.std.specs.{Prelude.◌≡◌, Prelude.◌≤◌, Prelude.◌||◌, Prelude.length, Prelude.take, Io.KnownBytes.append_known};
 
 use dist_names::ByteString;
 use dist_stream::{Stream, Took};

@@ -1,9 +1,7 @@
 //! What is owed to all clients that have left.
 
-ghost use Rattle.std.specs.Prelude.{◌≡◌, ◌-◌, [], not, IfSome, IfNone, None, length, drop};
-ghost use Rattle.std.specs.Prelude.{filter, nat_le, nat_lt, option_copied, option_map};
-ghost use Rattle.std.specs.Ordering.{nat_cmp};
-ghost use Rattle.std.specs.BTreeMap.{get, IsUnchanged};
+ghost use Rattle.std.specs.Prelude.{◌≡◌, ◌-◌, [], not, IfSome, IfNone, None, length, drop, filter, nat_le, nat_lt, option_copied, option_map};
+ghost use Rattle.std.specs.{Ordering.nat_cmp, BTreeMap.get, BTreeMap.IsUnchanged};
 ghost use Rattle.dist_epmd_server.specs.Owed.{stream_of, since_of};
 ghost use Rattle.dist_epmd_server.specs.Owing.{all_owed, but_oldest, owed_to, AfterLeave, AfterTry, FirstTry, OthersOwed, TriedIn, TryMore};
 

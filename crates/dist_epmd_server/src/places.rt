@@ -2,8 +2,7 @@
 
 ghost use Rattle.std.specs.Prelude.{◌+◌, nat_lt, length};
 ghost use Rattle.dist_epmd_clients.specs.Clients.{clients_of};
-ghost use Rattle.dist_epmd_server.specs.Owing.{all_owed};
-ghost use Rattle.dist_epmd_server.specs.Serving.{oldest_of, FindsPlace, MakesRoom, TakesIn};
+ghost use Rattle.dist_epmd_server.specs.{Owing.all_owed, Serving.oldest_of, Serving.FindsPlace, Serving.MakesRoom, Serving.TakesIn};
 
 use crate::owing::Owing;
 use dist_epmd_clients::Clients;

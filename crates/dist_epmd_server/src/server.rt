@@ -1,14 +1,10 @@
 //! The sockets of a port mapper and their clients.
 
 ghost use Rattle.std.specs.Prelude.{[], length, ◌≡◌, ◌<◌, ◌≤◌, ◌-◌, not, filter, nat_le, OnOk, OnErr};
-ghost use Rattle.dist_epmd_clients.specs.Clients.{registrations_of, clients_of, IsSame};
-ghost use Rattle.dist_epmd_clients.specs.Journal.{HasEvents};
-ghost use Rattle.dist_epmd_clients.specs.Reporting.{counts_of, events_of, journal_of};
-ghost use Rattle.dist_epmd_clients.specs.Sweeping.{is_late};
-ghost use Rattle.dist_epmd_server.specs.Attending.{Attends};
-ghost use Rattle.dist_epmd_server.specs.Owed.{since_of};
-ghost use Rattle.dist_epmd_server.specs.Owing.{all_owed};
+ghost use Rattle.dist_epmd_clients.specs.{Clients.registrations_of, Clients.clients_of, Clients.IsSame, Journal.HasEvents, Reporting.counts_of};
+ghost use Rattle.dist_epmd_clients.specs.{Reporting.events_of, Reporting.journal_of, Sweeping.is_late};
 ghost use Rattle.dist_epmd_server.specs.Serving.{clients_at, owing_at, most_events, most_of, seconds_of, swept_at, ComesTo};
+ghost use Rattle.dist_epmd_server.specs.{Attending.Attends, Owed.since_of, Owing.all_owed};
 
 use crate::attending::attend;
 use crate::owing::Owing;

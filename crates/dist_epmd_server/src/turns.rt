@@ -2,12 +2,11 @@
 
 ghost use Rattle.std.specs.Prelude.{◌≡◌, ◌<◌, ◌≤◌, true, false, IfSome, None, length};
 ghost use Rattle.dist_epmd.specs.Registrations.{after_closed};
-ghost use Rattle.dist_epmd_clients.specs.Carrying.{Carries};
 ghost use Rattle.dist_epmd_clients.specs.Clients.{registrations_of, client_of, Becomes, OthersStay};
-ghost use Rattle.dist_epmd_clients.specs.Replying.{after_piece};
+ghost use Rattle.dist_epmd_clients.specs.{Carrying.Carries, Replying.after_piece};
 ghost use Rattle.dist_epmd_server.specs.declared.turns.ReadStep.TheVariants.{Closed};
-ghost use Rattle.dist_stream.specs.Stream.{heard_count};
 ghost use Rattle.dist_epmd_server.specs.Turns.{Chain, CutShort, Follows, FollowsRead, HasLeft, SaidWhole, TurnsAny};
+ghost use Rattle.dist_stream.specs.Stream.{heard_count};
 
 use dist_epmd_clients::{Clients, Turn};
 use dist_names::ByteString;

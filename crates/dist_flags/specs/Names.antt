@@ -1,7 +1,6 @@
 -- The flags by name, and the bit of each (dist.hrl of the application kernel).
 use Rattle.std.specs.Prelude.{ℕ, ◌==◌, ◌^◌, Bool, List, [], ◌∷◌, Option, codes}
-use Rattle.std.specs.List.{find}
-use Rattle.std.specs.Cmp.Lexicographic.{pointwise}
+use Rattle.std.specs.{List.find, Cmp.Lexicographic.pointwise}
 use Rattle.dist_flags.specs.declared.dflag.Dflag.{Dflag}
 use Rattle.dist_flags.specs.declared.dflag.Dflag.TheVariants as flag
 

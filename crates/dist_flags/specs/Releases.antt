@@ -2,11 +2,9 @@
 -- application kernel, and erts_internal:get_dflags/0, in OTP 23, 25, 27 and 29).
 use Rattle.std.specs.Prelude.{ℕ, ◌-◌, ◌^◌, ◌==◌, Bool, false, not, bit_and, bit_or, List, [], ◌∷◌, Option, Some, None, if◌then◌else◌}
 use Rattle.std.specs.List.{find, list_all}
-use Rattle.dist_names.specs.Flags.{has_all}
-use Rattle.dist_names.specs.declared.flags.Flags.{Flags}
-use Rattle.dist_flags.specs.declared.release.Release.{Release}
+use Rattle.dist_names.specs.{Flags.has_all, declared.flags.Flags.Flags}
+use Rattle.dist_flags.specs.declared.release.{Release.Release, ReleaseShown.ReleaseShown}
 use Rattle.dist_flags.specs.declared.release.Release.TheVariants as release
-use Rattle.dist_flags.specs.declared.release.ReleaseShown.{ReleaseShown}
 use Rattle.dist_flags.specs.declared.release.ReleaseShown.TheVariants as shown
 
 -- what OTP 25 requires: EXTENDED_REFERENCES, FUN_TAGS, NEW_FUN_TAGS, EXTENDED_PIDS_PORTS, EXPORT_PTR_TAG, BIT_BINARIES,

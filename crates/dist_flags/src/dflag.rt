@@ -1,9 +1,7 @@
 //! The flags by name.
 
-ghost use Rattle.std.specs.Prelude.{◌≡◌, ◌^◌, ◌<◌, IfSome, Some};
-ghost use Rattle.std.specs.List.{find};
-ghost use Rattle.dist_flags.specs.declared.dflag.Dflag.{Dflag};
-ghost use Rattle.dist_flags.specs.Names.{all_flags, bit_of, flag_of, name_of, has_name};
+ghost use Rattle.std.specs.{Prelude.◌≡◌, Prelude.◌^◌, Prelude.◌<◌, Prelude.IfSome, Prelude.Some, List.find};
+ghost use Rattle.dist_flags.specs.{declared.dflag.Dflag.Dflag, Names.all_flags, Names.bit_of, Names.flag_of, Names.name_of, Names.has_name};
 
 use dist_names::Flags;
 

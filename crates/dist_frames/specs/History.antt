@@ -1,7 +1,6 @@
 -- The calls of a reader so far, and what it returned.
 use Rattle.std.specs.Prelude.{◌≡◌, ℕ, ◌-◌, List, [], ◌∷◌, ◌++◌, length, drop, option_to_list}
-use Rattle.std.specs.List.{flat_map, AllByRecursion}
-use Rattle.std.specs.Int.{w16}
+use Rattle.std.specs.{List.flat_map, List.AllByRecursion, Int.w16}
 pub use Rattle.dist_names.specs.Bytes.{IsBytes}
 use Rattle.dist_frames.specs.Stream.{body_frame, FitsWidth, bodies, packets, partial}
 use Rattle.dist_frames.specs.Reader.{Reader, Short, Linked, capped_count, with_bytes, next_body, without_next, as_linked, without_count}

@@ -3,8 +3,7 @@
 use Rattle.std.specs.Prelude.{◌≡◌, ℕ, ◌+◌, ◌≤◌, Bool, ◌&&◌, nat_le, nat_lt, List, [], ◌∷◌, ◌++◌, length, take, drop}
 use Rattle.std.specs.Prelude.{Option, Some, None, Result, Ok, Err, if◌then◌else◌}
 use Rattle.std.specs.Int.{w32}
-use Rattle.dist_frames.specs.Stream.{head, first_body, after_first, split_bodies}
-use Rattle.dist_frames.specs.declared.packet_error.PacketError.{PacketError}
+use Rattle.dist_frames.specs.{Stream.head, Stream.first_body, Stream.after_first, Stream.split_bodies, declared.packet_error.PacketError.PacketError}
 use Rattle.dist_frames.specs.declared.packet_error.PacketError.TheVariants as error
 
 -- a reader of packets

@@ -1,6 +1,5 @@
 -- What the stages of a reader mean.
-use Rattle.dist_frames.specs.Reader.{Reader, Short, Linked}
-use Rattle.dist_frames.specs.declared.frames.ReadStage.{ReadStage}
+use Rattle.dist_frames.specs.{Reader.Reader, Reader.Short, Reader.Linked, declared.frames.ReadStage.ReadStage}
 use Rattle.dist_frames.specs.declared.frames.ReadStage.TheVariants as stage
 
 -- the reader at a stage

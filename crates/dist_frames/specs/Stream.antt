@@ -1,9 +1,8 @@
 -- Streams of bodies, each behind its length: short frames with a length of 2 bytes (ERTS User's Guide, Distribution
 -- Handshake), packets of a linked stream with a length of 4 bytes (Protocol between Connected Nodes).
-use Rattle.std.specs.Prelude.{◌≡◌, ℕ, zero, suc, ◌-◌, ◌*◌, ◌^◌, ◌<◌, Bool, ◌&&◌, List, [], ◌∷◌, ◌++◌, length, take, drop}
-use Rattle.std.specs.Prelude.{Option, Some, None, nat_le, if◌then◌else◌}
-use Rattle.std.specs.List.{flat_map, AllByRecursion}
-use Rattle.std.specs.Int.{Width, w16, w32, byte_len, from_be_bytes}
+use Rattle.std.specs.Prelude.{◌≡◌, ℕ, zero, suc, ◌-◌, ◌*◌, ◌^◌, ◌<◌, Bool, ◌&&◌, List, [], ◌∷◌, ◌++◌, length, take, drop, Option, Some, None, nat_le}
+use Rattle.std.specs.Prelude.{if◌then◌else◌}
+use Rattle.std.specs.{List.flat_map, List.AllByRecursion, Int.Width, Int.w16, Int.w32, Int.byte_len, Int.from_be_bytes}
 pub use Rattle.dist_names.specs.Bytes.{number}
 
 -- ---- what a stream is

@@ -2,15 +2,12 @@
 //! quarter is a fourth of it). Each law is a function that does nothing, and whose contract is the law.
 
 ghost use Rattle.std.specs.Prelude.{◌≡◌, ◌≢◌, ◌+◌, ◌<◌, ◌≤◌, ◌*◌, ◌++◌, ◌∷◌, ℕ, List};
-ghost use Rattle.std.specs.List.{flat_map, AllByRecursion};
-ghost use Rattle.std.specs.Int.{w32};
-ghost use Rattle.dist_frames.specs.Stream.{body_frame};
-ghost use Rattle.dist_names.specs.Bytes.{IsBytes};
-ghost use Rattle.dist_frames.specs.LinkReading.{packets_within, to_come};
+ghost use Rattle.std.specs.{List.flat_map, List.AllByRecursion, Int.w32};
 ghost use Rattle.dist_frames.specs.LinkHistory.{Call, FeedBytes, opening, after_all};
 ghost use Rattle.dist_frames.specs.Ticking.{Act, Ticking, after_acts, due_at, WasHeardBefore, WasSaidBefore};
-ghost use Rattle.dist_frames.specs.Ticking.Act.{Heard, Said};
+ghost use Rattle.dist_frames.specs.{Stream.body_frame, LinkReading.packets_within, LinkReading.to_come, Ticking.Act.Heard, Ticking.Act.Said};
 ghost use Rattle.dist_frames.specs.declared.ticker.Due.TheVariants as due;
+ghost use Rattle.dist_names.specs.Bytes.{IsBytes};
 
 /// What holds after any calls of a reader, in whatever pieces the stream came, and with whatever bytes it began.
 pub fn packets_in_any_pieces()

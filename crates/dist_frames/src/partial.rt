@@ -4,9 +4,7 @@
 
 ghost use Rattle.std.specs.Prelude.{◌≡◌, ℕ, ◌+◌, ◌<◌, ◌≤◌, ◌==◌, ◌++◌, [], length, take, drop, if◌then◌else◌};
 ghost use Rattle.std.specs.Int.{w32, to_be_bytes};
-ghost use Rattle.dist_frames.specs.Stream.{body_frame, packets, partial};
-ghost use Rattle.dist_frames.specs.Reader.{capped_count};
-ghost use Rattle.dist_frames.specs.Kept.{kept_of};
+ghost use Rattle.dist_frames.specs.{Stream.body_frame, Stream.packets, Stream.partial, Reader.capped_count, Kept.kept_of};
 
 use std::marker::Model;
 

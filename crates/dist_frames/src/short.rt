@@ -3,8 +3,7 @@
 
 ghost use Rattle.std.specs.Prelude.{◌≡◌, ◌↔◌, ◌≤◌, ◌^◌, length, option_copied, IfOk, IsErrOf};
 ghost use Rattle.std.specs.Int.{w16};
-ghost use Rattle.dist_frames.specs.Stream.{body_frame, first_body};
-ghost use Rattle.dist_frames.specs.Kept.{frame_len};
+ghost use Rattle.dist_frames.specs.{Stream.body_frame, Stream.first_body, Kept.frame_len};
 
 use crate::frame_error::FrameError;
 use std::alloc::Global;

@@ -1,7 +1,6 @@
 //! Short frames that wait to be read.
 
-ghost use Rattle.std.specs.Prelude.{◌≡◌, ◌++◌, [], option_copied, OnOk, OnErr};
-ghost use Rattle.std.specs.Int.{w16};
+ghost use Rattle.std.specs.{Prelude.◌≡◌, Prelude.◌++◌, Prelude.[], Prelude.option_copied, Prelude.OnOk, Prelude.OnErr, Int.w16};
 ghost use Rattle.dist_frames.specs.Stream.{first_body, after_first};
 
 use crate::byte_queue::ByteQueue;

@@ -1,17 +1,11 @@
 -- The desk of a seat.
 use Rattle.std.specs.Prelude.{◌≡◌, ◌≢◌, ◌⊎◌, ℕ, List, [], ◌∷◌, Option, Some, None, slice_get}
 use Rattle.dist_peers.specs.declared.entry.EndId.{EndId}
-use Rattle.dist_core.specs.declared.event.Event.{Event}
-use Rattle.dist_core_ends.specs.declared.phase.Still.{Still}
-use Rattle.dist_core_ends.specs.Ends.{still_of}
-use Rattle.dist_core_ends.specs.declared.why.Why.{Why}
-use Rattle.dist_core.specs.declared.step_error.StepError.{StepError}
+use Rattle.dist_core.specs.{declared.event.Event.Event, declared.step_error.StepError.StepError, Clauses.end_of, Losses.cause_of_loss}
 use Rattle.dist_core.specs.declared.step_error.StepError.TheVariants as error
-use Rattle.dist_core.specs.Clauses.{end_of}
-use Rattle.dist_core.specs.Losses.{cause_of_loss}
+use Rattle.dist_core_ends.specs.{declared.phase.Still.Still, Ends.still_of, declared.why.Why.Why}
 use Rattle.dist_drive.specs.Desks.{Step, DeskFacts}
-use Rattle.dist_locked_book.specs.declared.seat.Receipt.{Receipt}
-use Rattle.dist_locked_book.specs.History.{BookState, SeatState, IsLegal, IsRefused}
+use Rattle.dist_locked_book.specs.{declared.seat.Receipt.Receipt, History.BookState, History.SeatState, History.IsLegal, History.IsRefused}
 
 -- the step of a receipt
 abbrev pub entry_of : Receipt → Step

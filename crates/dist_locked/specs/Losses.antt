@@ -1,13 +1,11 @@
 -- What is done with an end that its driver left open.
 use Rattle.std.specs.Prelude.{◌≡◌, ◌≢◌, ◌⊎◌, Bool, true, false, List, [], ◌∷◌, ◌++◌}
 use Rattle.dist_peers.specs.declared.entry.EndId.{EndId}
-use Rattle.dist_core_ends.specs.declared.why.Why.{Why}
-use Rattle.dist_core_ends.specs.declared.phase.Still.{Still}
+use Rattle.dist_core_ends.specs.declared.{why.Why.Why, phase.Still.Still}
 use Rattle.dist_core_ends.specs.declared.phase.Still.TheVariants as still
 use Rattle.dist_core.specs.declared.event.Event.TheVariants as event
 use Rattle.dist_core.specs.declared.step_error.StepError.{StepError}
-use Rattle.dist_locked_book.specs.declared.seat.Receipt.{Receipt}
-use Rattle.dist_locked_book.specs.History.{IsRefused}
+use Rattle.dist_locked_book.specs.{declared.seat.Receipt.Receipt, History.IsRefused}
 use Rattle.dist_locked.specs.Desks.{IsStill}
 
 -- A loss with this cause is one receipt more, or some node with a legal history refuses it.

@@ -1,10 +1,7 @@
 -- What contracts see of the queue of orders and of its passes.
 use Rattle.std.specs.Prelude.{ℕ, Bool, true, false, List, [], if◌then◌else◌}
 use Rattle.atomic_table.specs.Seated.{TableId}
-use Rattle.dist_locked.specs.declared.rule.DialOrder.{DialOrder}
-use Rattle.dist_locked.specs.declared.rule.View.{View}
-use Rattle.dist_locked.specs.Orders.{Taken}
-use Rattle.dist_locked.specs.Rule.{knows}
+use Rattle.dist_locked.specs.{declared.rule.DialOrder.DialOrder, declared.rule.View.View, Orders.Taken, Rule.knows}
 
 -- which queue it is, and how many orders it holds at most
 pub record OrdersState : Type 0 where

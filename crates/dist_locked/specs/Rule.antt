@@ -2,9 +2,7 @@
 use Rattle.std.specs.Prelude.{◌≡◌, ℕ, Bool, true, false, ◌||◌, if◌then◌else◌, List, [], ◌∷◌, ◌++◌, drop}
 use mathlib.Core.Option.{some}
 use lib.ListN.{get_elem?}
-use Rattle.dist_locked.specs.declared.rule.DialOrder.{DialOrder}
-use Rattle.dist_locked.specs.declared.rule.View.{View}
-use Rattle.dist_locked.specs.Orders.{Taken, AreInTurn}
+use Rattle.dist_locked.specs.{declared.rule.DialOrder.DialOrder, declared.rule.View.View, Orders.Taken, Orders.AreInTurn}
 
 -- a pass that knows the lists it is marked for
 abbrev pub knows : Bool → Bool → Bool → List DialOrder → List Taken → List Taken → View

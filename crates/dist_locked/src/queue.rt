@@ -1,5 +1,4 @@
-ghost use Rattle.std.specs.Prelude.{◌≡◌, ◌≢◌, ◌<◌, ◌≤◌, ◌∷◌, [], ◌++◌};
-ghost use Rattle.std.specs.Prelude.{length, true, false, IfOk, IfErr, IfSome, IfNone, OnOk, OnErr};
+ghost use Rattle.std.specs.Prelude.{◌≡◌, ◌≢◌, ◌<◌, ◌≤◌, ◌∷◌, [], ◌++◌, length, true, false, IfOk, IfErr, IfSome, IfNone, OnOk, OnErr};
 ghost use Rattle.dist_locked.specs.Orders.{TakesOne, AreLeft};
 
 use super::rule::{CutsFirst, CutsSecond, DialOrder, Gathers, InTurn, Puts, Settles, Takes, View};

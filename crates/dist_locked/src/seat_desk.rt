@@ -1,10 +1,7 @@
 ghost use Rattle.std.specs.Prelude.{◌≡◌, ◌≢◌, ◌<◌, ◌≤◌, ℕ, List, ◌∷◌, [], ◌++◌, length, ◌+◌, map, IsTrue};
 ghost use Rattle.std.specs.Prelude.{vec_len, vec_capacity, false, Some, None, Ok, Err, IfOk, IfErr, OnOk, OnErr, option_copied};
-ghost use Rattle.dist_core.specs.declared.event.Event.{Event};
-ghost use Rattle.dist_core.specs.declared.reply.Reply.{Reply};
 ghost use Rattle.dist_core.specs.Losses.{is_loss, IsGone};
-ghost use Rattle.dist_core.specs.Clauses.{end_of};
-ghost use Rattle.dist_core.specs.declared.step_error.StepError.{StepError};
+ghost use Rattle.dist_core.specs.{declared.event.Event.Event, declared.reply.Reply.Reply, Clauses.end_of, declared.step_error.StepError.StepError};
 ghost use Rattle.dist_locked_book.specs.declared.seat.Receipt.{Receipt};
 ghost use Rattle.dist_drive.specs.Desks.{last_reply};
 ghost use Rattle.dist_locked.specs.Desks.{entry_of, causes, seat_facts};

@@ -1,8 +1,6 @@
 -- Whether all seats are there, with all their receipts.
 use Rattle.std.specs.Prelude.{◌≡◌, ℕ, ◌+◌, ◌<◌, ◌==◌, List, [], ◌∷◌, if◌then◌else◌, All, count_by}
-use Rattle.dist_locked_book.specs.declared.line.Line.{Line}
-use Rattle.dist_locked_book.specs.declared.seat.Receipt.{Receipt}
-use Rattle.dist_locked_book.specs.History.{SeatState}
+use Rattle.dist_locked_book.specs.{declared.line.Line.Line, declared.seat.Receipt.Receipt, History.SeatState}
 
 -- the seats have the numbers below n, each once
 abbrev pub AreAll : ℕ → List SeatState → Type 0

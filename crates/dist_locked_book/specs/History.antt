@@ -1,14 +1,8 @@
 -- Histories of a node, and the receipts of their lines.
 use Rattle.std.specs.Prelude.{◌≡◌, ℕ, ◌<◌, List, [], ◌∷◌, length, Bool, false, Some, Ok, slice_get}
-use Rattle.dist_core.specs.declared.event.Event.{Event}
-use Rattle.dist_core.specs.declared.step_error.StepError.{StepError}
-use Rattle.dist_core.specs.Answers.{Refuses}
-use Rattle.dist_core.specs.Losses.{is_loss}
-use Rattle.dist_core.specs.Node.{NodeState}
-use Rattle.dist_core.specs.Runs.{opening}
-use Rattle.dist_core.specs.Step.{step}
-use Rattle.dist_locked_book.specs.declared.line.Line.{Line}
-use Rattle.dist_locked_book.specs.declared.seat.Receipt.{Receipt}
+use Rattle.dist_core.specs.{Answers.Refuses, Losses.is_loss, Node.NodeState, Runs.opening, Step.step}
+use Rattle.dist_core.specs.declared.{event.Event.Event, step_error.StepError.StepError}
+use Rattle.dist_locked_book.specs.declared.{line.Line.Line, seat.Receipt.Receipt}
 
 -- the lines are the steps of a node from n to m, each with the reply that the node gives there
 abbrev pub IsReplay : NodeState → List Line → NodeState → Type 0

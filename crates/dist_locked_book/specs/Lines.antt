@@ -1,14 +1,9 @@
 -- Lines that several holders share.
 use Rattle.std.specs.Arc.{arc_value}
-use Rattle.dist_core.specs.declared.event.Event.{Event}
+use Rattle.dist_core.specs.{declared.event.Event.Event, declared.reply.Reply.Reply, Clauses.loss_reply, Clauses.silent_reply}
 use Rattle.dist_core.specs.declared.event.Event.TheVariants as event
-use Rattle.dist_core.specs.declared.reply.Reply.{Reply}
-use Rattle.dist_core.specs.Clauses.{loss_reply, silent_reply}
-use Rattle.dist_locked_book.specs.declared.line.Line.{Line}
-use Rattle.dist_locked_book.specs.declared.shared_line.LineNumbers.{LineNumbers}
-use Rattle.dist_locked_book.specs.declared.shared_line.Kept.{Kept}
+use Rattle.dist_locked_book.specs.declared.{line.Line.Line, shared_line.LineNumbers.LineNumbers, shared_line.Kept.Kept, shared_line.LineView.LineView}
 use Rattle.dist_locked_book.specs.declared.shared_line.Kept.TheVariants as kept
-use Rattle.dist_locked_book.specs.declared.shared_line.LineView.{LineView}
 use Rattle.dist_locked_book.specs.declared.shared_line.LineView.TheVariants as view
 
 -- the line of this entry, with this event and this reply

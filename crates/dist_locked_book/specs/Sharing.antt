@@ -1,10 +1,7 @@
 -- What is made of a step's reply: its line for all holders that share it, and a copy.
 use Rattle.std.specs.Prelude.{◌≡◌}
-use Rattle.dist_core.specs.declared.event.Event.{Event}
-use Rattle.dist_core.specs.declared.reply.Reply.{Reply}
-use Rattle.dist_locked_book.specs.Lines.{line_with}
-use Rattle.dist_locked_book.specs.declared.shared_line.LineNumbers.{LineNumbers}
-use Rattle.dist_locked_book.specs.declared.sharing.LineCopies.{LineCopies}
+use Rattle.dist_core.specs.declared.{event.Event.Event, reply.Reply.Reply}
+use Rattle.dist_locked_book.specs.{Lines.line_with, declared.shared_line.LineNumbers.LineNumbers, declared.sharing.LineCopies.LineCopies}
 
 -- the line of this entry, with this event and this reply, three times, and the reply itself
 abbrev pub AreLines : LineNumbers → Event → Reply → LineCopies → Type 0

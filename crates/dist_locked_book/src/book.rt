@@ -1,15 +1,9 @@
 ghost use Rattle.std.specs.Prelude.{◌≡◌, ◌≢◌, ◌<◌, ◌+◌, ◌≤◌, ◌∷◌, [], ◌++◌, length, vec_len, vec_capacity, true, false, MatchBool, IsTrue};
 ghost use Rattle.std.specs.Prelude.{Ok, Err, IfOk, IfErr, OnOk, OnErr, IsOk, Some, None, slice_get};
-ghost use Rattle.dist_core_ends.specs.declared.known.End.{End};
+ghost use Rattle.dist_core_ends.specs.{declared.known.End.End, Ends.is_open};
+ghost use Rattle.dist_core.specs.{Losses.is_loss, Losses.IsGone, Runs.opening, Step.step, Answers.Refuses, Clauses.loss_reply, Clauses.silent_reply};
 ghost use Rattle.dist_core.specs.declared.event.Event.TheVariants as Event;
-ghost use Rattle.dist_core.specs.Losses.{is_loss, IsGone};
-ghost use Rattle.dist_core.specs.Runs.{opening};
-ghost use Rattle.dist_core.specs.Step.{step};
-ghost use Rattle.dist_core.specs.Answers.{Refuses};
-ghost use Rattle.dist_core.specs.Clauses.{loss_reply, silent_reply};
-ghost use Rattle.dist_core_ends.specs.Ends.{is_open};
-ghost use Rattle.dist_locked_book.specs.History.{IsAnswered, IsLegal, IsReplay, ends_in_loss};
-ghost use Rattle.dist_locked_book.specs.Sharing.{AreLines};
+ghost use Rattle.dist_locked_book.specs.{History.IsAnswered, History.IsLegal, History.IsReplay, History.ends_in_loss, Sharing.AreLines};
 
 use super::seat::{Receipt, Seat};
 use super::shared_line::{LineNumbers, SharedLine, quiet};

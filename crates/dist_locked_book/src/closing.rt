@@ -1,7 +1,6 @@
 ghost use Rattle.std.specs.Prelude.{◌≡◌, ◌↔◌, ◌<◌, ◌==◌, ℕ, All, count_by, Ok, Err, IfOk, IfErr, OnOk, IsTrue};
 ghost use Rattle.dist_core.specs.Runs.{opening};
-ghost use Rattle.dist_locked_book.specs.History.{IsReplay};
-ghost use Rattle.dist_locked_book.specs.Closing.{AreAll, AreKept, receipts_of};
+ghost use Rattle.dist_locked_book.specs.{History.IsReplay, Closing.AreAll, Closing.AreKept, Closing.receipts_of};
 
 use super::book::Book;
 use super::seat::Seat;

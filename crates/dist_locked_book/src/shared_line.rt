@@ -1,6 +1,5 @@
 //! Lines that several holders share.
-ghost use Rattle.std.specs.Prelude.{◌≡◌, ◌↔◌, [], Some, None, IfOk, IsTrue};
-ghost use Rattle.std.specs.Arc.{arc_value};
+ghost use Rattle.std.specs.{Prelude.◌≡◌, Prelude.◌↔◌, Prelude.[], Prelude.Some, Prelude.None, Prelude.IfOk, Prelude.IsTrue, Arc.arc_value};
 ghost use Rattle.dist_core.specs.declared.event.Event.TheVariants as Event;
 ghost use Rattle.dist_core.specs.Clauses.{loss_reply, silent_reply};
 ghost use Rattle.dist_locked_book.specs.Lines.{line_in, line_with};

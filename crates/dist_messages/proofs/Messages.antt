@@ -2,16 +2,16 @@
 use Rattle.dist_messages.proofs.Words.{◌≡◌, ℕ, true, false, eqb, List, [], ◌∷◌, IfSome, IfOk, IsTrue, ◌==◌, Some, None, Ok, Err, Option, Result, sym, refl, ap}
 use Rattle.dist_messages.proofs.Words.{◌∙◌, subst, eqb-true, and_parts, eqb-false, pointwise, same_text, IsBytes, IsBytes-rest, found-passes, Fits, Spells}
 use Rattle.dist_messages.proofs.Words.{is_said_by, text_of, Message, Side, Acceptor, Dialler, Status, MessageError}
-use Rattle.dist_messages.specs.{Answer.Answers, Causes.status_tag, Views.has_name}
-use Rattle.dist_messages.specs.Reading.{read, has_text, all_statuses, status_named, status_of, status_message, has_name_tag}
-use Rattle.dist_messages.specs.declared.message.Message.TheVariants as message
-use Rattle.dist_messages.specs.declared.message.Status.TheVariants as status
-use Rattle.dist_messages.specs.declared.message_error.MessageError.TheVariants as errors
 use Rattle.dist_messages.proofs.Bodies.{Reads, ok_is, old_name_again, new_name_again, old_challenge_again, new_challenge_again, complement_again, reply_again}
 use Rattle.dist_messages.proofs.Bodies.{ack_again, old_name_takes, new_name_takes, old_challenge_takes, new_challenge_takes, complement_takes, reply_takes}
 use Rattle.dist_messages.proofs.Bodies.{ack_takes}
 use Rattle.dist_messages.proofs.Readers.{Read, IsReader, old_name_reader, new_name_reader, old_challenge_reader, new_challenge_reader, complement_reader}
 use Rattle.dist_messages.proofs.Readers.{reply_reader, ack_reader}
+use Rattle.dist_messages.specs.{Answer.Answers, Causes.status_tag, Views.has_name}
+use Rattle.dist_messages.specs.Reading.{read, has_text, all_statuses, status_named, status_of, status_message, has_name_tag}
+use Rattle.dist_messages.specs.declared.message.Message.TheVariants as message
+use Rattle.dist_messages.specs.declared.message.Status.TheVariants as status
+use Rattle.dist_messages.specs.declared.message_error.MessageError.TheVariants as errors
 
 -- ---- a body that spells a message is read as it
 

@@ -2,14 +2,14 @@
 use Rattle.dist_messages.proofs.Words.{◌≡◌, ℕ, ◌<◌, ◌≤◌, ◌↔◌, List, [], ◌∷◌, ◌++◌, IfSome, IfErr, IsOk, Some, None, Ok, Err, Option, Result, sym, refl, ap, ◌∙◌}
 use Rattle.dist_messages.proofs.Words.{subst, inl, inr, arith, IsBytes, IsBytes-append, IsBytes-front, text_of, Message, Side, Acceptor, Dialler, Status}
 use Rattle.dist_messages.proofs.Words.{MessageError}
+use Rattle.dist_messages.proofs.Messages.{HasText, behind, Row, Fields, Text, Nothing, row_of, refused, never_both, read_of_text, status_found, spelled_is_read}
+use Rattle.dist_messages.proofs.Messages.{read_is_spelled, status_again}
+use Rattle.dist_messages.proofs.Readers.{IsReader, stage}
 use Rattle.dist_messages.specs.{Answer.Answers, Reading.read, Reading.status_of, Reading.status_message}
 use Rattle.dist_messages.specs.Causes.{IsMessage, HasUnknownTag, IsShort, IsLong, HasUnknownStatus, IsCause, status_tag}
 use Rattle.dist_messages.specs.declared.message.Message.TheVariants as message
 use Rattle.dist_messages.specs.declared.message.Status.TheVariants as status
 use Rattle.dist_messages.specs.declared.message_error.MessageError.TheVariants as errors
-use Rattle.dist_messages.proofs.Messages.{HasText, behind, Row, Fields, Text, Nothing, row_of, refused, never_both, read_of_text, status_found, spelled_is_read}
-use Rattle.dist_messages.proofs.Messages.{read_is_spelled, status_again}
-use Rattle.dist_messages.proofs.Readers.{IsReader, stage}
 
 -- ---- messages and refusals
 

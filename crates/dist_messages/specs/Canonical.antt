@@ -1,13 +1,10 @@
 -- The one spelling that is written: version 5 in the old forms, and no bytes after a name.
 use Rattle.std.specs.Prelude.{ℕ, List, ◌∷◌, ◌++◌, length, Result, Ok, Err, nat_lt, if◌then◌else◌}
 use Rattle.std.specs.Int.{w16, w32, w64, to_be_bytes}
-use Rattle.dist_messages.specs.declared.message.Side.{Side}
-use Rattle.dist_messages.specs.declared.message.Side.TheVariants.{Dialler, Acceptor}
-use Rattle.dist_messages.specs.declared.message.Message.{Message}
+use Rattle.dist_messages.specs.{declared.message.Side.Side, declared.message.Side.TheVariants.Dialler, declared.message.Side.TheVariants.Acceptor}
+use Rattle.dist_messages.specs.{declared.message.Message.Message, declared.message_error.MessageError.MessageError, Spelling.text_of, Spelling.is_said_by}
 use Rattle.dist_messages.specs.declared.message.Message.TheVariants as message
-use Rattle.dist_messages.specs.declared.message_error.MessageError.{MessageError}
 use Rattle.dist_messages.specs.declared.message_error.MessageError.TheVariants as errors
-use Rattle.dist_messages.specs.Spelling.{text_of, is_said_by}
 
 -- the version that is written
 abbrev pub written_version : ℕ

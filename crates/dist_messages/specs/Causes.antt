@@ -1,12 +1,9 @@
 -- Why a body of a side is not a message, in the words of the layouts.
 use Rattle.std.specs.Prelude.{◌≡◌, ℕ, List, [], ◌∷◌, ◌++◌, IsTrue}
 use Rattle.dist_names.specs.Bytes.{IsBytes}
-use Rattle.dist_messages.specs.declared.message.Side.{Side}
-use Rattle.dist_messages.specs.declared.message.Status.{Status}
-use Rattle.dist_messages.specs.declared.message.Message.{Message}
-use Rattle.dist_messages.specs.declared.message_error.MessageError.{MessageError}
-use Rattle.dist_messages.specs.declared.message_error.MessageError.TheVariants as errors
 use Rattle.dist_messages.specs.Spelling.{Spells, Fits, text_of, is_said_by}
+use Rattle.dist_messages.specs.declared.{message.Side.Side, message.Status.Status, message.Message.Message, message_error.MessageError.MessageError}
+use Rattle.dist_messages.specs.declared.message_error.MessageError.TheVariants as errors
 
 -- the body spells a message of this side
 pub record IsMessage (side : Side) (body : List ℕ) : Type 0 where

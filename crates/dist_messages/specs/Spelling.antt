@@ -2,11 +2,8 @@
 -- Numbers are big-endian (ERTS User's Guide, Distribution Protocol, Distribution Handshake).
 use Rattle.std.specs.Prelude.{◌≡◌, ℕ, ◌^◌, ◌<◌, Bool, true, false, List, ◌∷◌, ◌++◌, length, codes, IsTrue}
 use Rattle.std.specs.Int.{w16, w32, w64, to_be_bytes}
-use Rattle.dist_messages.specs.declared.message.Side.{Side}
-use Rattle.dist_messages.specs.declared.message.Side.TheVariants.{Dialler, Acceptor}
-use Rattle.dist_messages.specs.declared.message.Status.{Status}
+use Rattle.dist_messages.specs.declared.message.{Side.Side, Side.TheVariants.Dialler, Side.TheVariants.Acceptor, Status.Status, Message.Message}
 use Rattle.dist_messages.specs.declared.message.Status.TheVariants as status
-use Rattle.dist_messages.specs.declared.message.Message.{Message}
 use Rattle.dist_messages.specs.declared.message.Message.TheVariants as message
 
 -- the side that sends a status

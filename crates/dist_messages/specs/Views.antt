@@ -1,8 +1,7 @@
 -- What a message that is read in place says.
 use Rattle.std.specs.Prelude.{Bool, true, false}
-use Rattle.dist_messages.specs.declared.message.Message.{Message}
+use Rattle.dist_messages.specs.declared.{message.Message.Message, message_view.MessageView.MessageView}
 use Rattle.dist_messages.specs.declared.message.Message.TheVariants as message
-use Rattle.dist_messages.specs.declared.message_view.MessageView.{MessageView}
 use Rattle.dist_messages.specs.declared.message_view.MessageView.TheVariants as view
 
 -- the same message, with a name of its own

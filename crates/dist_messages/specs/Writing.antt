@@ -1,15 +1,10 @@
 -- Which body is written for a message, or why there is none, in the words of the layouts.
 use Rattle.std.specs.Prelude.{◌≡◌, ℕ, ◌+◌, ◌<◌, ◌≤◌, List, [], length, take, drop, Result, Ok, Err}
 use Rattle.std.specs.Int.{w16, to_be_bytes}
-use Rattle.dist_messages.specs.declared.message.Side.{Side}
-use Rattle.dist_messages.specs.declared.message.Status.{Status}
-use Rattle.dist_messages.specs.declared.message.Message.{Message}
+use Rattle.dist_messages.specs.{Answer.is_message_memory_error, Canonical.canonical, Canonical.written_version, Spelling.Spells}
+use Rattle.dist_messages.specs.declared.{message.Side.Side, message.Status.Status, message.Message.Message, message_error.MessageError.MessageError}
 use Rattle.dist_messages.specs.declared.message.Message.TheVariants as message
 use Rattle.dist_names.specs.Answer.{RefusedBut}
-use Rattle.dist_messages.specs.declared.message_error.MessageError.{MessageError}
-use Rattle.dist_messages.specs.Answer.{is_message_memory_error}
-use Rattle.dist_messages.specs.Canonical.{canonical, written_version}
-use Rattle.dist_messages.specs.Spelling.{Spells}
 
 -- the name that a message has, and no bytes where it has none
 abbrev pub name_in : Message → List ℕ

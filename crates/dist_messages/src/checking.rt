@@ -1,10 +1,9 @@
 //! Whether a side writes a message: the side has that kind of message, and the name has at most 255 bytes.
 
 ghost use Rattle.std.specs.Prelude.{◌≡◌};
-ghost use Rattle.dist_messages.specs.declared.message.Message.{Message};
+ghost use Rattle.dist_messages.specs.{declared.message.Message.Message, Canonical.own_spelling, Canonical.spelling_with_name, Writing.AnswersCheck};
+ghost use Rattle.dist_messages.specs.{Writing.name_in};
 ghost use Rattle.dist_messages.specs.declared.message.Message.TheVariants as message;
-ghost use Rattle.dist_messages.specs.Canonical.{own_spelling, spelling_with_name};
-ghost use Rattle.dist_messages.specs.Writing.{AnswersCheck, name_in};
 
 use crate::message::{Message, Side, Status};
 use crate::message_error::MessageError;

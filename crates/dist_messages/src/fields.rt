@@ -1,7 +1,6 @@
 //! The field at the front of a slice, and the bytes after it. The body is `Short` where the slice ends inside the field.
 
-ghost use Rattle.std.specs.Prelude.{◌≡◌, Some, None, MatchResult};
-ghost use Rattle.std.specs.Int.{w16, w32, w64};
+ghost use Rattle.std.specs.{Prelude.◌≡◌, Prelude.Some, Prelude.None, Prelude.MatchResult, Int.w16, Int.w32, Int.w64};
 ghost use Rattle.dist_names.specs.Fields.{number_at, bytes_at};
 ghost use Rattle.dist_messages.specs.Reading.{IsShortOf};
 

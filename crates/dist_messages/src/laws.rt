@@ -2,15 +2,11 @@
 //! proper prefix of another is a law of `dist_frames`.
 
 ghost use Rattle.std.specs.Prelude.{◌≡◌, ◌↔◌, ℕ, List, [], Ok, Err};
-ghost use Rattle.dist_messages.specs.declared.message.Side.{Side};
-ghost use Rattle.dist_messages.specs.declared.message.Message.{Message};
+ghost use Rattle.dist_messages.specs.{declared.message.Side.Side, declared.message.Message.Message, Spelling.Spells, Spelling.Fits, Canonical.own_spelling};
+ghost use Rattle.dist_messages.specs.{Causes.HasUnknownTag, Causes.IsShort, Causes.IsLong, Causes.HasUnknownStatus, Reading.read, Writing.IsWritten};
+ghost use Rattle.dist_messages.specs.{Writing.HasNoRow, Writing.HasLongName, Writing.IsOtherStatus};
 ghost use Rattle.dist_messages.specs.declared.message_error.MessageError.TheVariants as errors;
-ghost use Rattle.dist_messages.specs.Spelling.{Spells, Fits};
-ghost use Rattle.dist_messages.specs.Canonical.{own_spelling};
 ghost use Rattle.dist_names.specs.Bytes.{IsBytes};
-ghost use Rattle.dist_messages.specs.Causes.{HasUnknownTag, IsShort, IsLong, HasUnknownStatus};
-ghost use Rattle.dist_messages.specs.Reading.{read};
-ghost use Rattle.dist_messages.specs.Writing.{IsWritten, HasNoRow, HasLongName, IsOtherStatus};
 
 /// A body spells one message.
 pub fn one_message()

@@ -1,7 +1,6 @@
 //! The pieces that bodies are written from. Each is appended to the bytes that are there; that fails only where memory runs out.
 
-ghost use Rattle.std.specs.Prelude.{◌≡◌, ◌≤◌, ◌++◌, length, OnOk};
-ghost use Rattle.std.specs.Int.{w16, w32, w64, to_be_bytes};
+ghost use Rattle.std.specs.{Prelude.◌≡◌, Prelude.◌≤◌, Prelude.◌++◌, Prelude.length, Prelude.OnOk, Int.w16, Int.w32, Int.w64, Int.to_be_bytes};
 ghost use Rattle.dist_messages.specs.Canonical.{written_version};
 
 use std::alloc::AllocError;

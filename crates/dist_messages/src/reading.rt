@@ -1,12 +1,8 @@
 //! Reading a body: first the tag, then the layout that this side has for it.
 
 ghost use Rattle.std.specs.Prelude.{Ok, IfOk, IfErr, IsErrOf, IsTrue};
-ghost use Rattle.dist_messages.specs.Spelling.{Spells, Fits};
-ghost use Rattle.dist_messages.specs.Causes.{IsCause};
-ghost use Rattle.dist_messages.specs.declared.message.Message.{Message};
-ghost use Rattle.dist_messages.specs.Answer.{Answers};
-ghost use Rattle.dist_messages.specs.Views.{message_of};
 ghost use Rattle.dist_messages.specs.Reading.{complement, reply, ack, status_of, has_name_tag, read};
+ghost use Rattle.dist_messages.specs.{Spelling.Spells, Spelling.Fits, Causes.IsCause, declared.message.Message.Message, Answer.Answers, Views.message_of};
 
 use crate::fields::{digest_at, u32_at};
 use crate::message::{Message, Side};

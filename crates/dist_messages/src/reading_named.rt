@@ -1,9 +1,7 @@
 //! Reading the messages that have a name. Each takes the bytes after the tag, and leaves the name where it stands.
 
 ghost use Rattle.std.specs.Prelude.{IsErrOf};
-ghost use Rattle.dist_messages.specs.Answer.{Answers};
-ghost use Rattle.dist_messages.specs.Views.{message_of};
-ghost use Rattle.dist_messages.specs.Reading.{old_name, new_name, old_challenge, new_challenge};
+ghost use Rattle.dist_messages.specs.{Answer.Answers, Views.message_of, Reading.old_name, Reading.new_name, Reading.old_challenge, Reading.new_challenge};
 
 use crate::fields::{bytes_of_len, u16_at, u32_at, u64_at};
 use crate::message_error::MessageError;

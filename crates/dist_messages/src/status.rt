@@ -1,9 +1,7 @@
 //! The texts of statuses.
 
-ghost use Rattle.std.specs.Prelude.{◌≡◌};
-ghost use Rattle.std.specs.List.{find};
-ghost use Rattle.dist_messages.specs.Spelling.{text_of, is_said_by};
-ghost use Rattle.dist_messages.specs.Reading.{has_text, status_named};
+ghost use Rattle.std.specs.{Prelude.◌≡◌, List.find};
+ghost use Rattle.dist_messages.specs.{Spelling.text_of, Spelling.is_said_by, Reading.has_text, Reading.status_named};
 
 use crate::message::{Side, Status};
 

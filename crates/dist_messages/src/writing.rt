@@ -1,10 +1,8 @@
 //! Writing a message: the one body that is written for each.
 
 ghost use Rattle.std.specs.Prelude.{◌≡◌, ◌≤◌, ◌++◌, length, IfOk, OnOk};
+ghost use Rattle.dist_messages.specs.{Answer.Answers, Canonical.canonical, Canonical.own_spelling, Writing.name_in};
 ghost use Rattle.dist_messages.specs.declared.message.Message.TheVariants as message;
-ghost use Rattle.dist_messages.specs.Answer.{Answers};
-ghost use Rattle.dist_messages.specs.Canonical.{canonical, own_spelling};
-ghost use Rattle.dist_messages.specs.Writing.{name_in};
 
 use crate::checking::check;
 use crate::message::{Message, Side, Status};

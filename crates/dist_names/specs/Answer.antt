@@ -1,7 +1,6 @@
 -- What a call that may run out of memory returns.
 use Rattle.std.specs.Prelude.{◌≡◌, Bool, true, false, Result, Ok, Err, IsOk}
-use Rattle.dist_names.specs.declared.name_error.NameError.{NameError}
-use Rattle.dist_names.specs.declared.name_error.NameError.TheVariants.{NoMemory}
+use Rattle.dist_names.specs.declared.name_error.NameError.{NameError, TheVariants.NoMemory}
 
 -- A refusal is the one expected. Memory runs out only where no refusal is expected.
 abbrev pub RefusedBut : {E Y : Type 0} → Bool → E → Result Y E → Type 0

@@ -1,6 +1,5 @@
 -- Rows of bytes, which of them are printable, and numbers in them.
-use Rattle.std.specs.Prelude.{ℕ, ◌<◌, Bool, ◌&&◌, nat_le, List, get_or}
-use Rattle.std.specs.Int.{Width, to_be_bytes}
+use Rattle.std.specs.{Prelude.ℕ, Prelude.◌<◌, Prelude.Bool, Prelude.◌&&◌, Prelude.nat_le, Prelude.List, Prelude.get_or, Int.Width, Int.to_be_bytes}
 
 -- each element is a byte
 abbrev pub IsBytes : List ℕ → Type 0

@@ -1,8 +1,6 @@
 -- Numbers and flags as digits write them.
 use Rattle.std.specs.Prelude.{ℕ, Bool, ◌&&◌, nat_lt, nat_le, if◌then◌else◌, List, length, Option, Some, None}
-use Rattle.std.specs.List.{list_all}
-use Rattle.std.specs.Char.{digit_value}
-use Rattle.std.specs.Str.Parse.{digits_value}
+use Rattle.std.specs.{List.list_all, Char.digit_value, Str.Parse.digits_value}
 use Rattle.dist_names.specs.declared.flags.Flags.{Flags}
 
 -- digits of this radix, at least one

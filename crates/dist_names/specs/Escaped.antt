@@ -1,7 +1,6 @@
 -- BYTES AS TEXT THAT IS SAFE TO PRINT. The form is our own choice.
 use Rattle.std.specs.Prelude.{ℕ, ◌/◌, ◌%◌, ◌==◌, ◌≤◌, ◌⊎◌, ◌≡◌, if◌then◌else◌, List, [], ◌∷◌, ◌++◌, codes}
-use Rattle.std.specs.List.{flat_map}
-use Rattle.std.specs.Char.{digit_char}
+use Rattle.std.specs.{List.flat_map, Char.digit_char}
 use Rattle.dist_names.specs.Bytes.{is_printable}
 
 -- a byte by its two hexadecimal digits: \x1b

@@ -1,6 +1,5 @@
 -- The first bytes of a text as four numbers, which order most names.
-use Rattle.std.specs.Prelude.{ℕ, List, drop}
-use Rattle.std.specs.Int.{w64, from_be_bytes}
+use Rattle.std.specs.{Prelude.ℕ, Prelude.List, Prelude.drop, Int.w64, Int.from_be_bytes}
 
 -- the first eight bytes as a number of 64 bits: the first byte is the highest, and zeros stand behind a shorter text
 abbrev pub front_number : List ℕ → ℕ

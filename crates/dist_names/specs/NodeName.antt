@@ -4,9 +4,8 @@
 -- printable ASCII character and no space, and that neither part is empty, is our own choice.
 use Rattle.std.specs.Prelude.{◌≡◌, ℕ, ◌<◌, ◌≤◌, Bool, ◌&&◌, not, List, length, count_by, Result, Ok, Err, nat_lt, ◌==◌, IsTrue, if◌then◌else◌}
 use Rattle.std.specs.List.{before_first, after_first, list_all}
-use Rattle.dist_names.specs.Bytes.{is_visible}
-use Rattle.dist_names.specs.declared.name_error.NameError.{NameError}
 use Rattle.dist_names.specs.declared.name_error.NameError.TheVariants.{TooShort, TooLong, BadByte, BadAt}
+use Rattle.dist_names.specs.{Bytes.is_visible, declared.name_error.NameError.NameError}
 
 -- the character '@'
 abbrev pub is_separator : ℕ → Bool

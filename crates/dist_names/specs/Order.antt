@@ -1,9 +1,6 @@
 -- The order of names: that of strings of unsigned bytes, a proper prefix being smaller (our own choice).
 use Rattle.std.specs.Prelude.{ℕ, Bool, List}
-use Rattle.std.specs.List.{list_any}
-use Rattle.std.specs.declared.cmp.Ordering.{Ordering}
-use Rattle.std.specs.Ordering.{nat_cmp, is_eq}
-use Rattle.std.specs.Cmp.Lexicographic.{slice_cmp}
+use Rattle.std.specs.{List.list_any, declared.cmp.Ordering.Ordering, Ordering.nat_cmp, Ordering.is_eq, Cmp.Lexicographic.slice_cmp}
 
 -- a name, as its bytes
 abbrev pub Name : Type 0

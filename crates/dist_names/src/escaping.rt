@@ -1,9 +1,6 @@
 //! Bytes of strangers as text that is safe to print: no terminal acts upon what stands in it.
 
-ghost use Rattle.std.specs.Prelude.{◌≡◌, ◌++◌, ◌<◌, IfOk, OnOk};
-ghost use Rattle.std.specs.List.{All};
-ghost use Rattle.std.specs.String.{string_bytes};
-ghost use Rattle.std.specs.Char.{digit_char};
+ghost use Rattle.std.specs.{Prelude.◌≡◌, Prelude.◌++◌, Prelude.◌<◌, Prelude.IfOk, Prelude.OnOk, List.All, String.string_bytes, Char.digit_char};
 ghost use Rattle.dist_names.specs.Escaped.{by_digits, escape_of, escape_in_lines, escape_in_quotes, escapes_of, escaped_lines, in_double_quotes};
 ghost use Rattle.dist_names.specs.Escaped.{IsPrintable, IsPrintableOrLineFeed};
 

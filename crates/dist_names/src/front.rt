@@ -1,8 +1,7 @@
 //! The first 32 bytes of a text as four numbers. Where they differ, they order the texts as the bytes themselves do, so that most
 //! names are compared without a look at their texts.
 
-ghost use Rattle.std.specs.Prelude.{◌≡◌, drop};
-ghost use Rattle.std.specs.List.{slice_index};
+ghost use Rattle.std.specs.{Prelude.◌≡◌, Prelude.drop, List.slice_index};
 ghost use Rattle.dist_names.specs.Front.{front_number, front_numbers};
 
 // The byte in this place, or zero where the text has ended.

@@ -1,10 +1,8 @@
 //! What names and flags are, in the words of the protocol: laws over the definitions alone.
 
-ghost use Rattle.std.specs.Prelude.{◌≡◌, ◌<◌, ◌++◌, ◌∷◌, ℕ, true};
-ghost use Rattle.std.specs.declared.cmp.Ordering.TheVariants.{Less};
-ghost use Rattle.dist_names.specs.Flags.{handshake_23, name_me};
-ghost use Rattle.dist_names.specs.NodeName.{IsNodeName, short_of, host_of};
-ghost use Rattle.dist_names.specs.Order.{Name, name_cmp, same_name};
+ghost use Rattle.std.specs.{Prelude.◌≡◌, Prelude.◌<◌, Prelude.◌++◌, Prelude.◌∷◌, Prelude.ℕ, Prelude.true, declared.cmp.Ordering.TheVariants.Less};
+ghost use Rattle.dist_names.specs.{Flags.handshake_23, Flags.name_me, NodeName.IsNodeName, NodeName.short_of, NodeName.host_of, Order.Name, Order.name_cmp};
+ghost use Rattle.dist_names.specs.{Order.same_name};
 
 use crate::flags::Flags;
 

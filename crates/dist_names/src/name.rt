@@ -1,10 +1,7 @@
 ghost use Rattle.std.specs.Prelude.{◌≡◌, ◌↔◌, Some, None, IsTrue, IfOk, OnOk, option_copied, if◌then◌else◌};
 ghost use Rattle.std.specs.List.{list_all};
-ghost use Rattle.dist_names.specs.Bytes.{is_visible};
-ghost use Rattle.dist_names.specs.Front.{front_numbers};
 ghost use Rattle.dist_names.specs.NodeName.{short_of, host_of, has_two_parts, name_of_bytes, IsNodeName};
-ghost use Rattle.dist_names.specs.Order.{same_name};
-ghost use Rattle.dist_names.specs.Answer.{AnswersName};
+ghost use Rattle.dist_names.specs.{Bytes.is_visible, Front.front_numbers, Order.same_name, Answer.AnswersName};
 
 use crate::front::front_numbers;
 use crate::name_error::NameError;

@@ -1,8 +1,7 @@
 //! Numbers as digits write them: digits alone, leading zeros allowed, no sign.
 
 ghost use Rattle.std.specs.Prelude.{◌≡◌, ◌+◌, ◌*◌, ◌<◌, ◌≤◌, ◌^◌, SomeIff};
-ghost use Rattle.std.specs.Char.{digit_value};
-ghost use Rattle.std.specs.Str.Parse.{IsNumeral, digits_value};
+ghost use Rattle.std.specs.{Char.digit_value, Str.Parse.IsNumeral, Str.Parse.digits_value};
 
 // The number below 2^64 that is written by the digits of a value and one more.
 fn with_digit(value: u64, byte: u8, radix: u32) -> Option<u64>

@@ -1,15 +1,10 @@
 //! Names are compared as strings of unsigned bytes, a proper prefix being smaller (our own choice). Their first 32 bytes are
 //! compared as four numbers, and what stands behind these only where all are equal, eight bytes at a time.
 
-ghost use Rattle.std.specs.Prelude.{◌≡◌, ◌==◌, IsTrue};
-ghost use Rattle.std.specs.List.{list_all};
+ghost use Rattle.std.specs.{Prelude.◌≡◌, Prelude.◌==◌, Prelude.IsTrue, List.list_all, Cmp.partial_order_from_own_ties, Cmp.Rules.comparing};
+ghost use Rattle.std.specs.{Cmp.Lexicographic.slice_cmp, Cmp.Lexicographic.pointwise, Ordering.nat_cmp, Ordering.as_partial_cmp};
 ghost use Rattle.std.proofs.Common.{rules};
-ghost use Rattle.std.specs.Cmp.{partial_order_from_own_ties};
-ghost use Rattle.std.specs.Cmp.Rules.{comparing};
-ghost use Rattle.std.specs.Cmp.Lexicographic.{slice_cmp, pointwise};
-ghost use Rattle.std.specs.Ordering.{nat_cmp, as_partial_cmp};
-ghost use Rattle.dist_names.specs.Bytes.{is_visible};
-ghost use Rattle.dist_names.specs.Order.{name_cmp};
+ghost use Rattle.dist_names.specs.{Bytes.is_visible, Order.name_cmp};
 
 use crate::front::{behind, front_number};
 use crate::name::NodeName;

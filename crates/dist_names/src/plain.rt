@@ -1,10 +1,7 @@
 //! Plain bytes: which of them are printable, where the two parts of a name stand, and whether two rows are equal.
 
-ghost use Rattle.std.specs.Prelude.{◌≡◌, ◌↔◌, IsTrue};
-ghost use Rattle.std.specs.List.{list_all, position, position_or_len};
-ghost use Rattle.dist_names.specs.Bytes.{is_printable, is_visible};
-ghost use Rattle.dist_names.specs.NodeName.{short_of, host_of, is_separator};
-ghost use Rattle.dist_names.specs.Order.{same_name};
+ghost use Rattle.std.specs.{Prelude.◌≡◌, Prelude.◌↔◌, Prelude.IsTrue, List.list_all, List.position, List.position_or_len};
+ghost use Rattle.dist_names.specs.{Bytes.is_printable, Bytes.is_visible, NodeName.short_of, NodeName.host_of, NodeName.is_separator, Order.same_name};
 
 /// Whether this is a printable ASCII character, the space among them: from 0x20 to 0x7E.
 pub fn is_printable(byte: u8) -> bool

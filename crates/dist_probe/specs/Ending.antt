@@ -1,27 +1,18 @@
 -- HOW A PROBE ENDS: what it sent, what it received after that, and what the tables make of it.
 use Rattle.std.specs.Prelude.{◌≡◌, ℕ, ◌⊎◌, Bool, true, false, List, Option, Some, None, Result, Ok, Err}
-use Rattle.dist_names.specs.Order.{same_name}
-use Rattle.dist_names.specs.declared.flags.Flags.{Flags}
+use Rattle.dist_names.specs.{Order.same_name, declared.flags.Flags.Flags}
 use Rattle.dist_messages.specs.declared.message.Message.TheVariants as message
 use Rattle.dist_messages.specs.declared.message.Status.{Status}
 use Rattle.dist_messages.specs.declared.message.Status.TheVariants as status
 use Rattle.dist_messages.specs.declared.form.Form.TheVariants as form
-use Rattle.dist_core_setup.specs.declared.setup.Setup.{Setup}
-use Rattle.dist_core_setup.specs.Rules.{announced_by, own_digest}
-use Rattle.dist_core_setup.specs.Saying.{name_text, reply_text, status_text}
+use Rattle.dist_core_setup.specs.{declared.setup.Setup.Setup, Rules.announced_by, Rules.own_digest, Saying.name_text, Saying.reply_text, Saying.status_text}
 use Rattle.dist_flags.specs.Releases.{missing, required_by}
 use Rattle.dist_flags.specs.declared.release.Release.TheVariants as release
-use Rattle.dist_stream.specs.Stream.{StreamState}
-use Rattle.dist_stream.specs.Turns.{SaysFront}
-use Rattle.dist_stream.specs.declared.turn_error.TurnError.{TurnError}
-use Rattle.dist_probe.specs.declared.hearing.ReceivedMessage.{ReceivedMessage}
+use Rattle.dist_stream.specs.{Stream.StreamState, Turns.SaysFront, declared.turn_error.TurnError.TurnError}
+use Rattle.dist_probe.specs.{Hearing.HearsMessage, Hearing.heard_instead, Verdicts.ack_verdict, Verdicts.challenge_verdict, Verdicts.status_verdict}
+use Rattle.dist_probe.specs.declared.{hearing.ReceivedMessage.ReceivedMessage, verdict.ProbeVerdict.ProbeVerdict, asking.Peer.Peer, asking.Report.Report}
 use Rattle.dist_probe.specs.declared.hearing.ReceivedMessage.TheVariants as heard
-use Rattle.dist_probe.specs.declared.verdict.ProbeVerdict.{ProbeVerdict}
 use Rattle.dist_probe.specs.declared.verdict.ProbeVerdict.TheVariants as verdict
-use Rattle.dist_probe.specs.declared.asking.Peer.{Peer}
-use Rattle.dist_probe.specs.declared.asking.Report.{Report}
-use Rattle.dist_probe.specs.Hearing.{HearsMessage, heard_instead}
-use Rattle.dist_probe.specs.Verdicts.{ack_verdict, challenge_verdict, status_verdict}
 
 -- ---- what is reported of what was received
 

@@ -3,16 +3,11 @@ use Rattle.std.specs.Prelude.{◌≡◌, ℕ, false, List, [], ◌∷◌, ◌++�
 use Rattle.std.specs.Int.{w16}
 use Rattle.dist_names.specs.Bytes.{number}
 use Rattle.dist_frames.specs.Stream.{body_frame}
-use Rattle.dist_messages.specs.Spelling.{Spells}
-use Rattle.dist_messages.specs.Causes.{IsCause}
-use Rattle.dist_messages.specs.declared.message.Side.TheVariants.{Acceptor}
-use Rattle.dist_stream.specs.Stream.{StreamState}
-use Rattle.dist_stream.specs.Turns.{Hears}
-use Rattle.dist_stream.specs.declared.turn_error.TurnError.{TurnError}
+use Rattle.dist_messages.specs.{Spelling.Spells, Causes.IsCause, declared.message.Side.TheVariants.Acceptor}
+use Rattle.dist_stream.specs.{Stream.StreamState, Turns.Hears, declared.turn_error.TurnError.TurnError}
 use Rattle.dist_stream.specs.declared.turn_error.TurnError.TheVariants as fault
 use Rattle.dist_epmd_calls.specs.Serving.{IsInside}
-use Rattle.dist_probe.specs.Bodies.{is_one_of}
-use Rattle.dist_probe.specs.declared.hearing.ReceivedMessage.{ReceivedMessage}
+use Rattle.dist_probe.specs.{Bodies.is_one_of, declared.hearing.ReceivedMessage.ReceivedMessage}
 use Rattle.dist_probe.specs.declared.hearing.ReceivedMessage.TheVariants as heard
 
 -- the first bytes of what an accepting side sends: s of a status, n of an older challenge, N of a newer one, a of an

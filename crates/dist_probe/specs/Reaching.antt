@@ -1,11 +1,9 @@
 -- HOW FAR A PROBE GOT on its way to a node, by its verdict.
 use Rattle.std.specs.Prelude.{ℕ, ◌+◌, Bool, nat_le, nat_lt}
-use Rattle.dist_probe.specs.declared.unreached.Unreached.{Unreached}
+use Rattle.dist_probe.specs.declared.{unreached.Unreached.Unreached, verdict.AwaitedMessage.AwaitedMessage, verdict.ProbeVerdict.ProbeVerdict}
 use Rattle.dist_probe.specs.declared.unreached.Unreached.TheVariants as unreached
-use Rattle.dist_probe.specs.declared.verdict.AwaitedMessage.{AwaitedMessage}
 use Rattle.dist_probe.specs.declared.verdict.AwaitedMessage.TheVariants as awaited
 use Rattle.dist_probe.specs.declared.verdict.Party.TheVariants as party
-use Rattle.dist_probe.specs.declared.verdict.ProbeVerdict.{ProbeVerdict}
 use Rattle.dist_probe.specs.declared.verdict.ProbeVerdict.TheVariants as verdict
 
 -- how far a connect got that made no connection: less far where this machine itself could not send

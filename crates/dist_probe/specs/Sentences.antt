@@ -1,14 +1,13 @@
 -- THE SENTENCES OF VERDICTS: what happened, and what can be done.
 use Rattle.std.specs.Prelude.{ℕ, zero, suc, List, codes, ◌++◌}
 use Rattle.dist_epmd_calls.specs.declared.lookup_error.LookupError.TheVariants as error
+use Rattle.dist_probe.specs.declared.{unreached.Unreached.Unreached, verdict.ProbeVerdict.ProbeVerdict}
 use Rattle.dist_probe.specs.declared.names.NameStyle.TheVariants as style
 use Rattle.dist_probe.specs.declared.service.Service.TheVariants as service
-use Rattle.dist_probe.specs.declared.unreached.Unreached.{Unreached}
 use Rattle.dist_probe.specs.declared.unreached.Unreached.TheVariants as unreached
 use Rattle.dist_probe.specs.declared.verdict.AwaitedMessage.TheVariants as awaited
 use Rattle.dist_probe.specs.declared.verdict.Party.TheVariants as party
 use Rattle.dist_probe.specs.declared.verdict.Unresolved.TheVariants as unresolved
-use Rattle.dist_probe.specs.declared.verdict.ProbeVerdict.{ProbeVerdict}
 use Rattle.dist_probe.specs.declared.verdict.ProbeVerdict.TheVariants as verdict
 
 -- what happened, whichever port it was

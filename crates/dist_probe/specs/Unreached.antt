@@ -1,10 +1,8 @@
 -- HOW A CONNECT FAILED, by what the system answered, and what that means.
-use Rattle.std.specs.Prelude.{ℕ, List, codes, ◌==◌, ◌||◌, if◌then◌else◌}
-use Rattle.std.specs.declared.io.ErrorKind.{ErrorKind}
+use Rattle.std.specs.{Prelude.ℕ, Prelude.List, Prelude.codes, Prelude.◌==◌, Prelude.◌||◌, Prelude.if◌then◌else◌, declared.io.ErrorKind.ErrorKind}
 use Rattle.std.specs.declared.io.ErrorKind.TheVariants as kind
-use Rattle.dist_probe.specs.declared.unreached.Unreached.{Unreached}
+use Rattle.dist_probe.specs.declared.{unreached.Unreached.Unreached, verdict.ProbeVerdict.ProbeVerdict}
 use Rattle.dist_probe.specs.declared.unreached.Unreached.TheVariants as unreached
-use Rattle.dist_probe.specs.declared.verdict.ProbeVerdict.{ProbeVerdict}
 use Rattle.dist_probe.specs.declared.verdict.ProbeVerdict.TheVariants as verdict
 
 -- by an error number that has no kind of its own (Linux): ENONET 64, EHOSTDOWN 112, ENOPROTOOPT 92, EAFNOSUPPORT 97,

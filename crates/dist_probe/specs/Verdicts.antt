@@ -6,15 +6,12 @@ use Rattle.dist_flags.specs.Releases.{is_refused_by_all, objection}
 use Rattle.dist_flags.specs.declared.release.Release.TheVariants as release
 use Rattle.dist_messages.specs.declared.message.Message.TheVariants as message
 use Rattle.dist_messages.specs.declared.message.Status.TheVariants as status
-use Rattle.dist_probe.specs.declared.hearing.ReceivedMessage.{ReceivedMessage}
+use Rattle.dist_probe.specs.{Services.service_of, Styles.style_of}
+use Rattle.dist_probe.specs.declared.{hearing.ReceivedMessage.ReceivedMessage, verdict.AwaitedMessage.AwaitedMessage, verdict.ProbeVerdict.ProbeVerdict}
 use Rattle.dist_probe.specs.declared.hearing.ReceivedMessage.TheVariants as heard
-use Rattle.dist_probe.specs.declared.verdict.AwaitedMessage.{AwaitedMessage}
 use Rattle.dist_probe.specs.declared.verdict.AwaitedMessage.TheVariants as awaited
 use Rattle.dist_probe.specs.declared.verdict.Party.TheVariants as party
-use Rattle.dist_probe.specs.declared.verdict.ProbeVerdict.{ProbeVerdict}
 use Rattle.dist_probe.specs.declared.verdict.ProbeVerdict.TheVariants as verdict
-use Rattle.dist_probe.specs.Services.{service_of}
-use Rattle.dist_probe.specs.Styles.{style_of}
 
 -- `not_allowed`: the name is the node's own, or a flag that releases from 26 on require is missing, or the name is not on the
 -- node's list

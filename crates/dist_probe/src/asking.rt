@@ -3,8 +3,7 @@
 ghost use Rattle.std.specs.Prelude.{◌≡◌, Err, IfErr, IsOk, None};
 ghost use Rattle.dist_messages.specs.declared.form.Form.TheVariants as form;
 ghost use Rattle.dist_core_setup.specs.Saying.{name_text, reply_text};
-ghost use Rattle.dist_probe.specs.Ending.{Asks, Decides, Ends, Exchanges, GoesOn, Leaves};
-ghost use Rattle.dist_probe.specs.Ending.{challenge_in, lacking, outcome_of, peer_in, status_in};
+ghost use Rattle.dist_probe.specs.Ending.{Asks, Decides, Ends, Exchanges, GoesOn, Leaves, challenge_in, lacking, outcome_of, peer_in, status_in};
 
 use crate::hearing::{ReceivedMessage, hear, heard_instead};
 use crate::judging::{ack_verdict, challenge_verdict, status_verdict};

@@ -1,7 +1,6 @@
 //! One frame, read where what comes may not be a frame at all.
 
-ghost use Rattle.std.specs.Prelude.{◌≡◌, ◌<◌, IfErr, length};
-ghost use Rattle.std.specs.Int.{w16};
+ghost use Rattle.std.specs.{Prelude.◌≡◌, Prelude.◌<◌, Prelude.IfErr, Prelude.length, Int.w16};
 ghost use Rattle.dist_names.specs.Bytes.{number};
 ghost use Rattle.dist_probe.specs.Bodies.{Fills, HearsBehind, HearsFrameOf};
 

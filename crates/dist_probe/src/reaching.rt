@@ -1,7 +1,6 @@
 //! How far a probe got on its way to a node, where there are several ways: one for each address of the host.
 
-ghost use Rattle.std.specs.Prelude.{◌≡◌, ◌<◌, length};
-ghost use Rattle.std.specs.List.{IsFirstBest};
+ghost use Rattle.std.specs.{Prelude.◌≡◌, Prelude.◌<◌, Prelude.length, List.IsFirstBest};
 ghost use Rattle.dist_probe.specs.Reaching.{awaited_reach, is_found, is_further, reach, unreached_reach};
 
 use crate::unreached::Unreached;

@@ -1,9 +1,6 @@
 -- The time of each step on the way to a node, for all addresses of its host together.
-use Rattle.std.specs.Prelude.{ℕ, ◌/◌, ◌-◌, ◌==◌, if◌then◌else◌}
-use Rattle.std.specs.declared.time.Duration.{Duration}
-use Rattle.std.specs.Duration.{as_nanos}
-use Rattle.dist_program.specs.declared.budget.Budget.{Budget}
-use Rattle.dist_program.specs.declared.budget.TimedStep.{TimedStep}
+use Rattle.std.specs.{Prelude.ℕ, Prelude.◌/◌, Prelude.◌-◌, Prelude.◌==◌, Prelude.if◌then◌else◌, declared.time.Duration.Duration, Duration.as_nanos}
+use Rattle.dist_program.specs.declared.budget.{Budget.Budget, TimedStep.TimedStep}
 use Rattle.dist_program.specs.declared.budget.TimedStep.TheVariants as step
 
 -- what is left of the time of a step

@@ -1,8 +1,7 @@
 //! How long each step on the way to a node may take, where its host has several addresses: the time of a step is shared by all of
 //! them.
 
-ghost use Rattle.std.specs.Prelude.{◌≡◌, ◌-◌};
-ghost use Rattle.std.specs.Duration.{as_nanos};
+ghost use Rattle.std.specs.{Prelude.◌≡◌, Prelude.◌-◌, Duration.as_nanos};
 ghost use Rattle.dist_program.specs.Budgets.{left_of, share_of, spent_of};
 
 use std::time::Duration;

@@ -1,8 +1,6 @@
 //! Connections, and how long they may take: a limit for a connect, a limit for an answer of the port mapper, the length of a turn.
 
-ghost use Rattle.std.specs.Prelude.{◌≡◌, None, IfOk};
-ghost use Rattle.std.specs.Duration.{as_nanos};
-ghost use Rattle.std.specs.Net.Socket.{socket_ip, socket_port};
+ghost use Rattle.std.specs.{Prelude.◌≡◌, Prelude.None, Prelude.IfOk, Duration.as_nanos, Net.Socket.socket_ip, Net.Socket.socket_port};
 ghost use Rattle.dist_stream.specs.Stream.{new_stream};
 
 use dist_stream::{DeadlineStream, SocketStream, Stream, connect_by, deadline_after};

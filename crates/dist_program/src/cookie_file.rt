@@ -1,9 +1,9 @@
 //! The cookie: which file has it, and whether that file may be read. Like a node, a program takes no file that others than
 //! its owner may use, unless it is told to, and none whose bytes somebody else sends while it waits.
 
-ghost use Rattle.std.specs.Prelude.{◌≡◌, ◌↔◌, ◌⊎◌, IsTrue};
+ghost use Rattle.std.specs.Prelude.{◌≡◌, ◌↔◌, ◌⊎◌, IfErr, IsTrue, None, Some, option_copied};
 ghost use Rattle.std.specs.Fs.{IsDir, IsFile};
-ghost use Rattle.dist_program.specs.CookieFile.{is_private, ReadsCookie};
+ghost use Rattle.dist_program.specs.CookieFile.{is_private, ReadsCookie, RefusesFile};
 
 use crate::cookie_fault::CookieFault;
 use crate::text_error::TextError;
@@ -41,7 +41,9 @@ fn is_stored(kind: FileType) -> bool
 
 /// Opens the file at this path, where its kind is one that is read without waiting. The kind is checked before: a named pipe
 /// cannot even be opened before somebody writes into it.
-pub fn open_cookie(rt: &HostRuntime, path: &str) -> Result<File, CookieFault> {
+pub fn open_cookie(rt: &HostRuntime, path: &str) -> Result<File, CookieFault>
+    ensures { IfErr result (λ fault. (fault ≡ CookieFault.OpenFailed) ⊎ (fault ≡ CookieFault.NotStored)) }
+{
     let Ok(metadata) = fs::metadata(rt, path) else {
         return Err(CookieFault::OpenFailed);
     };
@@ -63,7 +65,10 @@ pub fn cookie_in<F: Read>(alloc: Global, file: &mut F) -> Result<Cookie, CookieF
 
 /// The cookie in the file at this path. The file that was opened is the one that is checked, so that no other can be put in its
 /// place in between. With `is_unsafe` it may be one that others than its owner can use.
-pub fn cookie_at(rt: &HostRuntime, path: &str, is_unsafe: bool) -> Result<Cookie, CookieFault> {
+#[tactic(auto, using(crate::proofs::Cookies::unopened, crate::proofs::Cookies::unread))]
+pub fn cookie_at(rt: &HostRuntime, path: &str, is_unsafe: bool) -> Result<Cookie, CookieFault>
+    ensures { IfErr result (RefusesFile (Some path.now) is_unsafe) }
+{
     let mut file = open_cookie(rt, path)?;
     if is_unsafe || is_private_file(&file) {
         cookie_in(rt.alloc(), &mut file)
@@ -82,7 +87,10 @@ fn home_file(rt: &HostRuntime) -> Result<Option<String>, AllocError> {
 }
 
 /// The cookie of the home folder, `$HOME/.erlang.cookie`: `None` where there is no such folder, or no file in it that can be opened.
-pub fn home_cookie(rt: &HostRuntime, is_unsafe: bool) -> Result<Option<Cookie>, CookieFault> {
+#[tactic(auto, using(crate::proofs::Cookies::somewhere))]
+pub fn home_cookie(rt: &HostRuntime, is_unsafe: bool) -> Result<Option<Cookie>, CookieFault>
+    ensures { IfErr result (RefusesFile None is_unsafe) }
+{
     let Some(path) = home_file(rt)? else {
         return Ok(None);
     };
@@ -98,7 +106,9 @@ pub fn find_cookie(
     rt: &HostRuntime,
     file: Option<&str>,
     is_unsafe: bool,
-) -> Result<Cookie, CookieFault> {
+) -> Result<Cookie, CookieFault>
+    ensures { IfErr result (RefusesFile (option_copied file.entry) is_unsafe) }
+{
     match file {
         Some(path) => cookie_at(rt, path, is_unsafe),
         None => home_cookie(rt, is_unsafe)?.ok_or(CookieFault::OpenFailed),

@@ -4,8 +4,7 @@
 //! to 65,535 is refused. `epmd` and Erlang nodes take the number at its beginning, or 0 if there is none; nobody wants a wrong
 //! port, so our programs do not silently go to another one. Our own choice.
 
-ghost use Rattle.std.specs.Prelude.{◌≡◌, SomeIff};
-ghost use Rattle.std.specs.Str.Parse.{digits_value};
+ghost use Rattle.std.specs.{Prelude.◌≡◌, Prelude.SomeIff, Str.Parse.digits_value};
 ghost use Rattle.dist_program.specs.PortTexts.{GivesNumber, GivesPort, NamesPort};
 
 use crate::sentences::{number_sentence, with_word};
@@ -36,7 +35,7 @@ pub fn option_number(
     id: &str,
     word: Option<&str>,
 ) -> Result<Option<u16>, WordFault>
-    ensures { GivesNumber word.entry result }
+    ensures { GivesNumber program.now id.now word.entry result }
 {
     let Some(word) = word else {
         return Ok(None);

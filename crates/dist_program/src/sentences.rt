@@ -1,9 +1,9 @@
 //! The sentences that refuse a word of the command line, with that word in them: between double quotes or escaped, so that all of it
 //! is safe to print. They are the same for all programs that take their words in this way.
 
-ghost use Rattle.std.specs.Prelude.{◌≡◌, ◌++◌, IfOk, string_bytes};
+ghost use Rattle.std.specs.Prelude.{◌≡◌, ℕ, List, ◌++◌, IfOk, string_bytes};
 ghost use Rattle.dist_names.specs.Escaped.{in_double_quotes};
-ghost use Rattle.dist_program.specs.Sentences.{GivesName, name_sentence};
+ghost use Rattle.dist_program.specs.Sentences.{GivesName, name_sentence, number_sentence, parser_sentence};
 
 use crate::word_fault::WordFault;
 use dist_names::{NameError, NodeName, escape, quote};
@@ -45,7 +45,9 @@ pub(crate) fn number_sentence(
     program: &str,
     id: &str,
     word: &str,
-) -> Result<String, AllocError> {
+) -> Result<String, AllocError>
+    ensures { IfOk result (λ sentence. string_bytes sentence ≡ number_sentence program.now id.now word.now) }
+{
     let quoted = quote(alloc, word.as_bytes())?;
     format!(in alloc;
         "bad command line: --{id} takes a number from 1 to 65535: {quoted} ({program} --help)"
@@ -58,13 +60,22 @@ fn parser_text(text: &str) -> &str {
     line.strip_prefix("error: ").unwrap_or(line)
 }
 
+// The sentence that refuses words for this reason.
+fn sentence_with(alloc: Global, program: &str, reason: &str) -> Result<String, AllocError>
+    ensures { IfOk result (λ sentence. string_bytes sentence ≡ parser_sentence program.now reason.now) }
+{
+    let escaped = escape(alloc, reason.as_bytes())?;
+    format!(in alloc; "bad command line: {escaped} ({program} --help)")
+}
+
 /// The sentence that refuses words that the parser of command lines does not take, by its error.
 pub fn parser_sentence<D: Display>(
     alloc: Global,
     program: &str,
     error: &D,
-) -> Result<String, AllocError> {
+) -> Result<String, AllocError>
+    ensures { IfOk result (λ sentence. (reason : List ℕ) × (string_bytes sentence ≡ parser_sentence program.now reason)) }
+{
     let text = format!(in alloc; "{error}")?;
-    let escaped = escape(alloc, parser_text(&text).as_bytes())?;
-    format!(in alloc; "bad command line: {escaped} ({program} --help)")
+    sentence_with(alloc, program, parser_text(&text))
 }

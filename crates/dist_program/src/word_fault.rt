@@ -1,8 +1,7 @@
 //! Why a word of the command line, or a variable, is refused.
 
 ghost use Rattle.std.specs.Prelude.{◌≡◌};
-ghost use Rattle.dist_program.specs.declared.word_fault.WordFault.TheVariants.{NoMemory};
-ghost use Rattle.dist_program.specs.Sentences.{word_fault_status, word_fault_text};
+ghost use Rattle.dist_program.specs.{declared.word_fault.WordFault.TheVariants.NoMemory, Sentences.word_fault_status, Sentences.word_fault_text};
 
 use std::alloc::AllocError;
 

@@ -1,9 +1,7 @@
 //! A run, from its plan to its closed nodes.
 
 ghost use Rattle.std.specs.Prelude.{IfOk};
-ghost use Rattle.dist_run_hosts.specs.Setups.{AreOfPlans};
-ghost use Rattle.dist_run_hosts.specs.Orders.{AreObeyed};
-ghost use Rattle.dist_run_hosts.specs.Runs.{AreInOrder};
+ghost use Rattle.dist_run_hosts.specs.{Setups.AreOfPlans, Orders.AreObeyed, Runs.AreInOrder};
 
 use crate::machine::Machine;
 use crate::site::Site;

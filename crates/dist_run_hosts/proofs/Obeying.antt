@@ -1,14 +1,13 @@
 -- Peers that neither the file names nor a node dialled.
 use Rattle.std.proofs.Common.{◌≡◌, ◌∙◌, ◌↔◌, IsTrue, ℕ, ◌≤◌, ◌-◌, length, take, drop, take_all, zero, suc, ◌+◌, ◌⊎◌, inl, inr, Bool, true, false, ◌&&◌, List, [], ◌∷◌, slice_get, All, count_by, cond, get_or, refl, sym, ap, subst, arith}
-use Rattle.std.specs.List.{AllByRecursion}
 use Rattle.std.proofs.lemmas.List.Elements.{recursion_from_All}
 use Rattle.std.proofs.lemmas.List.Sums.{sum_by-cons}
+use Rattle.std.specs.List.{AllByRecursion}
 use Rattle.dist_names.specs.Order.{Name, same_name}
 use Rattle.dist_names.proofs.Orders.{one_lem}
 use Rattle.dist_core.specs.declared.event.Event.{Event}
 use Rattle.dist_core.specs.declared.event.Event.TheVariants as event
-use Rattle.dist_locked_book.specs.declared.line.Line.{Line}
-use Rattle.dist_locked_book.specs.declared.closing.Closed.{Closed}
+use Rattle.dist_locked_book.specs.declared.{line.Line.Line, closing.Closed.Closed}
 use Rattle.dist_run_plan.specs.declared.plan.DialPlan.{DialPlan}
 use Rattle.dist_run_hosts.specs.declared.order_fault.OrderFault.{OrderFault}
 use Rattle.dist_run_hosts.specs.Orders.{is_dial_of, is_order, is_such_order, is_fault_of, count_dials, name_of, lines_in, IsObeyed, PeerIsObeyed, OrderIsObeyed, LineIsObeyed}

@@ -1,19 +1,14 @@
 -- THE ORDERS OF A NODES FILE, and what came of them.
-use Rattle.std.specs.Prelude.{◌≡◌, ℕ, ◌+◌, ◌<◌, ◌≤◌, Bool, false, ◌&&◌, List, []}
-use Rattle.std.specs.Prelude.{◌∷◌, length, Option, Some, None, slice_get, All, count_by}
-use Rattle.dist_names.specs.NodeName.{short_of}
-use Rattle.dist_names.specs.Order.{Name, same_name}
+use Rattle.std.specs.Prelude.{◌≡◌, ℕ, ◌+◌, ◌<◌, ◌≤◌, Bool, false, ◌&&◌, List, [], ◌∷◌, length, Option, Some, None, slice_get, All, count_by}
+use Rattle.dist_names.specs.{NodeName.short_of, Order.Name, Order.same_name}
 use Rattle.dist_messages.specs.declared.opening.Opening.{Opening}
 use Rattle.dist_messages.specs.declared.opening.Opening.TheVariants as openings
 use Rattle.dist_core_setup.specs.declared.version.Version.{Version}
 use Rattle.dist_core_setup.specs.declared.version.Version.TheVariants as versions
 use Rattle.dist_core.specs.declared.event.Event.{Event}
 use Rattle.dist_core.specs.declared.event.Event.TheVariants as event
-use Rattle.dist_locked_book.specs.declared.line.Line.{Line}
-use Rattle.dist_locked_book.specs.declared.closing.Closed.{Closed}
-use Rattle.dist_run_plan.specs.declared.plan.DialPlan.{DialPlan}
-use Rattle.dist_run_plan.specs.declared.plan.NodePlan.{NodePlan}
-use Rattle.dist_run_plan.specs.declared.plan.Plan.{Plan}
+use Rattle.dist_locked_book.specs.declared.{line.Line.Line, closing.Closed.Closed}
+use Rattle.dist_run_plan.specs.declared.plan.{DialPlan.DialPlan, NodePlan.NodePlan, Plan.Plan}
 use Rattle.dist_run_hosts.specs.declared.order_fault.OrderFault.{OrderFault}
 
 -- the event is a dial of this peer

@@ -1,10 +1,8 @@
 -- Nodes as a nodes file says that they are set up.
 use Rattle.std.specs.Prelude.{◌≡◌, ℕ, ⊤, List, [], ◌∷◌}
 use Rattle.dist_names.specs.declared.creation.Creation.{Creation}
-use Rattle.dist_core_setup.specs.declared.setup.Setup.{Setup}
-use Rattle.dist_core_setup.specs.declared.version.Version.{Version}
+use Rattle.dist_core_setup.specs.{declared.setup.Setup.Setup, declared.version.Version.Version, Limits.usual_limits}
 use Rattle.dist_core_setup.specs.declared.version.Version.TheVariants as versions
-use Rattle.dist_core_setup.specs.Limits.{usual_limits}
 use Rattle.dist_locked_book.specs.declared.closing.Closed.{Closed}
 use Rattle.dist_run_plan.specs.declared.plan.NodePlan.{NodePlan}
 

@@ -1,13 +1,11 @@
 -- The words for the end of a run, and for an order that was not followed, as programs print them.
 use Rattle.std.specs.Prelude.{◌≡◌, ◌⊎◌, ℕ, ℤ, Bool, true, false, List, Option, Some, codes, pos}
 use Rattle.dist_core.specs.Words.{refusal_name}
-use Rattle.dist_epmd_calls.specs.Refusals.{lookup_error_name}
-use Rattle.dist_epmd_calls.specs.declared.lookup_error.LookupError.{LookupError}
+use Rattle.dist_epmd_calls.specs.{Refusals.lookup_error_name, declared.lookup_error.LookupError.LookupError}
 use Rattle.dist_epmd_calls.specs.declared.lookup_error.LookupError.TheVariants as lookup
 use Rattle.dist_locked_book.specs.declared.closing.CloseError.TheVariants as closing
-use Rattle.dist_run_hosts.specs.declared.order_fault.OrderRefusal.{OrderRefusal}
+use Rattle.dist_run_hosts.specs.declared.{order_fault.OrderRefusal.OrderRefusal, run_error.RunError.RunError}
 use Rattle.dist_run_hosts.specs.declared.order_fault.OrderRefusal.TheVariants as refusal
-use Rattle.dist_run_hosts.specs.declared.run_error.RunError.{RunError}
 use Rattle.dist_run_hosts.specs.declared.run_error.RunError.TheVariants as run
 
 -- the word of what ended a run: that of a refusal, or of what the system did not give

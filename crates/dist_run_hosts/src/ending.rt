@@ -1,9 +1,7 @@
 //! What is left of a run, and its nodes, closed.
 
 ghost use Rattle.std.specs.Prelude.{◌++◌, IfOk, IsPermutation};
-ghost use Rattle.dist_run_hosts.specs.Setups.{AreOfPlans};
-ghost use Rattle.dist_run_hosts.specs.Orders.{AreObeyed};
-ghost use Rattle.dist_run_hosts.specs.Runs.{AreInOrder};
+ghost use Rattle.dist_run_hosts.specs.{Setups.AreOfPlans, Orders.AreObeyed, Runs.AreInOrder};
 
 use crate::host::Host;
 use crate::order_fault::OrderFault;

@@ -1,7 +1,6 @@
 //! The port mapper of a run.
 
-ghost use Rattle.std.specs.Prelude.{◌≡◌, ◌≢◌, ◌≤◌, ◌+◌, ◌*◌};
-ghost use Rattle.std.specs.IoError.{error_kind};
+ghost use Rattle.std.specs.{Prelude.◌≡◌, Prelude.◌≢◌, Prelude.◌≤◌, Prelude.◌+◌, Prelude.◌*◌, IoError.error_kind};
 ghost use Rattle.dist_run_hosts.specs.declared.run_error.RunError.TheVariants.{ListenFailed, NoMemory};
 
 use crate::run_error::RunError;

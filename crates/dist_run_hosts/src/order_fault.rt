@@ -1,7 +1,6 @@
 //! Orders that were not followed.
 
-ghost use Rattle.std.specs.Prelude.{◌≡◌, ◌⊎◌, true, false};
-ghost use Rattle.std.specs.IoError.{raw_os_error};
+ghost use Rattle.std.specs.{Prelude.◌≡◌, Prelude.◌⊎◌, Prelude.true, Prelude.false, IoError.raw_os_error};
 ghost use Rattle.dist_run_hosts.specs.Words.{order_refusal_name, is_silence, IsOutOfDescriptors};
 ghost use Rattle.dist_run_hosts.specs.declared.order_fault.OrderRefusal.TheVariants.{NoRegistry, NoDescriptors, Lookup};
 

@@ -1,7 +1,6 @@
 //! Whether the orders of a nodes file were followed.
 
-ghost use Rattle.std.specs.Prelude.{◌≡◌, ◌↔◌, ◌+◌, All, length, count_by, IsTrue};
-ghost use Rattle.std.specs.List.{AllByRecursion};
+ghost use Rattle.std.specs.{Prelude.◌≡◌, Prelude.◌↔◌, Prelude.◌+◌, Prelude.All, Prelude.length, Prelude.count_by, Prelude.IsTrue, List.AllByRecursion};
 ghost use Rattle.dist_run_hosts.specs.Orders.{is_dial_of, is_order, is_fault_of, count_dials, RiseWithin};
 ghost use Rattle.dist_run_hosts.specs.Orders.{IsObeyed, IsObedient, AreObeyed, PeerIsObeyed, OrderIsObeyed, LineIsObeyed};
 

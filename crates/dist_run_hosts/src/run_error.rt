@@ -1,8 +1,7 @@
 //! Why a run ends before its work is done.
 
 ghost use Rattle.std.specs.Prelude.{◌≡◌};
-ghost use Rattle.dist_run_hosts.specs.declared.run_error.RunError.TheVariants.{NoMemory};
-ghost use Rattle.dist_run_hosts.specs.Words.{run_error_name};
+ghost use Rattle.dist_run_hosts.specs.{declared.run_error.RunError.TheVariants.NoMemory, Words.run_error_name};
 
 use dist_drive::LookupError;
 use dist_locked::CloseError;

@@ -1,7 +1,6 @@
 //! Waits of several turns.
 
-ghost use Rattle.std.specs.Prelude.{◌≡◌, ◌≤◌, ◌*◌, ◌/◌, ◌^◌, ◌-◌, min, pos};
-ghost use Rattle.std.specs.Duration.{as_nanos};
+ghost use Rattle.std.specs.{Prelude.◌≡◌, Prelude.◌≤◌, Prelude.◌*◌, Prelude.◌/◌, Prelude.◌^◌, Prelude.◌-◌, Prelude.min, Prelude.pos, Duration.as_nanos};
 ghost use Rattle.dist_run_hosts.specs.Waits.{turns_of_wait};
 
 use dist_program::one_turn;

@@ -2,16 +2,12 @@
 use Rattle.std.specs.Prelude.{ℕ, Bool, true, not, ◌&&◌, nat_le, if◌then◌else◌, List, [], ◌∷◌, length}
 use Rattle.std.specs.Prelude.{map, codes, Option, Some, None, option_map, option_and_then}
 use Rattle.std.specs.List.{list_all, list_any}
-use Rattle.toml.specs.Data.{Data, Members, no_members, member, get_member, as_table}
-use Rattle.toml.specs.Parse.{parse_document}
-use Rattle.dist_names.specs.NodeName.{short_of}
-use Rattle.dist_names.specs.Order.{same_name}
-use Rattle.dist_run_plan.specs.declared.plan.NodePlan.{NodePlan}
-use Rattle.dist_run_plan.specs.declared.plan.DialPlan.{DialPlan}
-use Rattle.dist_run_plan.specs.declared.plan.Plan.{Plan}
+use Rattle.toml.specs.{Data.Data, Data.Members, Data.no_members, Data.member, Data.get_member, Data.as_table, Parse.parse_document}
+use Rattle.dist_names.specs.{NodeName.short_of, Order.same_name}
+use Rattle.dist_run_plan.specs.Values.{number_in, name_in, cookie_in, cookies_in, version_in, flags_in, names_in, all_some, array_in}
+use Rattle.dist_run_plan.specs.declared.plan.{NodePlan.NodePlan, DialPlan.DialPlan, Plan.Plan}
 use Rattle.dist_secret.specs.Cookies.{CookieTable}
 use Rattle.dist_core_setup.specs.declared.version.Version.TheVariants as versions
-use Rattle.dist_run_plan.specs.Values.{number_in, name_in, cookie_in, cookies_in, version_in, flags_in, names_in, all_some, array_in}
 
 -- what a value says, where there is one
 infixl 10 ◌>>=◌

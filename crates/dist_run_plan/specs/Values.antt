@@ -1,16 +1,12 @@
 -- What a single value of a TOML tree says in a nodes file.
 use Rattle.std.specs.Prelude.{ℕ, ◌&&◌, nat_le, ◌==◌, if◌then◌else◌, List, [], ◌∷◌, map, pos, Option, Some, None, option_map, option_and_then}
-use Rattle.std.specs.Result.{result_ok}
-use Rattle.std.specs.List.{list_all}
+use Rattle.std.specs.{Result.result_ok, List.list_all}
 use Rattle.toml.specs.Data.{Data, integer, Items, no_items, item, Members, no_members, member, as_str, as_array, as_table}
-use Rattle.dist_names.specs.Bytes.{is_printable}
+use Rattle.dist_names.specs.{Bytes.is_printable, NodeName.name_of_bytes, declared.flags.Flags.Flags}
 use Rattle.dist_names.specs.Digits as digits
-use Rattle.dist_names.specs.NodeName.{name_of_bytes}
-use Rattle.dist_names.specs.declared.flags.Flags.{Flags}
 use Rattle.dist_core_setup.specs.declared.version.Version.{Version}
 use Rattle.dist_core_setup.specs.declared.version.Version.TheVariants as version
-use Rattle.dist_secret.specs.Cookie.{cookie_of}
-use Rattle.dist_secret.specs.Cookies.{CookieTable, is_full_for, with_cookie}
+use Rattle.dist_secret.specs.{Cookie.cookie_of, Cookies.CookieTable, Cookies.is_full_for, Cookies.with_cookie}
 
 -- a whole number within these bounds
 abbrev pub number_in : ℕ → ℕ → Data → Option ℕ

@@ -1,13 +1,10 @@
 //! What single values say.
 
-ghost use Rattle.std.specs.Prelude.{◌≡◌, map, Option, Some, None, MatchResult};
-ghost use Rattle.std.specs.Result.{result_ok};
-ghost use Rattle.toml.specs.Data.{Data, as_str, as_table};
-ghost use Rattle.toml.specs.View.{view, table_view};
+ghost use Rattle.std.specs.{Prelude.◌≡◌, Prelude.map, Prelude.Option, Prelude.Some, Prelude.None, Prelude.MatchResult, Result.result_ok};
+ghost use Rattle.toml.specs.{Data.Data, Data.as_str, Data.as_table, View.view, View.table_view};
 ghost use Rattle.dist_names.specs.NodeName.{name_of_bytes};
-ghost use Rattle.dist_run_plan.specs.declared.plan_error.PlanError.TheVariants.{Bad};
-ghost use Rattle.dist_run_plan.specs.Answer.{Reads};
 ghost use Rattle.dist_run_plan.specs.Values.{number_in, name_in, cookie_in, cookies_with, cookies_of, version_in, flags_in, array_in, all_some};
+ghost use Rattle.dist_run_plan.specs.{declared.plan_error.PlanError.TheVariants.Bad, Answer.Reads};
 
 use crate::plan_error::PlanError;
 use dist_core_setup::Version;

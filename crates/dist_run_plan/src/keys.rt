@@ -1,8 +1,7 @@
 //! The keys of a table, and the values at them.
 
 ghost use Rattle.std.specs.Prelude.{◌≡◌, option_map, map};
-ghost use Rattle.toml.specs.Data.{get_member};
-ghost use Rattle.toml.specs.View.{view, table_view};
+ghost use Rattle.toml.specs.{Data.get_member, View.view, View.table_view};
 ghost use Rattle.dist_run_plan.specs.Plans.{is_one_of, has_only};
 
 use dist_names::is_same_text;

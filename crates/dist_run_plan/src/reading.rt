@@ -1,16 +1,11 @@
 //! A plan is read from the outside to the inside: the document, its keys, each node and dial, each value.
 
-ghost use Rattle.std.specs.Prelude.{◌≡◌, option_map, codes, not, Some, None};
-ghost use Rattle.std.specs.List.{list_all, list_any};
-ghost use Rattle.toml.specs.View.{view, table_view};
-ghost use Rattle.toml.specs.Data.{get_member};
-ghost use Rattle.dist_names.specs.Order.{same_name};
-ghost use Rattle.dist_names.specs.NodeName.{short_of};
-ghost use Rattle.dist_run_plan.specs.declared.plan_error.PlanError.TheVariants.{Bad};
-ghost use Rattle.dist_run_plan.specs.Answer.{Reads};
-ghost use Rattle.dist_run_plan.specs.Values.{names_in, cookies_in};
-ghost use Rattle.dist_run_plan.specs.Plans.{or_usual, usual_alone, needed_member, node_of, node_in, dial_in, list_in, nodes_in, dials_in};
-ghost use Rattle.dist_run_plan.specs.Plans.{are_apart, are_made_by, parts_of, plan_in, plan_of};
+ghost use Rattle.std.specs.{Prelude.◌≡◌, Prelude.option_map, Prelude.codes, Prelude.not, Prelude.Some, Prelude.None, List.list_all, List.list_any};
+ghost use Rattle.toml.specs.{View.view, View.table_view, Data.get_member};
+ghost use Rattle.dist_names.specs.{Order.same_name, NodeName.short_of};
+ghost use Rattle.dist_run_plan.specs.Plans.{or_usual, usual_alone, needed_member, node_of, node_in, dial_in, list_in, nodes_in, dials_in, are_apart};
+ghost use Rattle.dist_run_plan.specs.Plans.{are_made_by, parts_of, plan_in, plan_of};
+ghost use Rattle.dist_run_plan.specs.{declared.plan_error.PlanError.TheVariants.Bad, Answer.Reads, Values.names_in, Values.cookies_in};
 
 use crate::fields::{FromValue, add_cookies, all_of, array_of, table_of};
 use crate::keys::{has_only, value_at};

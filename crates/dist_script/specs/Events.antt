@@ -1,11 +1,10 @@
 -- The lines of a script for its one node.
 use Rattle.std.specs.Prelude.{ℕ, List, [], ◌∷◌, codes, Option}
 use Rattle.dist_core.specs.declared.event.Event.TheVariants as event
-use Rattle.dist_script.specs.declared.script.ScriptLine.{ScriptLine}
-use Rattle.dist_script.specs.declared.script.ScriptLine.TheVariants as line
-use Rattle.dist_script.specs.declared.events.EventWord.{EventWord}
-use Rattle.dist_script.specs.declared.events.EventWord.TheVariants as kind
 use Rattle.dist_script.specs.Fields.{Read, next, give, whole_line, number_in, end_in, bytes_in, name_in, opening_in, why_in}
+use Rattle.dist_script.specs.declared.{script.ScriptLine.ScriptLine, events.EventWord.EventWord}
+use Rattle.dist_script.specs.declared.script.ScriptLine.TheVariants as line
+use Rattle.dist_script.specs.declared.events.EventWord.TheVariants as kind
 
 -- the first word of each kind of line
 abbrev pub event_kinds : List (List ℕ × EventWord)

@@ -1,20 +1,14 @@
 -- What the words of a line say.
-use Rattle.std.specs.Prelude.{◌≡◌, ℕ, ◌&&◌, ◌^◌, nat_lt, if◌then◌else◌, List, [], ◌∷◌}
-use Rattle.std.specs.Prelude.{drop, codes, Option, Some, None, option_map, option_and_then, Result, MatchResult}
-use Rattle.std.specs.Result.{result_ok}
-use Rattle.std.specs.Str.Parse.{digits_value}
+use Rattle.std.specs.Prelude.{◌≡◌, ℕ, ◌&&◌, ◌^◌, nat_lt, if◌then◌else◌, List, [], ◌∷◌, drop, codes, Option, Some, None, option_map, option_and_then, Result}
+use Rattle.std.specs.Prelude.{MatchResult}
+use Rattle.std.specs.{Result.result_ok, Str.Parse.digits_value}
 use Rattle.hex.specs.Hex.{decode_of}
-use Rattle.dist_names.specs.Digits.{is_numeral}
-use Rattle.dist_names.specs.NodeName.{name_of_bytes}
-use Rattle.dist_names.specs.Order.{same_name}
-use Rattle.dist_names.specs.declared.creation.Creation.{Creation}
+use Rattle.dist_names.specs.{Digits.is_numeral, NodeName.name_of_bytes, Order.same_name, declared.creation.Creation.Creation}
 use Rattle.dist_messages.specs.declared.opening.Opening.{Opening}
 use Rattle.dist_messages.specs.declared.opening.Opening.TheVariants as opening
 use Rattle.dist_peers.specs.declared.entry.EndId.{EndId}
-use Rattle.dist_core_ends.specs.declared.why.Why.{Why}
-use Rattle.dist_core_ends.specs.Words.{why_of}
-use Rattle.dist_script.specs.declared.words.LineFault.{LineFault}
-use Rattle.dist_script.specs.declared.words.LineFault.TheVariants.{Bad}
+use Rattle.dist_core_ends.specs.{declared.why.Why.Why, Words.why_of}
+use Rattle.dist_script.specs.declared.words.LineFault.{LineFault, TheVariants.Bad}
 
 -- ---- what a call that reads something returns
 

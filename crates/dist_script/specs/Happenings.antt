@@ -3,10 +3,9 @@ use Rattle.std.specs.Prelude.{ℕ, List, [], ◌∷◌, codes, Option, Some, Non
 use Rattle.dist_core.specs.declared.changing.Change.TheVariants as change
 use Rattle.dist_world_model.specs.declared.happening.Happening.{Happening}
 use Rattle.dist_world_model.specs.declared.happening.Happening.TheVariants as happening
-use Rattle.dist_script.specs.declared.happenings.HappeningWord.{HappeningWord}
-use Rattle.dist_script.specs.declared.happenings.HappeningWord.TheVariants as kind
 use Rattle.dist_script.specs.Fields.{Read, next, give, whole_line, count_in, number_in, creation_in, end_in, name_in, opening_in, why_in}
-use Rattle.dist_script.specs.Nodes.{cookie_in}
+use Rattle.dist_script.specs.{declared.happenings.HappeningWord.HappeningWord, Nodes.cookie_in}
+use Rattle.dist_script.specs.declared.happenings.HappeningWord.TheVariants as kind
 
 -- the first word of each kind of line
 abbrev pub happening_kinds : List (List ℕ × HappeningWord)

@@ -1,16 +1,9 @@
 -- The line of a script that sets a node up.
 use Rattle.std.specs.Prelude.{ℕ, Bool, false, nat_lt, if◌then◌else◌, List, [], ◌∷◌, length, drop, codes, Option, Some, None, option_map}
-use Rattle.std.specs.Result.{result_ok}
-use Rattle.std.specs.List.{list_all}
-use Rattle.dist_names.specs.Bytes.{is_visible}
-use Rattle.dist_names.specs.Digits.{flags_in}
-use Rattle.dist_names.specs.Order.{Name, same_name}
-use Rattle.dist_names.specs.declared.flags.Flags.{Flags}
-use Rattle.dist_secret.specs.Cookie.{cookie_of}
-use Rattle.dist_secret.specs.Cookies.{CookieTable, is_full_for, with_cookie}
-use Rattle.dist_core_setup.specs.declared.setup.Setup.{Setup}
-use Rattle.dist_core_setup.specs.Limits.{usual_limits}
-use Rattle.dist_core_setup.specs.declared.version.Version.{Version}
+use Rattle.std.specs.{Result.result_ok, List.list_all}
+use Rattle.dist_names.specs.{Bytes.is_visible, Digits.flags_in, Order.Name, Order.same_name, declared.flags.Flags.Flags}
+use Rattle.dist_secret.specs.{Cookie.cookie_of, Cookies.CookieTable, Cookies.is_full_for, Cookies.with_cookie}
+use Rattle.dist_core_setup.specs.{declared.setup.Setup.Setup, Limits.usual_limits, declared.version.Version.Version}
 use Rattle.dist_core_setup.specs.declared.version.Version.TheVariants as version
 use Rattle.dist_script.specs.declared.node_line.NodeTerms.{NodeTerms}
 use Rattle.dist_script.specs.Fields.{◌>>=◌, Read, next, give, creation_in, name_in}

@@ -3,14 +3,10 @@ use Rattle.std.specs.Prelude.{ℕ, ◌+◌, Bool, false, true, ◌||◌, if◌th
 use Rattle.std.specs.Prelude.{drop, codes, is_some, Option, Some, None, Result, Ok, Err}
 use Rattle.dist_core_setup.specs.declared.setup.Setup.{Setup}
 use Rattle.dist_world_model.specs.declared.happening.Happening.{Happening}
-use Rattle.dist_script.specs.Words.{words_of, lines_of, is_skipped}
-use Rattle.dist_script.specs.declared.fault.ScriptFault.{ScriptFault}
-use Rattle.dist_script.specs.declared.fault.ScriptFault.TheVariants.{BadLine, NoNode}
-use Rattle.dist_script.specs.declared.script.ScriptLine.{ScriptLine}
-use Rattle.dist_script.specs.declared.script.Script.{Script}
+use Rattle.dist_script.specs.{Words.words_of, Words.lines_of, Words.is_skipped, Fields.◌>>=◌, Nodes.begins, Nodes.node_in}
+use Rattle.dist_script.specs.declared.fault.ScriptFault.{ScriptFault, TheVariants.BadLine, TheVariants.NoNode}
+use Rattle.dist_script.specs.declared.script.{ScriptLine.ScriptLine, Script.Script}
 use Rattle.dist_script.specs.declared.script.Script.TheVariants as script
-use Rattle.dist_script.specs.Fields.{◌>>=◌}
-use Rattle.dist_script.specs.Nodes.{begins, node_in}
 use Rattle.dist_script.specs.Events as events
 use Rattle.dist_script.specs.Happenings as happenings
 

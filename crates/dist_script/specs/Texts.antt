@@ -1,8 +1,6 @@
 -- The bytes that the pieces of a printed line make: text, decimal numbers, flags and hexadecimal digits.
 use Rattle.std.specs.Prelude.{ℕ, Option, List, [], ◌∷◌, ◌++◌, decimal}
-use Rattle.std.specs.Int.{w64, to_be_bytes}
-use Rattle.std.specs.Io.{StartsWith}
-use Rattle.std.specs.Io.KnownBytes.{Appends}
+use Rattle.std.specs.{Int.w64, Int.to_be_bytes, Io.StartsWith, Io.KnownBytes.Appends}
 use Rattle.hex.specs.Hex.{encode_lower}
 use Rattle.dist_names.specs.declared.flags.Flags.{Flags}
 use Rattle.dist_script.specs.declared.pieces.Piece.{Piece}

@@ -1,8 +1,7 @@
 //! What stops the playing of a script before its end, and how that is reported.
 
 ghost use Rattle.std.specs.Prelude.{◌≡◌, ◌++◌, IsOk, IfErr, OnOk};
-ghost use Rattle.dist_script.specs.Fault.{status_of, fault_text, fault_line};
-ghost use Rattle.dist_script.specs.Texts.{text_of, PutsFront};
+ghost use Rattle.dist_script.specs.{Fault.status_of, Fault.fault_text, Fault.fault_line, Texts.text_of, Texts.PutsFront};
 ghost use Rattle.dist_script.specs.declared.fault.ScriptFault.TheVariants.{NoMemory, WriteFailed};
 
 use crate::pieces::{Piece, put};

@@ -2,8 +2,7 @@
 
 ghost use Rattle.std.specs.Prelude.{◌≡◌, ◌↔◌, ℕ, List, [], drop, map, IsTrue, MatchResult};
 ghost use Rattle.std.specs.Result.{result_ok};
-ghost use Rattle.dist_names.specs.NodeName.{name_of_bytes};
-ghost use Rattle.dist_names.specs.Order.{same_name};
+ghost use Rattle.dist_names.specs.{NodeName.name_of_bytes, Order.same_name};
 ghost use Rattle.dist_script.specs.declared.words.LineFault.TheVariants.{Bad};
 ghost use Rattle.dist_script.specs.Fields.{Reads, first_in, meaning_in, number_in, count_in, creation_in, end_in, bytes_in, name_in, opening_in, why_in};
 

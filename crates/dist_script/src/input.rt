@@ -2,8 +2,7 @@
 
 ghost use Rattle.std.specs.Prelude.{◌≡◌, ◌⊎◌, ◌+◌, ◌≤◌, ◌++◌, ℕ, List, length, IfOk, IfErr, OnOk, OnErr};
 ghost use Rattle.std.specs.Io.KnownBytes.{Consumes, IsAtEnd};
-ghost use Rattle.dist_script.specs.Fault.{StopsReading};
-ghost use Rattle.dist_script.specs.declared.fault.ScriptFault.TheVariants.{ReadFailed, NoMemory};
+ghost use Rattle.dist_script.specs.{Fault.StopsReading, declared.fault.ScriptFault.TheVariants.ReadFailed, declared.fault.ScriptFault.TheVariants.NoMemory};
 
 use crate::fault::ScriptFault;
 use std::alloc::Global;

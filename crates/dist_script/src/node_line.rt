@@ -2,10 +2,9 @@
 
 ghost use Rattle.std.specs.Prelude.{◌≡◌, drop, Some, None, MatchResult};
 ghost use Rattle.dist_names.specs.Digits.{flags_in};
-ghost use Rattle.dist_script.specs.declared.words.LineFault.TheVariants.{Bad};
-ghost use Rattle.dist_script.specs.Fields.{Reads, ReadsUpTo, Makes, first_in, creation_in};
-ghost use Rattle.dist_script.specs.Nodes.{version_in, required_in, cookie_in, cookie_added, further_in, cookies_in};
-ghost use Rattle.dist_script.specs.Nodes.{names_in, allowed_in, terms_in, behind_cookies, node_in};
+ghost use Rattle.dist_script.specs.{declared.words.LineFault.TheVariants.Bad, Fields.Reads, Fields.ReadsUpTo, Fields.Makes, Fields.first_in};
+ghost use Rattle.dist_script.specs.{Fields.creation_in, Nodes.version_in, Nodes.required_in, Nodes.cookie_in, Nodes.cookie_added, Nodes.further_in};
+ghost use Rattle.dist_script.specs.{Nodes.cookies_in, Nodes.names_in, Nodes.allowed_in, Nodes.terms_in, Nodes.behind_cookies, Nodes.node_in};
 
 use crate::fields::{creation_word, line_end, name_of, name_word};
 use crate::words::{LineFault, Words};

@@ -3,8 +3,7 @@
 ghost use Rattle.std.specs.Prelude.{◌≤◌, ◌≡◌, ◌*◌, length, take, drop, decimal, OnOk, OnErr, IfOk, IfErr};
 ghost use Rattle.std.specs.Io.KnownBytes.{Appends, Keeps};
 ghost use Rattle.hex.specs.Hex.{encode_lower};
-ghost use Rattle.dist_script.specs.Texts.{text_of, texts_of, PutsFront};
-ghost use Rattle.dist_script.specs.declared.fault.ScriptFault.TheVariants.{WriteFailed};
+ghost use Rattle.dist_script.specs.{Texts.text_of, Texts.texts_of, Texts.PutsFront, declared.fault.ScriptFault.TheVariants.WriteFailed};
 
 use crate::fault::ScriptFault;
 use dist_names::Flags;
@@ -34,6 +33,7 @@ pub enum Piece<'a> {
 pub fn put<W: Write>(out: &mut W, pieces: &[Piece<'_>]) -> Result<(), ScriptFault>
     ensures text { OnOk result (Appends (W.contents out.old) (W.contents out.new) (texts_of pieces.now)) }
     ensures cut { OnErr result (PutsFront (texts_of pieces.now) (W.contents out.old) (W.contents out.new)) }
+    ensures fault { IfErr result (λ fault. fault ≡ WriteFailed) }
 {
     for piece in pieces {
         put_piece(out, *piece)?;
@@ -46,6 +46,7 @@ pub fn put<W: Write>(out: &mut W, pieces: &[Piece<'_>]) -> Result<(), ScriptFaul
 pub fn put_piece<W: Write>(out: &mut W, piece: Piece<'_>) -> Result<(), ScriptFault>
     ensures text { OnOk result (Appends (W.contents out.old) (W.contents out.new) (text_of piece.entry)) }
     ensures cut { OnErr result (PutsFront (text_of piece.entry) (W.contents out.old) (W.contents out.new)) }
+    ensures fault { IfErr result (λ fault. fault ≡ WriteFailed) }
 {
     match piece {
         Piece::Text(text) => put_bytes(out, text),
@@ -58,6 +59,7 @@ pub fn put_piece<W: Write>(out: &mut W, piece: Piece<'_>) -> Result<(), ScriptFa
 fn put_number<W: Write>(out: &mut W, number: u64) -> Result<(), ScriptFault>
     ensures text { OnOk result (Appends (W.contents out.old) (W.contents out.new) (decimal number)) }
     ensures cut { OnErr result (PutsFront (decimal number) (W.contents out.old) (W.contents out.new)) }
+    ensures fault { IfErr result (λ fault. fault ≡ WriteFailed) }
 {
     let mut room = [0u8; MOST_DECIMALS];
     let start = write_decimals(number, &mut room);
@@ -77,6 +79,7 @@ fn write_decimals(number: u64, room: &mut [u8]) -> usize
 fn put_digits<W: Write>(out: &mut W, bytes: &[u8]) -> Result<(), ScriptFault>
     ensures text { OnOk result (Appends (W.contents out.old) (W.contents out.new) (encode_lower bytes.now)) }
     ensures cut { OnErr result (PutsFront (encode_lower bytes.now) (W.contents out.old) (W.contents out.new)) }
+    ensures fault { IfErr result (λ fault. fault ≡ WriteFailed) }
 {
     let mut rest = bytes;
     while !rest.is_empty() {
@@ -99,6 +102,7 @@ fn short_hex<W: Write>(out: &mut W, bytes: &[u8]) -> Result<(), ScriptFault>
     requires { length bytes.now ≤ 32 }
     ensures text { OnOk result (Appends (W.contents out.old) (W.contents out.new) (encode_lower bytes.now)) }
     ensures cut { OnErr result (PutsFront (encode_lower bytes.now) (W.contents out.old) (W.contents out.new)) }
+    ensures fault { IfErr result (λ fault. fault ≡ WriteFailed) }
 {
     let mut room = [0u8; 2 * MOST_BYTES];
     let digits = &mut room[..2 * bytes.len()];

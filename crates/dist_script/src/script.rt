@@ -3,11 +3,8 @@
 ghost use Rattle.std.specs.Prelude.{◌≡◌, ◌⊎◌, false, true, is_some, Ok, Err, Some, None, MatchResult};
 ghost use Rattle.dist_script.specs.Words.{words_of, lines_of};
 ghost use Rattle.dist_script.specs.declared.fault.ScriptFault.TheVariants.{BadLine, NoMemory};
-ghost use Rattle.dist_script.specs.declared.words.LineFault.TheVariants.{Bad};
-ghost use Rattle.dist_script.specs.Fields.{Makes};
-ghost use Rattle.dist_script.specs.Happenings.{happening_line};
-ghost use Rattle.dist_script.specs.Scripts.{nothing, with_node, is_either, with_event, with_happening, with_words, with_line, with_lines};
-ghost use Rattle.dist_script.specs.Scripts.{script_in, says};
+ghost use Rattle.dist_script.specs.Scripts.{nothing, with_node, is_either, with_event, with_happening, with_words, with_line, with_lines, script_in, says};
+ghost use Rattle.dist_script.specs.{declared.words.LineFault.TheVariants.Bad, Fields.Makes, Happenings.happening_line};
 
 use crate::events::line_of;
 use crate::fault::ScriptFault;

@@ -4,9 +4,9 @@ use Rattle.dist_script_play.proofs.Words.{sym, refl, ap, ◌∙◌, subst, inl, 
 use Rattle.dist_script_play.proofs.Words.{empty, Happening, names_repeat, Happenings, PutsFront, lines_of, ScriptFault, NoMemory, SameName, TooLong}
 use Rattle.dist_script_play.proofs.Words.{WriteFailed, BreaksOff, IsOfSystem, IsFront, IsPrinted, IsPrintedFrom, fault_said, happenings_text, steps_text}
 use Rattle.dist_script_play.proofs.Words.{BreaksOne, IsBad, IsCut, PutsOneOn, PutsOnePart, Stops, StopsWorld}
+use Rattle.dist_script_play.proofs.{Lines.not_long, Worlds.breaks_world}
 use Rattle.dist_script.specs.Fault.{status_of, fault_line, StopsReading}
 use Rattle.dist_script.specs.Scripts.{SoFar, nothing, with_line, unless_bad, with_lines, whole, all_good, Says, script_in}
-use Rattle.dist_script_play.proofs.{Lines.not_long, Worlds.breaks_world}
 
 -- ---- a text that says nothing has a fault of status 2
 

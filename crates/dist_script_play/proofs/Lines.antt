@@ -3,9 +3,9 @@ use Rattle.dist_script_play.proofs.Words.{◌≡◌, ℕ, ◌+◌, ◌<◌, ◌�
 use Rattle.dist_script_play.proofs.Words.{Result, sym, refl, ap, ◌∙◌, subst, append_assoc, append-nil, le-ltb, at_drop_all, at_drop_more, Consumes, IsAtEnd}
 use Rattle.dist_script_play.proofs.Words.{Setup, PutsFront, ScriptFault, SameName, TooLong, WriteFailed, table_text, BreaksOff, Puts, PutsPart, IsPrinted}
 use Rattle.dist_script_play.proofs.Words.{Standing, after_line, at_first, fault_in, fault_said, line_text, lines_text, Plays, PutsOne}
+use Rattle.dist_script_play.proofs.Pages.{puts_none, puts_more, part_more, breaks_off}
 use Rattle.dist_script.specs.{Fault.status_of, Scripts.Says, Scripts.script_in, declared.script.ScriptLine.ScriptLine}
 use Rattle.dist_script.specs.declared.fault.ScriptFault.TheVariants as fault
-use Rattle.dist_script_play.proofs.Pages.{puts_none, puts_more, part_more, breaks_off}
 
 -- what is not too long has the fault that its lines have
 pub not_long : (script : List ℕ) → length script ≤ 1048576 → fault_in script ≡ fault_said (script_in script)

@@ -3,8 +3,8 @@ use Rattle.dist_script_play.proofs.Words.{◌≡◌, ℕ, zero, suc, ◌+◌, �
 use Rattle.dist_script_play.proofs.Words.{Option, nat_cmp, is_eq, is_gt, BTreeSet, sym, refl, ap, ◌∙◌, subst, append_assoc, append-nil, arith, Appends-nil}
 use Rattle.dist_script_play.proofs.Words.{Appends-trans, nat_tests, nil_from_length, IsLowerBound, Updates, contains, Appends, Counts, World, Agreement}
 use Rattle.dist_script_play.proofs.Words.{HasAllFrom, IsRowFrom, AreLinesOf, IsReported, PutsAgreements, pairs, places_from, reported_line, with_each}
-use Rattle.dist_world.specs.Ups as Ups
 use Rattle.dist_script_play.proofs.Finding.{none_in}
+use Rattle.dist_world.specs.Ups as Ups
 
 lines_behind : (w : World) (ps qs : List (ℕ × ℕ)) (s t : List ℕ) → AreLinesOf w ps s → AreLinesOf w qs t → AreLinesOf w (ps ++ qs) (s ++ t)
 lines_behind w [] qs s t e k = subst (λ x. AreLinesOf w qs (x ++ t)) (sym e) k

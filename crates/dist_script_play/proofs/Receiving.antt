@@ -4,9 +4,9 @@ use Rattle.dist_script_play.proofs.Words.{refl, ap, ◌∙◌, subst, append_ass
 use Rattle.dist_script_play.proofs.Words.{to_come, unreported, without_count, without_next, EndId, NodeState, step, Reply, StepError, Readers, Received}
 use Rattle.dist_script_play.proofs.Words.{Standing, after_frame, after_received, behind_text, frame_received, is_said, packets_text, reader_of, received}
 use Rattle.dist_script_play.proofs.Words.{received_frames, received_text, step_text, with_reader, with_received, without_frame, Receives}
+use Rattle.dist_script_play.proofs.Reading.{no_next, fewer}
 use Rattle.dist_frames.specs.Reader.Reader.{Short}
 use Rattle.dist_core.specs.declared.event.Event.TheVariants as event
-use Rattle.dist_script_play.proofs.Reading.{no_next, fewer}
 
 both_behind : (a b : List ℕ) (h : Received) → behind_text (a ++ b) h ≡ behind_text a (behind_text b h)
 both_behind a b h = ap (λ t. record { text = t; after = h.after }) (append_assoc a b h.text)

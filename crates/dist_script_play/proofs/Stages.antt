@@ -2,8 +2,8 @@
 use Rattle.dist_script_play.proofs.Words.{◌≡◌, ℕ, suc, ◌+◌, ◌<◌, ◌≤◌, List, [], ◌∷◌, ◌++◌, length, take, drop, Some, None, Option, sym, refl, ap, ◌∙◌, subst}
 use Rattle.dist_script_play.proofs.Words.{append_assoc, append-nil, arith, count_applied, one_where, run, World, Happening, ScriptFault, Puts, PutsPart}
 use Rattle.dist_script_play.proofs.Words.{closed_by, closed_now, happenings_text, closed_after}
-use Rattle.dist_world_model.specs.Happenings.{applied_at, happens, ticked_on}
 use Rattle.dist_script_play.proofs.Pages.{puts_none, puts_more, part_more}
+use Rattle.dist_world_model.specs.Happenings.{applied_at, happens, ticked_on}
 
 -- of one happening the line is that of the end that it closed
 one_closed : (w : World) (hs : List Happening) → length hs ≡ 1 → closed_after (count_applied hs w) (run hs w).last_closed ≡ happenings_text w hs

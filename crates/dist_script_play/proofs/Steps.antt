@@ -1,13 +1,9 @@
 -- Steps that were refused.
 use Rattle.std.proofs.Common.{◌≡◌, ◌∙◌, ℕ, List, Option, None, Result, Err, refl, sym, ap, subst}
 use Rattle.std.specs.Io.KnownBytes.{Appends}
-use Rattle.dist_core.specs.declared.reply.Reply.{Reply}
-use Rattle.dist_core.specs.declared.step_error.StepError.{StepError}
+use Rattle.dist_core.specs.{declared.reply.Reply.Reply, declared.step_error.StepError.StepError, Node.NodeState, Answers.Refuses}
 use Rattle.dist_core.specs.declared.step_error.StepError.TheVariants as error
-use Rattle.dist_core.specs.Node.{NodeState}
-use Rattle.dist_core.specs.Answers.{Refuses}
-use Rattle.dist_script_play.specs.Lines.{refused_line}
-use Rattle.dist_script_play.specs.Played.{Standing, step_text, up_in, after_step}
+use Rattle.dist_script_play.specs.{Lines.refused_line, Played.Standing, Played.step_text, Played.up_in, Played.after_step}
 
 -- where memory suffices, a refusal is the definition's
 refused : (e : StepError) (s : Result (Reply × NodeState) StepError) → Refuses e s → (e ≡ error.NoMemory → ⊥) → s ≡ Err e

@@ -1,16 +1,13 @@
 -- How the pairs that agree are found: who stands in a node's table is looked up by name.
 use Rattle.std.specs.Prelude.{◌≡◌, ℕ, suc, ◌+◌, ◌<◌, ◌==◌, nat_lt, Bool, false, true, if◌then◌else◌, List, length, Option, Some, None, slice_get}
-use Rattle.std.specs.Ordering.{nat_cmp}
+use Rattle.std.specs.{Ordering.nat_cmp, BTreeMap.BTreeMap, BTreeMap.get, BTreeSet.BTreeSet, BTreeSet.contains}
 use Rattle.std.specs.FinMap as map
-use Rattle.std.specs.BTreeMap.{BTreeMap, get}
-use Rattle.std.specs.BTreeSet.{BTreeSet, contains}
 use Rattle.dist_names.specs.Order.{Name, name_cmp}
 use Rattle.dist_peers.specs.declared.entry.Entry.{Entry}
 use Rattle.dist_core_ends.specs.Ends.{table_of}
 use Rattle.dist_core_setup.specs.declared.setup.Setup.{Setup}
 use Rattle.dist_core.specs.Node.{NodeState}
-use Rattle.dist_world_model.specs.World.{World}
-use Rattle.dist_world_model.specs.Agreement.{Counts}
+use Rattle.dist_world_model.specs.{World.World, Agreement.Counts}
 use Rattle.dist_script_play.specs.Worlds.{AreLinesOf, with_each, places_from}
 
 -- these are the places of the first nodes, this many of them, by their names

@@ -1,24 +1,14 @@
 -- THE LINES THAT ARE PRINTED. Their forms stand in docs/RUNNING.md.
 use Rattle.std.specs.Prelude.{ℕ, List, [], ◌∷◌, ◌++◌, codes, decimal, Option, Some, None, slice_get}
-use Rattle.std.specs.Option.{option_map}
-use Rattle.std.specs.List.{concat}
+use Rattle.std.specs.{Option.option_map, List.concat}
 use Rattle.std.specs.FinMap as map
 use Rattle.hex.specs.Hex.{encode_lower}
-use Rattle.dist_names.specs.Order.{Name}
-use Rattle.dist_names.specs.declared.creation.Creation.{Creation}
-use Rattle.dist_peers.specs.declared.entry.EndId.{EndId}
-use Rattle.dist_peers.specs.declared.entry.Entry.{Entry}
+use Rattle.dist_names.specs.{Order.Name, declared.creation.Creation.Creation}
+use Rattle.dist_peers.specs.{declared.entry.EndId.EndId, declared.entry.Entry.Entry, Table.up_id}
 use Rattle.dist_peers.specs.declared.entry.Entry.TheVariants as entry
-use Rattle.dist_peers.specs.Table.{up_id}
-use Rattle.dist_core_ends.specs.declared.why.Why.{Why}
-use Rattle.dist_core_ends.specs.declared.known.UpRecord.{UpRecord}
-use Rattle.dist_core_ends.specs.Ends.{table_of, record_in}
-use Rattle.dist_core_ends.specs.Words.{why_word}
-use Rattle.dist_core.specs.Node.{NodeState}
-use Rattle.dist_core.specs.declared.reply.Reply.{Reply}
-use Rattle.dist_core.specs.declared.step_error.StepError.{StepError}
+use Rattle.dist_core_ends.specs.{declared.why.Why.Why, declared.known.UpRecord.UpRecord, Ends.table_of, Ends.record_in, Words.why_word}
+use Rattle.dist_core.specs.{Node.NodeState, declared.reply.Reply.Reply, declared.step_error.StepError.StepError, Words.refusal_name}
 use Rattle.dist_core.specs.declared.step_error.StepError.TheVariants as refusal
-use Rattle.dist_core.specs.Words.{refusal_name}
 use Rattle.dist_script.specs.Texts.{flags_text}
 use Rattle.dist_world.specs.declared.agreement.Agreement.{Agreement}
 

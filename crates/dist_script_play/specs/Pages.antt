@@ -1,10 +1,7 @@
 -- What is put on a page, and what of it is written.
-use Rattle.std.specs.Prelude.{◌≡◌, ◌⊎◌, ℕ, List, ◌++◌, Option}
-use Rattle.std.specs.Io.{StartsWith}
-use Rattle.std.specs.Io.KnownBytes.{Appends}
-use Rattle.dist_script.specs.Texts.{PutsFront}
-use Rattle.dist_script.specs.declared.fault.ScriptFault.{ScriptFault}
+use Rattle.std.specs.{Prelude.◌≡◌, Prelude.◌⊎◌, Prelude.ℕ, Prelude.List, Prelude.◌++◌, Prelude.Option, Io.StartsWith, Io.KnownBytes.Appends}
 use Rattle.dist_script.specs.declared.fault.ScriptFault.TheVariants.{WriteFailed, NoMemory}
+use Rattle.dist_script.specs.{Texts.PutsFront, declared.fault.ScriptFault.ScriptFault}
 
 -- A TEXT WAS PUT ON A PAGE: what is written and what is still on the page are what was on it, and the text
 pub record Puts (text : List ℕ) (old new : Option (List ℕ)) (page left : List ℕ) : Type 0 where

@@ -2,32 +2,21 @@
 use Rattle.std.specs.Prelude.{◌≡◌, ◌⊎◌, ℕ, zero, suc, ◌-◌, Bool, true, false, nat_lt, if◌then◌else◌, List, [], ◌∷◌, ◌++◌, length, codes}
 use Rattle.std.specs.Prelude.{get_or, set, replicate, is_some, Option, Some, None, Result, Ok, Err, slice_get}
 use Rattle.std.specs.Io.{StartsWith}
-use Rattle.dist_frames.specs.Reader.{Reader, with_bytes, next_body, to_come, without_next, as_linked, unreported, without_count}
-use Rattle.dist_frames.specs.Reader.Reader.{Short}
+use Rattle.dist_frames.specs.Reader.{Reader, with_bytes, next_body, to_come, without_next, as_linked, unreported, without_count, Reader.Short}
 use Rattle.dist_peers.specs.declared.entry.EndId.{EndId}
-use Rattle.dist_core_ends.specs.declared.why.Why.{Why}
-use Rattle.dist_core_ends.specs.declared.phase.Still.{Still}
+use Rattle.dist_core_ends.specs.{declared.why.Why.Why, declared.phase.Still.Still, Ends.still_of}
 use Rattle.dist_core_ends.specs.declared.phase.Still.TheVariants as still
-use Rattle.dist_core_ends.specs.Ends.{still_of}
 use Rattle.dist_core_setup.specs.declared.setup.Setup.{Setup}
+use Rattle.dist_core.specs.{declared.reply.Reply.Reply, declared.step_error.StepError.StepError, Node.NodeState, Runs.opening, Step.step}
 use Rattle.dist_core.specs.declared.event.Event.TheVariants as event
-use Rattle.dist_core.specs.declared.reply.Reply.{Reply}
-use Rattle.dist_core.specs.declared.step_error.StepError.{StepError}
 use Rattle.dist_core.specs.declared.step_error.StepError.TheVariants as refusal
-use Rattle.dist_core.specs.Node.{NodeState}
-use Rattle.dist_core.specs.Runs.{opening}
-use Rattle.dist_core.specs.Step.{step}
-use Rattle.dist_world_model.specs.declared.happening.Happening.{Happening}
-use Rattle.dist_world_model.specs.World.{World, empty}
-use Rattle.dist_world_model.specs.Happenings.{applied_at, happens}
-use Rattle.dist_world_model.specs.Run.{run, count_applied}
+use Rattle.dist_world_model.specs.{declared.happening.Happening.Happening, World.World, World.empty, Happenings.applied_at, Happenings.happens, Run.run}
+use Rattle.dist_world_model.specs.{Run.count_applied}
 use Rattle.dist_world.specs.Setups.{names_repeat}
-use Rattle.dist_script.specs.declared.fault.ScriptFault.{ScriptFault}
-use Rattle.dist_script.specs.declared.fault.ScriptFault.TheVariants.{TooLong, SameName}
+use Rattle.dist_script.specs.Scripts.{Says, script_in, Says.Events, Says.Happenings}
+use Rattle.dist_script.specs.declared.fault.ScriptFault.{ScriptFault, TheVariants.TooLong, TheVariants.SameName}
 use Rattle.dist_script.specs.declared.script.ScriptLine.{ScriptLine}
 use Rattle.dist_script.specs.declared.script.ScriptLine.TheVariants as line
-use Rattle.dist_script.specs.Scripts.{Says, script_in}
-use Rattle.dist_script.specs.Scripts.Says.{Events, Happenings}
 use Rattle.dist_script_play.specs.Lines.{reply_line, refused_line, skipped_line, table_text, closed_line, applied_line}
 use Rattle.dist_script_play.specs.Worlds.{nodes_text, AreAgreements}
 

@@ -4,14 +4,11 @@ use Rattle.std.specs.Io.KnownBytes.{Appends, Keeps, Consumes, IsAtEnd}
 use Rattle.dist_peers.specs.declared.entry.EndId.{EndId}
 use Rattle.dist_core_ends.specs.declared.why.Why.{Why}
 use Rattle.dist_core_setup.specs.declared.setup.Setup.{Setup}
-use Rattle.dist_world_model.specs.declared.happening.Happening.{Happening}
-use Rattle.dist_world_model.specs.World.{empty}
+use Rattle.dist_world_model.specs.{declared.happening.Happening.Happening, World.empty}
 use Rattle.dist_world.specs.Setups.{names_repeat}
-use Rattle.dist_script.specs.Fault.{status_of}
-use Rattle.dist_script.specs.declared.fault.ScriptFault.{ScriptFault}
 use Rattle.dist_script.specs.declared.fault.ScriptFault.TheVariants.{TooLong, SameName, ReadFailed, NoMemory}
-use Rattle.dist_script_play.specs.Played.{Standing, Received, is_said, IsPrintedFrom, IsPlayed, IsPlayedPart}
-use Rattle.dist_script_play.specs.Played.{fault_in, happenings_text, closed_now}
+use Rattle.dist_script.specs.{Fault.status_of, declared.fault.ScriptFault.ScriptFault}
+use Rattle.dist_script_play.specs.Played.{Standing, Received, is_said, IsPrintedFrom, IsPlayed, IsPlayedPart, fault_in, happenings_text, closed_now}
 use Rattle.dist_script_play.specs.Pages.{IsOfSystem, Puts, PutsPart, BreaksOff}
 
 -- the lines of frames were written, it was returned whether there is one, and the state is that after them

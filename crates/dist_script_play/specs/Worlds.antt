@@ -2,11 +2,8 @@
 use Rattle.std.specs.Prelude.{◌≡◌, ℕ, zero, suc, List, [], ◌∷◌, ◌++◌, map, length, Option, Some, None, slice_get}
 use Rattle.std.specs.Io.KnownBytes.{Appends}
 use Rattle.dist_core_setup.specs.declared.setup.Setup.{Setup}
-use Rattle.dist_world_model.specs.World.{World}
-use Rattle.dist_world_model.specs.Agreement.{Counts}
-use Rattle.dist_world.specs.declared.agreement.Agreement.{Agreement}
-use Rattle.dist_world.specs.Asking.{node_of}
-use Rattle.dist_world.specs.Ups.{FindsAgreed}
+use Rattle.dist_world_model.specs.{World.World, Agreement.Counts}
+use Rattle.dist_world.specs.{declared.agreement.Agreement.Agreement, Asking.node_of, Ups.FindsAgreed}
 use Rattle.dist_script_play.specs.Lines.{node_text, agree_line}
 
 -- ---- the nodes

@@ -1,11 +1,8 @@
 //! What each two nodes of a world have in common.
 
 ghost use Rattle.std.specs.Prelude.{◌≡◌, ◌||◌, ◌<◌, ℕ, Option, Some, List, suc, length, cond, is_none, option_copied, IfOk, OnOk};
-ghost use Rattle.std.specs.Io.KnownBytes.{Appends};
-ghost use Rattle.std.specs.Ordering.{nat_cmp};
+ghost use Rattle.std.specs.{Io.KnownBytes.Appends, Ordering.nat_cmp, BTreeMap.get, BTreeSet.contains};
 ghost use Rattle.std.specs.FinMap as map;
-ghost use Rattle.std.specs.BTreeMap.{get};
-ghost use Rattle.std.specs.BTreeSet.{contains};
 ghost use Rattle.dist_names.specs.Order.{Name, name_cmp, same_name};
 ghost use Rattle.dist_core_ends.specs.Ends.{table_of};
 ghost use Rattle.dist_world.specs.declared.agreement.Agreement.{Agreement as Found};

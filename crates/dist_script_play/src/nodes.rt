@@ -1,7 +1,6 @@
 //! How the nodes of a world stand.
 
-ghost use Rattle.std.specs.Prelude.{OnOk};
-ghost use Rattle.std.specs.Io.KnownBytes.{Appends};
+ghost use Rattle.std.specs.{Prelude.OnOk, Io.KnownBytes.Appends};
 ghost use Rattle.dist_script_play.specs.Worlds.{nodes_text};
 
 use crate::print;

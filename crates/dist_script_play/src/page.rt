@@ -1,9 +1,7 @@
 //! A page collects what is printed, until it is long or complete.
 
-ghost use Rattle.std.specs.Prelude.{◌≡◌, ◌⊎◌, [], IsOk, OnOk, IfErr, Err};
-ghost use Rattle.std.specs.Io.KnownBytes.{Appends};
-ghost use Rattle.dist_script.specs.Texts.{PutsFront};
-ghost use Rattle.dist_script.specs.declared.fault.ScriptFault.TheVariants.{NoMemory, WriteFailed};
+ghost use Rattle.std.specs.{Prelude.◌≡◌, Prelude.◌⊎◌, Prelude.[], Prelude.IsOk, Prelude.OnOk, Prelude.IfErr, Prelude.Err, Io.KnownBytes.Appends};
+ghost use Rattle.dist_script.specs.{Texts.PutsFront, declared.fault.ScriptFault.TheVariants.NoMemory, declared.fault.ScriptFault.TheVariants.WriteFailed};
 ghost use Rattle.dist_script_play.specs.Pages.{Puts, PutsPart};
 
 use dist_script::{ScriptFault, or_write_failed, put_bytes};

@@ -1,16 +1,12 @@
 //! The command `enact`: reads a script from the input, and prints the result.
 
-ghost use Rattle.std.specs.Prelude.{◌≡◌, ◌≤◌, false, OnOk, IfErr};
-ghost use Rattle.std.specs.Io.KnownBytes.{Appends, Keeps};
-ghost use Rattle.dist_script.specs.Fault.{status_of, fault_line};
-ghost use Rattle.dist_script.specs.Texts.{PutsFront};
-ghost use Rattle.dist_script.specs.declared.fault.ScriptFault.{ScriptFault as Fault};
+ghost use Rattle.std.specs.{Prelude.◌≡◌, Prelude.◌≤◌, Prelude.false, Prelude.OnOk, Prelude.IfErr, Io.KnownBytes.Appends, Io.KnownBytes.Keeps};
+ghost use Rattle.dist_script.specs.{Fault.status_of, Fault.fault_line, Texts.PutsFront, declared.fault.ScriptFault.ScriptFault as Fault};
 ghost use Rattle.dist_world_model.specs.World.{empty};
 ghost use Rattle.dist_world.specs.Setups.{names_repeat};
-ghost use Rattle.dist_script_play.specs.Lines.{table_text};
 ghost use Rattle.dist_script_play.specs.Played.{at_first, line_text, after_line, lines_text, IsPrintedFrom};
-ghost use Rattle.dist_script_play.specs.Pages.{Puts, PutsPart, BreaksOff};
 ghost use Rattle.dist_script_play.specs.Scenes.{PutsOne, Plays, IsBad, IsCut, Stops, StopsWorld};
+ghost use Rattle.dist_script_play.specs.{Lines.table_text, Pages.Puts, Pages.PutsPart, Pages.BreaksOff};
 
 use crate::page::{Printout, on_page};
 use crate::scene::NodeScene;

@@ -1,8 +1,7 @@
 //! The lines that a script prints: what a node answers, which ends a world closes, and how all stand at the end.
 
-ghost use Rattle.std.specs.Prelude.{◌≡◌, option_copied, slice_get, OnOk};
+ghost use Rattle.std.specs.{Prelude.◌≡◌, Prelude.option_copied, Prelude.slice_get, Prelude.OnOk, Io.KnownBytes.Appends};
 ghost use Rattle.std.specs.FinMap as map;
-ghost use Rattle.std.specs.Io.KnownBytes.{Appends};
 ghost use Rattle.dist_peers.specs.Table.{up_id};
 ghost use Rattle.dist_core_ends.specs.Ends.{table_of};
 ghost use Rattle.dist_script.specs.Texts.{text_of, texts_of};

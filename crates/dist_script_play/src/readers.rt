@@ -1,8 +1,7 @@
 //! The readers of frames of a node's ends.
 
 ghost use Rattle.std.specs.Prelude.{◌≡◌, ◌<◌, [], OnOk, IfOk, MatchOption, length, ◌∷◌, option_map};
-ghost use Rattle.dist_frames.specs.Reader.{next_body, to_come, without_next, as_linked, unreported, without_count};
-ghost use Rattle.dist_frames.specs.Reader.Reader.{Short};
+ghost use Rattle.dist_frames.specs.Reader.{next_body, to_come, without_next, as_linked, unreported, without_count, Reader.Short};
 ghost use Rattle.dist_script_play.specs.Played.{reader_of, with_reader, readers_to, with_received};
 
 use dist_frames::Frames;

@@ -1,13 +1,11 @@
 //! A node to which a script gives events and bytes, with a reader of frames for each of its ends.
 
-ghost use Rattle.std.specs.Prelude.{◌≡◌, length, IfOk, OnOk};
-ghost use Rattle.std.specs.Io.KnownBytes.{Appends};
+ghost use Rattle.std.specs.{Prelude.◌≡◌, Prelude.length, Prelude.IfOk, Prelude.OnOk, Io.KnownBytes.Appends};
 ghost use Rattle.dist_frames.specs.Reader.{to_come};
 ghost use Rattle.dist_core.specs.Step.{step};
-ghost use Rattle.dist_script_play.specs.Lines.{refused_line, reply_line, table_text};
-ghost use Rattle.dist_script_play.specs.Played.{at_first, step_text, up_in, after_step, open_readers, reader_of, after_frame};
-ghost use Rattle.dist_script_play.specs.Played.{received_frames, received, received_text, after_received, packets_text, line_text, after_line};
-ghost use Rattle.dist_script_play.specs.Scenes.{Receives};
+ghost use Rattle.dist_script_play.specs.Played.{at_first, step_text, up_in, after_step, open_readers, reader_of, after_frame, received_frames, received};
+ghost use Rattle.dist_script_play.specs.Played.{received_text, after_received, packets_text, line_text, after_line};
+ghost use Rattle.dist_script_play.specs.{Lines.refused_line, Lines.reply_line, Lines.table_text, Scenes.Receives};
 
 use crate::print;
 use crate::readers::Readers;

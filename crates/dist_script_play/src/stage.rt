@@ -2,12 +2,10 @@
 
 ghost use Rattle.std.specs.Prelude.{◌≡◌, [], true, false, length, IfOk, IfErr, OnOk};
 ghost use Rattle.std.specs.Io.KnownBytes.{Appends};
-ghost use Rattle.dist_world_model.specs.World.{empty};
-ghost use Rattle.dist_world_model.specs.Run.{run, count_applied};
+ghost use Rattle.dist_world_model.specs.{World.empty, Run.run, Run.count_applied};
 ghost use Rattle.dist_world.specs.Setups.{names_repeat};
-ghost use Rattle.dist_script_play.specs.Played.{happenings_text, IsEnd, IsPrintedFrom};
-ghost use Rattle.dist_script_play.specs.Pages.{Puts, PutsPart};
 ghost use Rattle.dist_script_play.specs.Scenes.{closed_after, PutsOne, PutsOneOn, PutsOnePart};
+ghost use Rattle.dist_script_play.specs.{Played.happenings_text, Played.IsEnd, Played.IsPrintedFrom, Pages.Puts, Pages.PutsPart};
 
 use crate::page::{Printout, on_page};
 use crate::{print, print_agreements, print_nodes};

@@ -2,8 +2,7 @@
 use Rattle.std.specs.Prelude.{◌≡◌, ℕ, ◌<◌, ◌≤◌, Bool, false, ◌||◌, not, List, ◌∷◌, ◌++◌, length, drop, Result, Ok, Err, nat_lt, ◌==◌, IsTrue, if◌then◌else◌}
 use Rattle.std.specs.List.{list_all, position_or_len, before_first}
 use Rattle.dist_names.specs.Bytes.{is_printable}
-use Rattle.dist_secret.specs.declared.cookie_error.CookieError.{CookieError}
-use Rattle.dist_secret.specs.declared.cookie_error.CookieError.TheVariants.{Empty, BadByte, TooLong}
+use Rattle.dist_secret.specs.declared.cookie_error.CookieError.{CookieError, TheVariants.Empty, TheVariants.BadByte, TheVariants.TooLong}
 
 -- a byte that no cookie has
 abbrev pub is_other : ℕ → Bool

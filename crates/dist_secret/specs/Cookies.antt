@@ -1,12 +1,9 @@
 -- Cookies by peer: a finite map from names to cookies, and a cookie for every other name.
-use Rattle.std.specs.Prelude.{◌≡◌, ℕ, Bool, true, false, not, ◌&&◌, ◌==◌, nat_le, List, length, codes}
-use Rattle.std.specs.Prelude.{Option, Some, None, unwrap_or, is_none, is_some, Result, Ok, Err}
-use Rattle.std.specs.BTreeMap.{is_at, insert_entry}
-use Rattle.std.specs.Cmp.Lexicographic.{pointwise}
-use Rattle.std.specs.Map.{lookup, remove_entry}
+use Rattle.std.specs.Prelude.{◌≡◌, ℕ, Bool, true, false, not, ◌&&◌, ◌==◌, nat_le, List, length, codes, Option, Some, None, unwrap_or, is_none, is_some}
+use Rattle.std.specs.Prelude.{Result, Ok, Err}
+use Rattle.std.specs.{BTreeMap.is_at, BTreeMap.insert_entry, Cmp.Lexicographic.pointwise, Map.lookup, Map.remove_entry}
 use Rattle.dist_names.specs.Order.{Name, name_cmp, same_name}
-use Rattle.dist_secret.specs.declared.cookies_error.CookiesError.{CookiesError}
-use Rattle.dist_secret.specs.declared.cookies_error.CookiesError.TheVariants.{Full, NoMemory}
+use Rattle.dist_secret.specs.declared.cookies_error.CookiesError.{CookiesError, TheVariants.Full, TheVariants.NoMemory}
 
 -- the cookie of each name that has its own, in the order of the names, and the usual one, that of all others
 pub record CookieTable : Type 0 where

@@ -1,11 +1,8 @@
 ghost use Rattle.std.proofs.Common.{rules};
 ghost use Rattle.std.specs.Prelude.{◌≡◌, ◌==◌, ◌≤◌, ◌↔◌, ℕ, List, length, take, IsTrue, IfOk};
-ghost use Rattle.std.specs.Cmp.Lexicographic.{pointwise};
-ghost use Rattle.std.specs.Cmp.Rules.{comparing};
-ghost use Rattle.std.specs.List.{list_all, position, position_or_len};
+ghost use Rattle.std.specs.{Cmp.Lexicographic.pointwise, Cmp.Rules.comparing, List.list_all, List.position, List.position_or_len};
 ghost use Rattle.dist_names.specs.Bytes.{is_printable};
-ghost use Rattle.dist_secret.specs.Cookie.{is_other, may_follow, cookie_of, IsCookie, IsCookieOf};
-ghost use Rattle.dist_secret.specs.Answer.{AnswersCookie};
+ghost use Rattle.dist_secret.specs.{Cookie.is_other, Cookie.may_follow, Cookie.cookie_of, Cookie.IsCookie, Cookie.IsCookieOf, Answer.AnswersCookie};
 
 use crate::cookie_error::CookieError;
 use dist_names::is_printable;

@@ -1,8 +1,7 @@
 //! Why a text has no cookie.
 
 ghost use Rattle.std.specs.Prelude.{◌≡◌};
-ghost use Rattle.dist_secret.specs.declared.cookie_error.CookieError.TheVariants.{NoMemory};
-ghost use Rattle.dist_secret.specs.Answer.{error_name};
+ghost use Rattle.dist_secret.specs.{declared.cookie_error.CookieError.TheVariants.NoMemory, Answer.error_name};
 
 use std::alloc::AllocError;
 use thiserror::Error;

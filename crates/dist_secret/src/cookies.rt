@@ -1,8 +1,7 @@
 //! Cookies by peer.
 
 ghost use Rattle.std.specs.Prelude.{◌≡◌, ◌↔◌, [], OnOk, IfOk, IsTrue, length};
-ghost use Rattle.dist_secret.specs.Cookies.{cookie_for, is_full_for, owns, rekeys, with_usual, without_cookie};
-ghost use Rattle.dist_secret.specs.Cookies.{OthersHave, OthersKeep, OwnersKeep, Sets};
+ghost use Rattle.dist_secret.specs.Cookies.{cookie_for, is_full_for, owns, rekeys, with_usual, without_cookie, OthersHave, OthersKeep, OwnersKeep, Sets};
 
 use crate::cookie::Cookie;
 use crate::cookies_error::CookiesError;

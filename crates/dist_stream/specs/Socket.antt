@@ -1,12 +1,9 @@
 -- What the errors of a socket mean.
 use Rattle.std.specs.Prelude.{ℕ, Bool, true, false, Result, Ok, Err, if◌then◌else◌}
-use Rattle.std.specs.IoError.{error_kind}
-use Rattle.std.specs.declared.io.Error.{Error}
-use Rattle.std.specs.declared.io.ErrorKind.{ErrorKind}
+use Rattle.std.specs.{IoError.error_kind, declared.io.Error.Error, declared.io.ErrorKind.ErrorKind}
 use Rattle.std.specs.declared.io.ErrorKind.TheVariants as kind
-use Rattle.dist_stream.specs.declared.stream.Heard.{Heard}
+use Rattle.dist_stream.specs.declared.stream.{Heard.Heard, Took.Took}
 use Rattle.dist_stream.specs.declared.stream.Heard.TheVariants as heard
-use Rattle.dist_stream.specs.declared.stream.Took.{Took}
 use Rattle.dist_stream.specs.declared.stream.Took.TheVariants as took
 
 -- The socket is fine: a read found no bytes, or a write no room, so far.

@@ -1,9 +1,8 @@
 -- What contracts see of a stream, and how a read and a write change it.
 use Rattle.std.specs.Prelude.{◌≡◌, ℕ, ◌+◌, ◌-◌, ◌^◌, ◌≤◌, min, Bool, true, false, ◌||◌, ◌==◌, List, length, take, Option, IsTrue}
 use Rattle.std.specs.Io.KnownBytes.{prepend_known, append_known, IsAtEnd}
-use Rattle.dist_stream.specs.declared.stream.Heard.{Heard}
+use Rattle.dist_stream.specs.declared.stream.{Heard.Heard, Took.Took}
 use Rattle.dist_stream.specs.declared.stream.Heard.TheVariants as heard
-use Rattle.dist_stream.specs.declared.stream.Took.{Took}
 use Rattle.dist_stream.specs.declared.stream.Took.TheVariants as took
 
 -- a stream, as contracts see it

@@ -1,9 +1,8 @@
 -- What some reads and writes did, how many turns they took, and what a fault means.
 use Rattle.std.specs.Prelude.{◌≡◌, ℕ, ◌+◌, ◌-◌, ◌^◌, ◌<◌, ◌≤◌, Bool, true, false, ◌||◌, List, length, take, Option, Some, None, Result, Ok, Err}
 use Rattle.std.specs.Io.KnownBytes.{prepend_known, append_known, IsAtEnd}
-use Rattle.dist_stream.specs.declared.turn_error.TurnError.{TurnError}
+use Rattle.dist_stream.specs.{declared.turn_error.TurnError.TurnError, Stream.StreamState}
 use Rattle.dist_stream.specs.declared.turn_error.TurnError.TheVariants as fault
-use Rattle.dist_stream.specs.Stream.{StreamState}
 
 -- ---- faults
 

@@ -4,11 +4,8 @@
 //! deadline, and more turns than it needs.
 
 ghost use Rattle.std.specs.Prelude.{◌≡◌, ◌+◌, ◌<◌, ◌≤◌, ◌↔◌, length, None, IsOk, IfOk, IfErr};
-ghost use Rattle.std.specs.Duration.{as_nanos};
-ghost use Rattle.std.specs.IoError.{error_kind};
-ghost use Rattle.std.specs.Time.{instant_nanos, FitsClock};
-ghost use Rattle.dist_stream.specs.Stream.{Reads, Writes, new_stream};
-ghost use Rattle.dist_stream.specs.Deadline.{wait_of};
+ghost use Rattle.std.specs.{Duration.as_nanos, IoError.error_kind, Time.instant_nanos, Time.FitsClock};
+ghost use Rattle.dist_stream.specs.{Stream.Reads, Stream.Writes, Stream.new_stream, Deadline.wait_of};
 
 use crate::socket::SocketStream;
 use crate::stream::{Heard, Stream, Took};

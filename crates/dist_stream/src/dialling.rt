@@ -1,7 +1,6 @@
 //! Connections that are made within a limit of time.
 
-ghost use Rattle.std.specs.Prelude.{◌≡◌, None, IfOk, IsErr};
-ghost use Rattle.std.specs.Duration.{as_nanos};
+ghost use Rattle.std.specs.{Prelude.◌≡◌, Prelude.None, Prelude.IfOk, Prelude.IsErr, Duration.as_nanos};
 ghost use Rattle.dist_stream.specs.Stream.{new_stream};
 
 use crate::socket::SocketStream;

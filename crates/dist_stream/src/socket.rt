@@ -1,8 +1,7 @@
 //! A socket as a stream.
 
 ghost use Rattle.std.specs.Prelude.{◌≡◌, ℕ, ◌≤◌, None, List, length, IfOk, IsErrAnd};
-ghost use Rattle.std.specs.Duration.{as_nanos};
-ghost use Rattle.std.specs.IoError.{error_kind};
+ghost use Rattle.std.specs.{Duration.as_nanos, IoError.error_kind};
 ghost use Rattle.dist_stream.specs.Stream.{Reads, Writes, heard_count, took_count, new_stream};
 ghost use Rattle.dist_stream.specs.Socket.{is_quiet, read_outcome, write_outcome};
 

@@ -5,8 +5,7 @@ use Rattle.dist_peers.specs.declared.entry.EndId.{EndId}
 use Rattle.dist_messages.specs.declared.message.Side.{Side}
 use Rattle.dist_core_ends.specs.declared.why.Why.{Why}
 use Rattle.dist_core.specs.Node.{NodeState}
-use Rattle.dist_world_model.specs.World.{World, Life, running, row_at}
-use Rattle.dist_world_model.specs.Delivery.{text_to}
+use Rattle.dist_world_model.specs.{World.World, World.Life, World.running, World.row_at, Delivery.text_to}
 use Rattle.dist_world_lives.specs.Stepping.{wire_of}
 
 -- the running incarnation of a node, itself

@@ -1,8 +1,7 @@
 -- What the calls that make one happening return.
 use Rattle.std.specs.Prelude.{◌≡◌, Bool, true, false, Option, Some, None, is_some, Result, Ok, Err}
 use Rattle.std.specs.declared.alloc.AllocError.{AllocError}
-use Rattle.dist_world_model.specs.World.{World}
-use Rattle.dist_world_model.specs.Happenings.{ticked_on}
+use Rattle.dist_world_model.specs.{World.World, Happenings.ticked_on}
 
 -- THE HAPPENING was made, did not apply, or memory ran out, and then nothing changed
 abbrev pub Did : Result Bool AllocError → Option World → World → World → Type 0

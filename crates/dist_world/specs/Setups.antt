@@ -1,6 +1,5 @@
 -- The names of the nodes of a world.
-use Rattle.std.specs.Prelude.{Bool, false, ◌||◌, List, [], ◌∷◌}
-use Rattle.std.specs.List.{list_any}
+use Rattle.std.specs.{Prelude.Bool, Prelude.false, Prelude.◌||◌, Prelude.List, Prelude.[], Prelude.◌∷◌, List.list_any}
 use Rattle.dist_names.specs.Order.{Name, same_name}
 use Rattle.dist_core_setup.specs.declared.setup.Setup.{Setup}
 

@@ -1,11 +1,9 @@
 -- Which nodes count each other as up.
 use Rattle.std.specs.Prelude.{◌≡◌, ◌≢◌, ℕ, Option, Some, None}
 use Rattle.dist_core_ends.specs.declared.known.UpRecord.{UpRecord}
-use Rattle.dist_world_model.specs.World.{World}
+use Rattle.dist_world_model.specs.{World.World, Agreement.IsUp, Agreement.AreAgreed, Agreement.known_creation}
 use Rattle.dist_names.specs.Flags.{common}
-use Rattle.dist_core_setup.specs.declared.setup.Setup.{Setup}
-use Rattle.dist_core_setup.specs.Rules.{announced_in}
-use Rattle.dist_world_model.specs.Agreement.{IsUp, AreAgreed, known_creation}
+use Rattle.dist_core_setup.specs.{declared.setup.Setup.Setup, Rules.announced_in}
 use Rattle.dist_world.specs.declared.agreement.Agreement.{Agreement}
 
 -- what was found is a connection on which node a counts node b as up, and the record there

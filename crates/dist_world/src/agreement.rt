@@ -1,6 +1,5 @@
 //! Two nodes that each count the other as up.
-ghost use Rattle.std.specs.Prelude.{◌≡◌, ◌≢◌, ℕ, Some};
-ghost use Rattle.std.specs.Option.{option_map};
+ghost use Rattle.std.specs.{Prelude.◌≡◌, Prelude.◌≢◌, Prelude.ℕ, Prelude.Some, Option.option_map};
 ghost use Rattle.dist_world.specs.Ups.{agreement_on, both_agreement, FindsBoth};
 ghost use Rattle.dist_world_model.specs.Agreement.{IsUp};
 

@@ -1,8 +1,7 @@
 //! A run of happenings.
 ghost use Rattle.std.specs.Prelude.{◌≡◌, ◌<◌, length, take, IfOk, IfErr, OnOk};
 ghost use Rattle.dist_core_ends.specs.Change.{one_if};
-ghost use Rattle.dist_world_model.specs.Agreement.{AllFit};
-ghost use Rattle.dist_world_model.specs.Run.{run, count_applied};
+ghost use Rattle.dist_world_model.specs.{Agreement.AllFit, Run.run, Run.count_applied};
 
 use crate::scene::Scene;
 use dist_world_model::Happening;

@@ -1,12 +1,9 @@
 //! All that a world has, and one happening.
 ghost use Rattle.std.specs.Prelude.{◌≡◌, ◌↔◌, ◌++◌, IsTrue, List, IsErrOf, ℕ, Ok, slice_get, option_copied, IfOk, OnOk};
 ghost use Rattle.std.specs.Option.{option_map};
-ghost use Rattle.dist_world_model.specs.World.{empty, running};
-ghost use Rattle.dist_world.specs.Setups.{names_repeat};
-ghost use Rattle.dist_world.specs.Asking.{node_of, said_to, SaidNext, flat_closed};
+ghost use Rattle.dist_world_model.specs.{World.empty, World.running, Agreement.AreSetups, Agreement.IsUp};
+ghost use Rattle.dist_world.specs.{Setups.names_repeat, Asking.node_of, Asking.said_to, Asking.SaidNext, Asking.flat_closed, Ups.FindsPeer};
 ghost use Rattle.dist_world_lives.specs.Links.{up_on};
-ghost use Rattle.dist_world.specs.Ups.{FindsPeer};
-ghost use Rattle.dist_world_model.specs.Agreement.{AreSetups, IsUp};
 
 use crate::setups::are_good;
 use crate::world_error::WorldError;

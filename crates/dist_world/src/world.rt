@@ -1,13 +1,10 @@
 //! The world.
 ghost use Rattle.std.specs.Prelude.{◌≡◌, ◌↔◌, ◌≢◌, ◌<◌, ℕ, Some, length, take, option_copied, IfOk, IfErr, OnOk, IsErrOf, IsTrue};
 ghost use Rattle.std.specs.Option.{option_map};
-ghost use Rattle.dist_world_model.specs.World.{empty};
-ghost use Rattle.dist_world_model.specs.Run.{run, count_applied};
-ghost use Rattle.dist_world.specs.Setups.{names_repeat};
-ghost use Rattle.dist_world.specs.Asking.{node_of, said_to, SaidNext, flat_closed};
-ghost use Rattle.dist_world_model.specs.Laws.{AllLives, Decided};
 ghost use Rattle.dist_world_model.specs.Agreement.{Agreement as NodesAgree, Counts, IsUp};
-ghost use Rattle.dist_world.specs.Ups.{agreement_on, FindsBoth, FindsAgreed, IsReported};
+ghost use Rattle.dist_world_model.specs.{World.empty, Run.run, Run.count_applied, Laws.AllLives, Laws.Decided};
+ghost use Rattle.dist_world.specs.{Setups.names_repeat, Asking.node_of, Asking.said_to, Asking.SaidNext, Asking.flat_closed, Ups.agreement_on};
+ghost use Rattle.dist_world.specs.{Ups.FindsBoth, Ups.FindsAgreed, Ups.IsReported};
 
 use crate::agreement::Agreement;
 use crate::run::Stopped;

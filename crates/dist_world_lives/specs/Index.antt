@@ -1,7 +1,6 @@
 -- Where the running incarnation of each node is.
 use Rattle.std.specs.Prelude.{◌≡◌, ℕ, Bool, true, false, List, Option, Some, None, slice_get}
-use Rattle.dist_world_model.specs.Lists.{first_where}
-use Rattle.dist_world_model.specs.World.{Life, runs_for}
+use Rattle.dist_world_model.specs.{Lists.first_where, World.Life, World.runs_for}
 
 abbrev pub flat : Option (Option ℕ) → Option ℕ
 flat None = None

@@ -3,11 +3,8 @@ use Rattle.std.specs.Prelude.{◌≡◌, ℕ, Bool, not, ◌&&◌, List, Option,
 use Rattle.std.specs.Option.{option_map}
 use Rattle.dist_names.specs.Order.{Name}
 use Rattle.dist_peers.specs.declared.entry.EndId.{EndId}
-use Rattle.dist_core_ends.specs.declared.known.UpRecord.{UpRecord}
-use Rattle.dist_core_ends.specs.Ends.{IsUpWith, is_dialing}
-use Rattle.dist_world_model.specs.Rows.{EndRow}
-use Rattle.dist_world_model.specs.World.{Life, row_of_life, end_of_life}
-use Rattle.dist_world_model.specs.Happenings.{conn_of}
+use Rattle.dist_core_ends.specs.{declared.known.UpRecord.UpRecord, Ends.IsUpWith, Ends.is_dialing}
+use Rattle.dist_world_model.specs.{Rows.EndRow, World.Life, World.row_of_life, World.end_of_life, Happenings.conn_of}
 
 -- the connection of an end beside its record
 abbrev pub link_of_record : List EndRow → Option (EndId × UpRecord) → Option (ℕ × UpRecord)

@@ -1,21 +1,12 @@
 -- What giving an event to an incarnation makes of the lists of incarnations and connections.
 use Rattle.std.specs.Prelude.{◌≡◌, ℕ, Bool, true, false, List, Option, Some, None, Ok, slice_get}
-use Rattle.dist_messages.specs.declared.message.Side.{Side}
-use Rattle.dist_messages.specs.declared.message.Side.TheVariants.{Acceptor}
-use Rattle.dist_core.specs.declared.event.Event.{Event}
+use Rattle.dist_messages.specs.declared.message.Side.{Side, TheVariants.Acceptor}
+use Rattle.dist_core.specs.{declared.event.Event.Event, declared.reply.Reply.Reply, declared.step_error.StepError.StepError, Node.NodeState, Step.step}
 use Rattle.dist_core.specs.declared.event.Event.TheVariants as event
-use Rattle.dist_core.specs.declared.reply.Reply.{Reply}
-use Rattle.dist_core.specs.declared.step_error.StepError.{StepError}
 use Rattle.dist_core.specs.declared.step_error.StepError.TheVariants as error
-use Rattle.dist_core.specs.Node.{NodeState}
-use Rattle.dist_core.specs.Step.{step}
-use Rattle.dist_world_model.specs.Lists.{at_place}
-use Rattle.dist_world_model.specs.Rows.{EndRow, rows_after}
 use Rattle.dist_world_model.specs.World.{World, Life, Conn, runs}
-use Rattle.dist_world_model.specs.Delivery.{conns_after_saying}
-use Rattle.dist_world_model.specs.Happenings.{life_after, notify}
-use Rattle.dist_world_lives.specs.Stepping.{life_step_of, wire_of}
-use Rattle.dist_world_lives.specs.declared.stepping.LifeStep.{LifeStep}
+use Rattle.dist_world_model.specs.{Lists.at_place, Rows.EndRow, Rows.rows_after, Delivery.conns_after_saying, Happenings.life_after, Happenings.notify}
+use Rattle.dist_world_lives.specs.{Stepping.life_step_of, Stepping.wire_of, declared.stepping.LifeStep.LifeStep}
 
 -- which side of which connection the end of an event is
 abbrev pub event_wire : List EndRow → Event → Option (Side × ℕ)

@@ -1,14 +1,9 @@
 -- What a change of an incarnation's setup makes of the list of incarnations.
 use Rattle.std.specs.Prelude.{◌≡◌, ℕ, Bool, true, false, List, Some, None, Result, Ok, Err, slice_get}
 use Rattle.std.specs.declared.alloc.AllocError.{AllocError}
-use Rattle.dist_core.specs.declared.changing.Change.{Change}
-use Rattle.dist_core.specs.declared.changing.ChangeError.{ChangeError}
+use Rattle.dist_core.specs.{declared.changing.Change.Change, declared.changing.ChangeError.ChangeError, Changing.change, Node.NodeState}
 use Rattle.dist_core.specs.declared.changing.ChangeError.TheVariants as error
-use Rattle.dist_core.specs.Changing.{change}
-use Rattle.dist_core.specs.Node.{NodeState}
-use Rattle.dist_world_model.specs.Lists.{at_place}
-use Rattle.dist_world_model.specs.World.{World, Life, running}
-use Rattle.dist_world_model.specs.Happenings.{reset, with_node}
+use Rattle.dist_world_model.specs.{Lists.at_place, World.World, World.Life, World.running, Happenings.reset, Happenings.with_node}
 
 -- incarnation i changed its setup
 pub record HasReset (i : ℕ) (v : Change) (lives new : List Life) : Type 0 where

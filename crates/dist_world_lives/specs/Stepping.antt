@@ -1,23 +1,15 @@
 -- What an incarnation that gets an event makes of it.
 use Rattle.std.specs.Prelude.{◌≡◌, ℕ, Bool, true, slice_get, List, [], Option, Some, None, Result, Ok, Err}
-use Rattle.dist_peers.specs.declared.entry.EndId.{EndId}
-use Rattle.dist_core.specs.declared.event.Event.{Event}
-use Rattle.dist_core.specs.declared.reply.Reply.{Reply}
-use Rattle.dist_core.specs.declared.reply.Note.{Note}
-use Rattle.dist_core.specs.declared.reply.Note.TheVariants as note
-use Rattle.dist_core.specs.declared.step_error.StepError.{StepError}
-use Rattle.dist_messages.specs.declared.message.Side.{Side}
 use Rattle.std.specs.Option.{option_map}
+use Rattle.dist_peers.specs.declared.entry.EndId.{EndId}
+use Rattle.dist_core.specs.{Node.NodeState, Answers.Refuses}
+use Rattle.dist_core.specs.declared.{event.Event.Event, reply.Reply.Reply, reply.Note.Note, step_error.StepError.StepError}
+use Rattle.dist_core.specs.declared.reply.Note.TheVariants as note
+use Rattle.dist_messages.specs.declared.message.Side.{Side}
 use Rattle.dist_core_ends.specs.declared.why.Why.{Why}
-use Rattle.dist_core.specs.Node.{NodeState}
-use Rattle.dist_core.specs.Answers.{Refuses}
-use Rattle.dist_world_model.specs.Lists.{at_place}
 use Rattle.dist_world_model.specs.Rows.{EndRow, peer_by, once, takes_name, says_reply, rows_after}
-use Rattle.dist_world_model.specs.World.{Life, Conn}
-use Rattle.dist_world_model.specs.Delivery.{says}
-use Rattle.dist_world_model.specs.Happenings.{life_after, shut_row}
-use Rattle.dist_world_lives.specs.Wires.{undelivered_by, with_undelivered}
-use Rattle.dist_world_lives.specs.declared.stepping.LifeStep.{LifeStep}
+use Rattle.dist_world_model.specs.{Lists.at_place, World.Life, World.Conn, Delivery.says, Happenings.life_after, Happenings.shut_row}
+use Rattle.dist_world_lives.specs.{Wires.undelivered_by, Wires.with_undelivered, declared.stepping.LifeStep.LifeStep}
 
 -- ---- the rows that a reply changes, one by one
 

@@ -1,13 +1,9 @@
 -- What is read off a connection, and how what is undelivered of it changes.
 use Rattle.std.specs.Prelude.{ℕ, Bool, false, ◌&&◌, nat_lt, if◌then◌else◌, List, [], Option, Some, None, is_some}
-use Rattle.std.specs.Option.{option_map}
-use Rattle.std.specs.Int.{w16}
-use Rattle.dist_messages.specs.declared.message.Side.{Side}
-use Rattle.dist_messages.specs.declared.message.Side.TheVariants.{Dialler, Acceptor}
+use Rattle.std.specs.{Option.option_map, Int.w16}
+use Rattle.dist_messages.specs.declared.message.Side.{Side, TheVariants.Dialler, TheVariants.Acceptor}
 use Rattle.dist_frames.specs.Stream.{first_body}
-use Rattle.dist_world_model.specs.World.{Text, Conn}
-use Rattle.dist_world_model.specs.Delivery.{text_to}
-use Rattle.dist_world_model.specs.Happenings.{is_nonempty}
+use Rattle.dist_world_model.specs.{World.Text, World.Conn, Delivery.text_to, Happenings.is_nonempty}
 
 -- the incarnation to which a connection leads, if it was not accepted yet
 abbrev pub unaccepted_target : Option Conn → Option ℕ

@@ -1,9 +1,7 @@
 //! All connections, and what happens to one of them.
 ghost use Rattle.std.specs.Prelude.{◌≡◌, ◌==◌, ◌++◌, ◌∷◌, ℕ, List, [], if◌then◌else◌, true, length, slice_get, option_copied, IfOk, OnOk, OnErr};
-ghost use Rattle.dist_world_model.specs.Lists.{at_place};
-ghost use Rattle.dist_world_model.specs.World.{Conn};
-ghost use Rattle.dist_world_model.specs.Happenings.{new_conn, accepted_by};
 ghost use Rattle.dist_world_model.specs.Delivery.{change_to, after_delivery, body_taken};
+ghost use Rattle.dist_world_model.specs.{Lists.at_place, World.Conn, Happenings.new_conn, Happenings.accepted_by};
 ghost use Rattle.dist_world_lives.specs.Wires.{unaccepted_target, undelivered_to, can_come, front_at, undelivered_by, with_undelivered};
 
 use crate::connection::Connection;

@@ -1,6 +1,5 @@
 //! One direction of a connection.
-ghost use Rattle.std.specs.Prelude.{◌≡◌, option_copied, OnOk, OnErr};
-ghost use Rattle.std.specs.Int.{w16};
+ghost use Rattle.std.specs.{Prelude.◌≡◌, Prelude.option_copied, Prelude.OnOk, Prelude.OnErr, Int.w16};
 ghost use Rattle.dist_frames.specs.Stream.{first_body};
 ghost use Rattle.dist_world_model.specs.Delivery.{empty_text, after_delivery, body_taken};
 

@@ -1,14 +1,10 @@
 //! All incarnations of all nodes.
 ghost use Rattle.std.specs.Prelude.{◌≡◌, ◌<◌, ◌++◌, ◌∷◌, [], None, length, slice_get, option_copied, IfOk, OnOk, OnErr, MatchOption, true, false, ℕ};
-ghost use Rattle.dist_world_model.specs.Lists.{at_place, first_where};
 ghost use Rattle.std.specs.Option.{option_map};
-ghost use Rattle.dist_world_model.specs.World.{runs_for, row_of_life, end_of_life};
 ghost use Rattle.dist_world_model.specs.Happenings.{life_after_end, new_life, reached_life, is_open_end};
-ghost use Rattle.dist_world_lives.specs.Stepping.{wire_of};
-ghost use Rattle.dist_world_lives.specs.Links.{is_unreached};
-ghost use Rattle.dist_world_lives.specs.Index.{index_at};
-ghost use Rattle.dist_world_lives.specs.Notifying.{HasNotified, Declines};
-ghost use Rattle.dist_world_lives.specs.Resetting.{Resets, is_reset_memory_error};
+ghost use Rattle.dist_world_model.specs.{Lists.at_place, Lists.first_where, World.runs_for, World.row_of_life, World.end_of_life};
+ghost use Rattle.dist_world_lives.specs.{Stepping.wire_of, Links.is_unreached, Index.index_at, Notifying.HasNotified, Notifying.Declines, Resetting.Resets};
+ghost use Rattle.dist_world_lives.specs.{Resetting.is_reset_memory_error};
 
 use crate::Connections;
 use crate::events::notify;

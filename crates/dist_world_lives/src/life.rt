@@ -1,16 +1,11 @@
 //! One incarnation of a node.
-ghost use Rattle.std.specs.Prelude.{◌≡◌, ℕ, ◌<◌, IfOk, Some, slice_get};
-ghost use Rattle.dist_core.specs.Changing.{IsChange, change};
-ghost use Rattle.dist_core.specs.Step.{step};
-ghost use Rattle.dist_world_model.specs.World.{runs, runs_for};
-ghost use Rattle.dist_world_model.specs.Happenings.{life_after_end, with_node, reached_life, is_open_end, shut_all, new_life};
-ghost use Rattle.dist_world_model.specs.Lists.{at_place};
-ghost use Rattle.dist_world_lives.specs.Stepping.{IsLifeStep, wire_of};
-ghost use Rattle.dist_world_model.specs.Happenings.{reached_row, conn_of};
+ghost use Rattle.std.specs.{Prelude.◌≡◌, Prelude.ℕ, Prelude.◌<◌, Prelude.IfOk, Prelude.Some, Prelude.slice_get, Option.option_map};
+ghost use Rattle.dist_core.specs.{Changing.IsChange, Changing.change, Step.step};
+ghost use Rattle.dist_world_model.specs.Happenings.{life_after_end, with_node, reached_life, is_open_end, shut_all, new_life, reached_row, conn_of};
+ghost use Rattle.dist_world_model.specs.{World.runs, World.runs_for, Lists.at_place};
+ghost use Rattle.dist_world_lives.specs.{Stepping.IsLifeStep, Stepping.wire_of, Links.FindsLink, Links.link_of_record, Links.up_on};
 ghost use Rattle.dist_core_ends.specs.declared.known.UpRecord.{UpRecord};
 ghost use Rattle.dist_core_ends.specs.declared.known.End.TheVariants as end;
-ghost use Rattle.dist_world_lives.specs.Links.{FindsLink, link_of_record, up_on};
-ghost use Rattle.std.specs.Option.{option_map};
 
 use crate::Connections;
 use crate::row::EndRow;

@@ -1,9 +1,7 @@
 //! What stays of an end for ever.
 ghost use Rattle.std.specs.Prelude.{◌≡◌, true};
-ghost use Rattle.dist_world_model.specs.Rows.{new_row, once};
-ghost use Rattle.dist_world_model.specs.Happenings.{shut_row, reached_row};
-ghost use Rattle.dist_world_lives.specs.Stepping.{own_row, doomed_row};
-ghost use Rattle.dist_world_lives.specs.Keeping.{number_if};
+ghost use Rattle.dist_world_model.specs.{Rows.new_row, Rows.once, Happenings.shut_row, Happenings.reached_row};
+ghost use Rattle.dist_world_lives.specs.{Stepping.own_row, Stepping.doomed_row, Keeping.number_if};
 
 use dist_core::Note;
 use dist_messages::Side;

@@ -1,9 +1,7 @@
 //! An event that an incarnation gets.
 ghost use Rattle.std.specs.Prelude.{◌≡◌, ◌++◌, IfOk, IfErr, OnOk, OnErr, Ok};
-ghost use Rattle.dist_core.specs.Answers.{Refuses};
-ghost use Rattle.dist_core.specs.Step.{step};
-ghost use Rattle.dist_world_model.specs.Lists.{add_some, at_each, at_place};
-ghost use Rattle.dist_world_model.specs.Rows.{mark, given_by};
+ghost use Rattle.dist_core.specs.{Answers.Refuses, Step.step};
+ghost use Rattle.dist_world_model.specs.{Lists.add_some, Lists.at_each, Lists.at_place, Rows.mark, Rows.given_by};
 ghost use Rattle.dist_world_lives.specs.Stepping.{life_step_of, conns_with, undelivered_on, HasMadeStep, HasSent};
 ghost use Rattle.dist_world_lives.specs.Stepping.{own_row, rows_shut, rows_doomed, doomed_end};
 

@@ -2,13 +2,13 @@
 use Rattle.dist_world_model.proofs.Words.{◌≡◌, ℕ, true, ◌⊎◌, List, ◌++◌, length, slice_get, Some, None, sym, refl, ap, ◌∙◌, subst, inl, inr, append-nil, arith}
 use Rattle.dist_world_model.proofs.Words.{slice_get_past, Side, Acceptor, Dialler, conns_after_saying, says, text_to, accepted_by, next_end, at_place, NodeLaws}
 use Rattle.dist_world_model.proofs.Words.{EndRow, given_by, mark, new_row, Conn, Life, end_of_life, row_of_life}
-use Rattle.dist_core.specs.declared.event.Event.TheVariants as event
 use Rattle.dist_world_model.proofs.{AllWires.Alike, AllWires.WireAt, AllWires.alike-refl, AllWires.ends-refl, AllWires.same-conn, EventEnds.gives}
 use Rattle.dist_world_model.proofs.ConnectionRows.{ConnOf, RowOf, StaysConn, WasConn, linked-keeps}
 use Rattle.dist_world_model.proofs.{HappeningEffects.Accepts, HappeningEffects.Plain, HappeningEffects.Ready, HappeningEffects.Takes, StepEffects.is_given}
 use Rattle.dist_world_model.proofs.Lookups.{at-other, decide, end_in, place-twice, placed, row_in, unplaced}
 use Rattle.dist_world_model.proofs.{SendingWires.long, SendingWires.new-row-at, SendingWires.plain-notified, SendingWires.take-notified, WholeFrames.on_way}
 use Rattle.dist_world_model.proofs.SilentWires.{Kept, Notifying, all-stay, deed, get-now, ls', me, notify-voices, now, other-wire, row-was, rows'}
+use Rattle.dist_core.specs.declared.event.Event.TheVariants as event
 
 module _ (laws : NodeLaws) (notifying : Notifying) where
   open notifying use {w, lives, fit, wired, i, old, v, fresh, f, small, at, live, ok}

@@ -2,14 +2,14 @@
 use Rattle.dist_world_model.proofs.Words.{◌≡◌, ℕ, true, ◌≢◌, ◌⊎◌, List, slice_get, Some, Option, sym, refl, ap, ◌∙◌, subst, inl, inr, same_text, common, Side}
 use Rattle.dist_world_model.proofs.Words.{End, UpRecord, announced_by, own_digest, Setup, Agreement, AllFit, AreAgreed, AreSetups, IsAgreed, IsUp, Joins, bare}
 use Rattle.dist_world_model.proofs.Words.{AllLives, OwnDigests, NodeLaws, EndRow, run, Conn, Life, World, empty, row_of_life, runs, Happening}
-use Rattle.std.proofs.lemmas.Nat.{and_comm}
-use Rattle.dist_core_ends.specs.declared.known.End.TheVariants as ends
 use Rattle.dist_world_model.proofs.{Digests.digest_lives, EndPairs.IsOpen, EndPairs.Seat, PastMoments.past-some, WholeFrames.joined}
 use Rattle.dist_world_model.proofs.Lookups.{decide, end_in, far, row_in, voice_in, voice_of}
 use Rattle.dist_world_model.proofs.{OneConnection.both-dialled, OneConnection.each-accepted, OneConnection.each-dialled, WorldFacts.IsKept, WorldFacts.kept}
 use Rattle.dist_world_model.proofs.UpEnds.{LineOf, On_accepted, On_dialled, Sits, Stands_on, announced-is, conn-is, end-is, is-open, peer-is, rose-is}
 use Rattle.dist_world_model.proofs.UpEnds.{running-is, setup-is, sits-life, sits-row, stands-on}
 use Rattle.dist_world_model.proofs.Wires.{Noted, NotedAt, Voice, marks_of, voice}
+use Rattle.std.proofs.lemmas.Nat.{and_comm}
+use Rattle.dist_core_ends.specs.declared.known.End.TheVariants as ends
 
 module _ (laws : NodeLaws) where
   module _ (w : World) (h : IsKept w) where

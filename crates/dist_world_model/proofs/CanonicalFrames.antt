@@ -1,12 +1,12 @@
 -- What is taken from a connection was spelled by a node of the world.
 use Rattle.dist_world_model.proofs.Words.{◌≡◌, ℕ, List, slice_get, Some, Option, ap, ◌∙◌, subst, w16, low_half, Creation, first_body, Message, Side, Acceptor}
 use Rattle.dist_world_model.proofs.Words.{Dialler, Setup, AllFit, AreSetups, bare, text_to, NodeLaws, run, Conn, Life, World, empty, Happening}
-use Rattle.dist_messages.specs.declared.message.Message.TheVariants as message
-use Rattle.dist_core_setup.specs.Rules.{announced_by}
-use Rattle.dist_world_model.specs.Frames.{IsCanonical, Announces, AreCanonical}
 use Rattle.dist_world_model.proofs.{AllWires.EndAt, ConnectionRows.life_of, ConnectionRows.row_of, OwnSetups.run-setups, WholeFrames.way-taken}
 use Rattle.dist_world_model.proofs.{Lookups.far, Lookups.life-there, Lookups.voice-there, Lookups.voice_of, WorldFacts.IsKept, WorldFacts.kept}
 use Rattle.dist_world_model.proofs.Wires.{Marks, May, MayAnswer, MaySay, Said, Voice, canonical-map, marks_of, voice}
+use Rattle.dist_messages.specs.declared.message.Message.TheVariants as message
+use Rattle.dist_core_setup.specs.Rules.{announced_by}
+use Rattle.dist_world_model.specs.Frames.{IsCanonical, Announces, AreCanonical}
 
 -- what a node may say has the flags of its setup
 say-flags : (s r : Setup) (replied : Option ℕ) (m : Message) → announced_by s ≡ announced_by r → MaySay (voice s) replied m → Announces r m

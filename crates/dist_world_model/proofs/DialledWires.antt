@@ -3,8 +3,6 @@ use Rattle.dist_world_model.proofs.Words.{◌≡◌, ℕ, true, false, cond, ◌
 use Rattle.dist_world_model.proofs.Words.{refl, ap, ◌∙◌, subst, inl, inr, arith, ne_eqb, false≢true, slice_get_within, Side, Acceptor, Dialler, is_dialing}
 use Rattle.dist_world_model.proofs.Words.{waits_in, End, Phase, conn_of, new_conn, reached_life, reached_row, at_place, EndRow, Conn, Life, end_of_life}
 use Rattle.dist_world_model.proofs.Words.{row_of_life}
-use Rattle.dist_core_ends.specs.declared.known.End.TheVariants as ends
-use Rattle.dist_core_ends.specs.declared.phase.Phase.TheVariants as phase
 use Rattle.dist_world_model.proofs.AllWires.{AreWired, Loc, WireAt, alike-refl, ends-refl, hush-refl, same-conn, voice-refl, wire-alike}
 use Rattle.dist_world_model.proofs.ConnectionRows.{ConnOf, Linked, NewConn, RowOf, Stays, VoiceStays, WasConn, linked-keeps}
 use Rattle.dist_world_model.proofs.{EndStates.AreBeside, EndStates.Beside, EndStates.Stand, EndStates.open-row, EndStates.stand_in, EventEnds.none-of}
@@ -12,6 +10,8 @@ use Rattle.dist_world_model.proofs.Lookups.{changed-at, decide, end_in, placed, 
 use Rattle.dist_world_model.proofs.{Places.eqb-self, Places.get-more, SentFrames.nothing-said}
 use Rattle.dist_world_model.proofs.Wires.{Hushed, NotedAt, NotedIn, Quiet, Voice, marks_of, quiet-refl, voice}
 use Rattle.dist_world_model.proofs.WithoutEvent.{get-reached, reach, reach-any}
+use Rattle.dist_core_ends.specs.declared.known.End.TheVariants as ends
+use Rattle.dist_core_ends.specs.declared.phase.Phase.TheVariants as phase
 
 -- ---- a dialled end gets a connection
 

@@ -3,13 +3,13 @@ use Rattle.dist_world_model.proofs.Words.{◌≡◌, ℕ, ◌+◌, Bool, true, f
 use Rattle.dist_world_model.proofs.Words.{◌∙◌, subst, eqb-true, false≢true, Acceptor, EndId, other_view, End, Setup, after_change, ends_after, effect_of}
 use Rattle.dist_world_model.proofs.Words.{Effect, Event, conn_of, reached_life, with_node, AllLives, UpsAreLinked, NodeLaws, EndRow, given_by, new_row}
 use Rattle.dist_world_model.proofs.Words.{rows_after, run, Life, World, empty, row_of_life, runs, Happening}
-use Rattle.dist_core.specs.declared.event.Event.TheVariants as event
 use Rattle.dist_world_model.proofs.{EndStates.needs, IncarnationFacts.IsLife, LastingFacts.life_keeps, OtherRows.end-after, Places.at-more, Places.at-one}
 use Rattle.dist_world_model.proofs.EventEnds.{Came_in, Had, Notified, Served, gives, other-spent, served}
 use Rattle.dist_world_model.proofs.HappeningEffects.{Accepts, Act, Begins, Comes, Ends, Plain, Reaches, Ready, Reports, Resets, Takes}
 use Rattle.dist_world_model.proofs.IncarnationEffects.{alike, all-free, kept-by-all, one-step}
 use Rattle.dist_world_model.proofs.{StepEffects.deed_of, StepEffects.is_given, UnchangedRows.row-new, UnchangedRows.row-then, UnchangedRows.same-length}
 use Rattle.dist_world_model.proofs.WithoutEvent.{get-reached, reach, reach-any}
+use Rattle.dist_core.specs.declared.event.Event.TheVariants as event
 
 -- each end that is past waiting for its connection has one
 abbrev needs_at : Option End → Bool

@@ -1,8 +1,8 @@
 -- What a row says of its end, and what a number that is written now changes.
 use Rattle.dist_world_model.proofs.Words.{◌≡◌, ℕ, true, length, slice_get, Some, None, Option, sym, ap, ◌∙◌, arith, same_Some, slice_get_within, Acceptor}
 use Rattle.dist_world_model.proofs.Words.{Dialler, EndId, Attempt, End, Phase, NodeState, EndRow, once, past}
-use Rattle.dist_core_ends.specs.declared.known.End.TheVariants as ends
 use Rattle.dist_world_model.proofs.{EndStates.Fits, EndStates.Stand, EndStates.open-row, EndStates.stand_in, EndStates.stand_row, Wires.Before}
+use Rattle.dist_core_ends.specs.declared.known.End.TheVariants as ends
 
 -- a number written now is after what happened before
 pub before-once : (t : ℕ) (early late : Option ℕ) → past t early ≡ true → Before early late → Before early (once true t late)

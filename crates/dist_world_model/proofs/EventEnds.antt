@@ -2,15 +2,15 @@
 use Rattle.dist_world_model.proofs.Words.{◌≡◌, ℕ, true, false, ◌⊎◌, List, [], length, is_some, slice_get, Some, None, Option, option_map, sym, refl, ap, ◌∙◌}
 use Rattle.dist_world_model.proofs.Words.{subst, inl, inr, eqb-true, both_ways, false≢true, same_Some, some_pair_parts, Name, Side, Opening, replaced_by, EndId}
 use Rattle.dist_world_model.proofs.Words.{entry_in, Attempt, End, UpRecord, Phase, Why, NodeState, Effect, Event, dooms, rises, says_reply, takes_name}
+use Rattle.dist_world_model.proofs.EndStates.{Stand, dialled_stand, needs, ready_stand, stand_in}
+use Rattle.dist_world_model.proofs.StepEffects.{Comes_in, Deed, Dials, Dooms, Drops, Refuses, Rises, Says, Shuts, Takes, Takes_over, Work, Works, is_given}
+use Rattle.dist_world_model.proofs.StepEffects.{own-not-given, own_id}
+use Rattle.dist_world_model.proofs.Wires.{Noted, NotedIn, Voice}
 use Rattle.dist_core_ends.specs.declared.known.End.TheVariants as ends
 use Rattle.dist_core_ends.specs.declared.phase.Phase.TheVariants as phase
 use Rattle.dist_core_ends.specs.declared.why.Why.TheVariants as why
 use Rattle.dist_core.specs.declared.event.Event.TheVariants as event
 use Rattle.dist_core.specs.declared.reply.Note.TheVariants as note
-use Rattle.dist_world_model.proofs.EndStates.{Stand, dialled_stand, needs, ready_stand, stand_in}
-use Rattle.dist_world_model.proofs.StepEffects.{Comes_in, Deed, Dials, Dooms, Drops, Refuses, Rises, Says, Shuts, Takes, Takes_over, Work, Works, is_given}
-use Rattle.dist_world_model.proofs.StepEffects.{own-not-given, own_id}
-use Rattle.dist_world_model.proofs.Wires.{Noted, NotedIn, Voice}
 
 pub none-of : (o : Option ℕ) → is_some o ≡ false → o ≡ None
 none-of None h = refl

@@ -1,8 +1,8 @@
 -- What an end may send grows.
 use Rattle.dist_world_model.proofs.Words.{◌≡◌, ℕ, Bool, true, List, is_some, Some, None, Option, refl, ap, false≢true, Message, Side, Acceptor, Dialler}
 use Rattle.dist_world_model.proofs.Words.{conns_after_saying, spoken_on, conn_of, EndRow, once, Conn}
-use Rattle.dist_messages.specs.declared.message.Message.TheVariants as message
 use Rattle.dist_world_model.proofs.Wires.{Marks, May, MayAnswer, MaySay, Voice}
+use Rattle.dist_messages.specs.declared.message.Message.TheVariants as message
 
 -- ---- what grows
 

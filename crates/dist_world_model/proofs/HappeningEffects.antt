@@ -7,10 +7,10 @@ use Rattle.dist_world_model.proofs.Words.{change_to, conns_after_saying, text_to
 use Rattle.dist_world_model.proofs.Words.{life_after, life_after_end, most_applied, most_begins, most_connections, new_conn, new_life, next_end, notify}
 use Rattle.dist_world_model.proofs.Words.{notify_node, reached_life, with_node, without_closing, world_after, at_place, EndRow, rows_after, run, Conn, Life}
 use Rattle.dist_world_model.proofs.Words.{World, end_at, row_at, running, runs, runs_for, Happening}
+use Rattle.dist_world_model.proofs.{Conditions.if_holds, Conditions.if_ok, Conditions.if_there, Places.first-at}
 use Rattle.dist_core.specs.declared.changing.ChangeError.TheVariants.{Full, InUse}
 use Rattle.dist_core.specs.declared.event.Event.TheVariants as event
 use Rattle.dist_world_model.specs.declared.happening.Happening.TheVariants as happening
-use Rattle.dist_world_model.proofs.{Conditions.if_holds, Conditions.if_ok, Conditions.if_there, Places.first-at}
 
 -- an event that takes no body and accepts no connection
 abbrev pub IsPlain : Event → Type 0

@@ -3,9 +3,9 @@ use Rattle.dist_world_model.proofs.Words.{◌≡◌, ℕ, ◌+◌, ◌<◌, ◌�
 use Rattle.dist_world_model.proofs.Words.{◌∙◌, subst, inl, inr, arith, le-ltb, eqb-true, cases_lt, Name, Side, Acceptor, Dialler, Entry, AreLegal, entry_in}
 use Rattle.dist_world_model.proofs.Words.{holds_at, is_claim, is_held, names, End, Kind, In, Out, Up, Crosses, lesser, AreApart, claim_in, get_along}
 use Rattle.dist_world_model.proofs.Words.{held_before, EndRow, claim_before, claim_when, new_row, past, left_before, Life, runs}
-use Rattle.dist_peers.specs.declared.entry.Entry.TheVariants as entry
 use Rattle.dist_world_model.proofs.{EndStates.AreBeside, EndStates.Below, EndStates.Beside, RowChanges.Writes, RowChanges.writes-below, RowChanges.writes-claim}
 use Rattle.dist_world_model.proofs.RowMarks.{fits-claim, later-below, new-below}
+use Rattle.dist_peers.specs.declared.entry.Entry.TheVariants as entry
 
 -- ---- two ends that an entry names get along
 

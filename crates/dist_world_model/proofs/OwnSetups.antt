@@ -4,14 +4,14 @@ use Rattle.dist_world_model.proofs.Words.{option_map, sym, refl, ap, ◌∙◌, 
 use Rattle.dist_world_model.proofs.Words.{finds_no_room, is_in_use, setup_after, NodeState, opening, after, Change, applied_at, happens, life_after}
 use Rattle.dist_world_model.proofs.Words.{life_after_end, new_life, reached_life, ticked_on, with_node, without_closing, world_after, AllLives, at_place}
 use Rattle.dist_world_model.proofs.Words.{NodeLaws, run, Conn, Life, World, empty, running, Happening}
+use Rattle.dist_world_model.proofs.{Conditions.if_ok, Conditions.if_there, Digests.digest_lives, Lookups.changed-at, Lookups.more-at, Places.get-place}
+use Rattle.dist_world_model.proofs.HappeningEffects.{Act, Acted, Begins, Comes, Ends, Reaches, Reports, Resets, acts, change-ok, where-applied}
+use Rattle.dist_world_model.proofs.WireSteps.{bare-stays}
 use Rattle.dist_core_setup.specs.Rules.{own_digest}
 use Rattle.dist_core.specs.declared.changing.Change.TheVariants as changes
 use Rattle.dist_core.specs.declared.changing.ChangeError.TheVariants as change_error
 use Rattle.dist_world_model.specs.OwnSetups.{changes_at, setup_by, AreNoResets, HasSetDigests, IsNoReset, IsSetUp, change_by, is_place}
 use Rattle.dist_world_model.specs.declared.happening.Happening.TheVariants as happening
-use Rattle.dist_world_model.proofs.{Conditions.if_ok, Conditions.if_there, Digests.digest_lives, Lookups.changed-at, Lookups.more-at, Places.get-place}
-use Rattle.dist_world_model.proofs.HappeningEffects.{Act, Acted, Begins, Comes, Ends, Reaches, Reports, Resets, acts, change-ok, where-applied}
-use Rattle.dist_world_model.proofs.WireSteps.{bare-stays}
 
 -- ---- changes, one after another
 

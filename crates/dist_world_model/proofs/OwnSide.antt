@@ -5,6 +5,11 @@ use Rattle.dist_world_model.proofs.Words.{Form, Message, Side, Acceptor, Dialler
 use Rattle.dist_world_model.proofs.Words.{complete_flags, named_attempt, closes, goes_on, held_back, moves, reply_phase, shuts, superseded_end, supersedes}
 use Rattle.dist_world_model.proofs.Words.{NodeState, Closing, Heard, IsChallenge, IsName, StepRow, Taken, sender_in, sender_to, Effect, Event, Reply, says}
 use Rattle.dist_world_model.proofs.Words.{NodeLaws, EndRow, once, past, peer_by, rises, row_after, says_reply, takes_name}
+use Rattle.dist_world_model.proofs.EndRows.{attempt-row, before-once, not-acceptor, not-new, row-of-phase, same-end, unnamed-side}
+use Rattle.dist_world_model.proofs.{EndStates.Fits, EndStates.Stand, EndStates.stand_in, RowMarks.once-false, RowMarks.once-some, WholeFrames.Whole}
+use Rattle.dist_world_model.proofs.SentFrames.{IsFit, ack-said, challenge-said, greeting-said, name-said, nothing-said, reply-said, status-said, tick-said}
+use Rattle.dist_world_model.proofs.Wires.{IsEnd, IsHalf, IsKnown, Marks, May, MayAnswer, MaySay, Noted, NotedBy, NotedIn, Quiet, Said, Voice, end-quiet}
+use Rattle.dist_world_model.proofs.Wires.{is_newer, marks_of, quiet-refl, voice}
 use Rattle.std.proofs.Math.Bool as bool
 use Rattle.dist_messages.specs.declared.form.Form.TheVariants as form
 use Rattle.dist_messages.specs.declared.message.Message.TheVariants as message
@@ -16,11 +21,6 @@ use Rattle.dist_core_setup.specs.Saying.{status_text, greeting_text, challenge_t
 use Rattle.dist_core.specs.Rows as core
 use Rattle.dist_core.specs.declared.event.Event.TheVariants as event
 use Rattle.dist_core.specs.declared.reply.Note.TheVariants as note
-use Rattle.dist_world_model.proofs.EndRows.{attempt-row, before-once, not-acceptor, not-new, row-of-phase, same-end, unnamed-side}
-use Rattle.dist_world_model.proofs.{EndStates.Fits, EndStates.Stand, EndStates.stand_in, RowMarks.once-false, RowMarks.once-some, WholeFrames.Whole}
-use Rattle.dist_world_model.proofs.SentFrames.{IsFit, ack-said, challenge-said, greeting-said, name-said, nothing-said, reply-said, status-said, tick-said}
-use Rattle.dist_world_model.proofs.Wires.{IsEnd, IsHalf, IsKnown, Marks, May, MayAnswer, MaySay, Noted, NotedBy, NotedIn, Quiet, Said, Voice, end-quiet}
-use Rattle.dist_world_model.proofs.Wires.{is_newer, marks_of, quiet-refl, voice}
 
 -- the other side
 abbrev pub away : Side → Side

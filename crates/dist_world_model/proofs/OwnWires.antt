@@ -3,7 +3,6 @@ use Rattle.dist_world_model.proofs.Words.{◌≡◌, ℕ, Bool, true, false, not
 use Rattle.dist_world_model.proofs.Words.{same_Some, first_body, Message, Side, Acceptor, Dialler, EndId, End, Setup, Event, body_taken, change_to, more_said}
 use Rattle.dist_world_model.proofs.Words.{says, text_to, at_place, NodeLaws, EndRow, dooms, once, past, row_after, shuts_end, Conn, Text, end_of_life}
 use Rattle.dist_world_model.proofs.Words.{row_of_life}
-use Rattle.dist_core.specs.declared.event.Event.TheVariants as event
 use Rattle.dist_world_model.proofs.AllWires.{EndAt, Loc, WireAt, alike-refl, conns-at, linked-same, same-conn, voice-was}
 use Rattle.dist_world_model.proofs.ConnectionRows.{IsEndOf, RowOf, SameEnds, end_of, life_of, row_of}
 use Rattle.dist_world_model.proofs.{EndStates.Fits, GrowingRows.may-more, GrowingRows.once-keeps, HappeningEffects.IsPlain, OtherRows.own-after}
@@ -13,6 +12,7 @@ use Rattle.dist_world_model.proofs.SilentWires.{Kept, Notifying, all-stay, all-w
 use Rattle.dist_world_model.proofs.SilentWires.{past-marks, rows', the-row}
 use Rattle.dist_world_model.proofs.WholeFrames.{Whole, on_way, way-said, way-taken, whole-map}
 use Rattle.dist_world_model.proofs.Wires.{Follows, Hushed, IsEnd, Marks, May, Quiet, Said, Voice, end-quiet, marks_of, quiet-refl, said-map, voice}
+use Rattle.dist_core.specs.declared.event.Event.TheVariants as event
 
 follows-later : (side : Side) (x y z : Marks) (a b c : Bool) (t : ℕ) → z.named ≡ once a t y.named → z.replied ≡ once b t y.replied → z.rose ≡ once c t y.rose → Follows side x y → Follows side x z
 follows-later Dialler x y z a b c t na re ro f = (λ k h. ap (past k) na ∙ once-past a t k y.named (f.0 k h), λ k h. ap (past k) ro ∙ once-past c t k y.rose (f.1 k h))

@@ -5,14 +5,14 @@ use Rattle.dist_world_model.proofs.Words.{false≢true, nil_from_length, list_an
 use Rattle.dist_world_model.proofs.Words.{has_usual, is_in_use, setup_after, NodeState, opening, Change, applied_at, happens, life_after_end, most_applied}
 use Rattle.dist_world_model.proofs.Words.{most_begins, new_life, ticked_on, with_node, without_closing, world_after, at_place, first_where, OnlyLastRuns, run}
 use Rattle.dist_world_model.proofs.Words.{Life, World, empty, running, runs, runs_for, Happening}
+use Rattle.dist_world_model.proofs.{Conditions.holds, Conditions.succeeds, Conditions.there, HappeningEffects.is-running, Lookups.at-other, Lookups.placed}
+use Rattle.dist_world_model.proofs.{OwnSetups.AllFindRoom, OwnSetups.begun-with, OwnSetups.run-setups, Places.eqb-self, Places.get-more}
 use Rattle.std.specs.FinMap as finite
 use Rattle.dist_core.specs.declared.changing.Change.TheVariants as changes
 use Rattle.dist_core.specs.declared.changing.ChangeError.TheVariants as change_error
 use Rattle.dist_core_laws.proofs.Limits.{no-entries}
 use Rattle.dist_world_model.specs.{OwnSetups.changes_at, OwnSetups.setup_by, Renewals.resets, Renewals.HasOpened, Renewals.HasRoom, Renewals.renewal}
 use Rattle.dist_world_model.specs.declared.happening.Happening.TheVariants as happening
-use Rattle.dist_world_model.proofs.{Conditions.holds, Conditions.succeeds, Conditions.there, HappeningEffects.is-running, Lookups.at-other, Lookups.placed}
-use Rattle.dist_world_model.proofs.{OwnSetups.AllFindRoom, OwnSetups.begun-with, OwnSetups.run-setups, Places.eqb-self, Places.get-more}
 
 -- ---- the first that passes
 

@@ -3,9 +3,9 @@ use Rattle.dist_world_model.proofs.Words.{or-false, or-true, ◌≡◌, ℕ, ◌
 use Rattle.dist_world_model.proofs.Words.{None, Option, option_map, sym, refl, ap, ◌∙◌, subst, inl, inr, arith, false≢true, nat_tests, Name, Side, Acceptor}
 use Rattle.dist_world_model.proofs.Words.{Dialler, claim_of, kind_in, End, Phase, Reply, EndRow, claim_before, claim_when, holds_peer, new_row, once, past}
 use Rattle.dist_world_model.proofs.Words.{rises, row_after, says_reply, takes_name}
+use Rattle.dist_world_model.proofs.EndStates.{AreBeside, Below, Beside, Fits, Stand, row_stand, stand_after, stand_claim, stand_in, stand_of, stand_row}
 use Rattle.dist_core_ends.specs.declared.known.End.TheVariants as ends
 use Rattle.dist_core_ends.specs.declared.phase.Phase.TheVariants as phase
-use Rattle.dist_world_model.proofs.EndStates.{AreBeside, Below, Beside, Fits, Stand, row_stand, stand_after, stand_claim, stand_in, stand_of, stand_row}
 
 pub once-false : (t : ℕ) (o : Option ℕ) → once false t o ≡ o
 once-false t None = refl

@@ -4,16 +4,16 @@ use Rattle.dist_world_model.proofs.Words.{subst, eqb-true, false_from_ne_true, f
 use Rattle.dist_world_model.proofs.Words.{entry_in, holds, holds_at, is_claim, is_held, names, Attempt, End, UpRecord, Kind, In, Out, Up, Why, comes_up}
 use Rattle.dist_world_model.proofs.Words.{dooms_other, fresh_attempt, goes_on, shuts, shuts_other, NodeState, ends_after, new_id, Effect, Event, Reply}
 use Rattle.dist_world_model.proofs.Words.{NodeLaws, EndRow, dooms, given_by, mark, new_row, row_after, rows_after, shuts_end}
-use Rattle.dist_peers.specs.declared.entry.Entry.TheVariants as entry
-use Rattle.dist_core_ends.specs.declared.known.End.TheVariants as ends
-use Rattle.dist_core_ends.specs.declared.why.Why.TheVariants as why
-use Rattle.dist_core.specs.declared.reply.Note.TheVariants as note
 use Rattle.dist_world_model.proofs.EndStates.{AreBeside, Fits, Stand, dialled_stand, named_stand, open-row, ready_stand, row_stand, stand_after, stand_claim}
 use Rattle.dist_world_model.proofs.EndStates.{stand_in, stand_of}
 use Rattle.dist_world_model.proofs.{EventEnds.gives, Places.eqb-self, RowMarks.closed-stand, RowMarks.end-claim, RowMarks.written-stand}
 use Rattle.dist_world_model.proofs.StepEffects.{Comes_in, Deed, Dials, Dooms, Drops, Goes, Refuses, Rises, Says, Shuts, Takes, Takes_over, Work, Works}
 use Rattle.dist_world_model.proofs.StepEffects.{is_given, own-not-given}
 use Rattle.dist_world_model.proofs.UnchangedRows.{changed, given}
+use Rattle.dist_peers.specs.declared.entry.Entry.TheVariants as entry
+use Rattle.dist_core_ends.specs.declared.known.End.TheVariants as ends
+use Rattle.dist_core_ends.specs.declared.why.Why.TheVariants as why
+use Rattle.dist_core.specs.declared.reply.Note.TheVariants as note
 
 -- what an entry names is there
 some-held : (p : Name) (k : Kind) (o : Option End) → is_held p k o ≡ true → (e : End) × (o ≡ Some e)

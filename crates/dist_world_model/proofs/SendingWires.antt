@@ -3,11 +3,11 @@ use Rattle.dist_world_model.proofs.Words.{◌≡◌, ℕ, true, false, List, len
 use Rattle.dist_world_model.proofs.Words.{false≢true, first_body, Dialler, EndId, End, Event, body_taken, change_to, conns_after_saying, says, spoken_on}
 use Rattle.dist_world_model.proofs.Words.{text_to, conn_of, at_place, NodeLaws, EndRow, dooms, given_by, mark, new_row, row_after, shuts_end, Conn, row_at}
 use Rattle.dist_world_model.proofs.Words.{row_of_life}
-use Rattle.dist_core.specs.declared.event.Event.TheVariants as event
 use Rattle.dist_world_model.proofs.{EndStates.Beside, EndStates.Fits, EventEnds.frame-end, EventEnds.gives, EventEnds.own-end, GrowingRows.spoken-none}
 use Rattle.dist_world_model.proofs.{HappeningEffects.IsPlain, Lookups.place-twice, OwnWires.own-says, OwnWires.own-takes, Places.eqb-self, StepEffects.is_given}
 use Rattle.dist_world_model.proofs.SilentWires.{Kept, Notifying, beside, deed, me, rows', silent}
 use Rattle.dist_world_model.proofs.UnchangedRows.{get-row-old, row-new, same-length}
+use Rattle.dist_core.specs.declared.event.Event.TheVariants as event
 
 module _ (laws : NodeLaws) (notifying : Notifying) where
   open notifying use {w, lives, fit, wired, i, old, v, fresh, f, small, at, live, ok}

@@ -2,6 +2,8 @@
 use Rattle.dist_world_model.proofs.Words.{◌≡◌, ℕ, ◌^◌, ◌<◌, true, false, cond, ◌&&◌, List, [], ◌∷◌, length, is_some, Ok, Option, sym, refl, ◌∙◌, subst, inl}
 use Rattle.dist_world_model.proofs.Words.{inr, arith, lit<, IsNodeName, is_said_by, Form, Message, Side, Acceptor, Dialler, Status, announced_by, knows_six}
 use Rattle.dist_world_model.proofs.Words.{Setup, NodeLaws}
+use Rattle.dist_world_model.proofs.WholeFrames.{Whole, whole-append, whole-empty, whole-one}
+use Rattle.dist_world_model.proofs.Wires.{MayAnswer, MaySay, Said, Voice, is_newer, voice}
 use Rattle.dist_messages.specs.{Canonical.canonical, Reading.read, Spelling.Fits}
 use Rattle.dist_messages.specs.declared.form.Form.TheVariants as form
 use Rattle.dist_messages.specs.declared.message.Message.TheVariants as message
@@ -9,8 +11,6 @@ use Rattle.dist_core_setup.specs.Rules.{own_digest}
 use Rattle.dist_core_setup.specs.Saying.{challenge_text, CanBeSaid, ack_message, complement_message, frames_of_messages, new_challenge_message}
 use Rattle.dist_core_setup.specs.Saying.{new_name_message, old_challenge_message, old_name_message, reply_message, ack_text, greeting_text, name_text}
 use Rattle.dist_core_setup.specs.Saying.{reply_text, status_text, tick_text, frame_of}
-use Rattle.dist_world_model.proofs.WholeFrames.{Whole, whole-append, whole-empty, whole-one}
-use Rattle.dist_world_model.proofs.Wires.{MayAnswer, MaySay, Said, Voice, is_newer, voice}
 
 -- the setup's name is a name, and its numbers fit
 pub record IsFit (s : Setup) : Type 0 where

@@ -2,13 +2,13 @@
 use Rattle.dist_world_model.proofs.Words.{◌≡◌, ℕ, ◌^◌, ◌<◌, true, not, ◌⊎◌, List, length, slice_get, Some, None, Ok, Option, sym, refl, ap, ◌∙◌, inl, inr}
 use Rattle.dist_world_model.proofs.Words.{same_Some, Side, Acceptor, Dialler, StepRow, after, effect_of, Effect, Event, life_after, at_place, NodeLaws, EndRow}
 use Rattle.dist_world_model.proofs.Words.{given_by, mark, new_row, rows_after, Conn, Life, World, end_of_life, row_of_life, runs}
-use Rattle.dist_core.specs.declared.event.Event.TheVariants as event
 use Rattle.dist_world_model.proofs.AllWires.{Alike, AreWired, Loc, WireAt, alike-refl, conns-same, hush-refl, linked-same, voice-refl, wire-alike}
 use Rattle.dist_world_model.proofs.{ConnectionRows.Stays, ConnectionRows.VoiceStays, ConnectionRows.Was, ConnectionRows.row_of, EndStates.AreBeside}
 use Rattle.dist_world_model.proofs.{IncarnationFacts.IsLife, OtherRows.end-hushed, OtherRows.row-quiet, OwnSide.IsPast, SentFrames.IsFit}
 use Rattle.dist_world_model.proofs.Lookups.{changed-at, far, life-there, placed, row_in, voice_in, voice_of}
 use Rattle.dist_world_model.proofs.{StepEffects.Deed, StepEffects.deed_of, StepEffects.is_given, Wires.Hushed, Wires.Quiet, Wires.marks_of, Wires.quiet-refl}
 use Rattle.dist_world_model.proofs.UnchangedRows.{Came, Fresh, Old, came, row-then}
+use Rattle.dist_core.specs.declared.event.Event.TheVariants as event
 
 -- an event that a running incarnation gets, in a world all of whose connections are wires
 pub record Notifying : Type 0 where

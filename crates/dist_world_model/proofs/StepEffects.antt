@@ -4,6 +4,7 @@ use Rattle.dist_world_model.proofs.Words.{inl, inr, Name, Form, Message, Side, A
 use Rattle.dist_world_model.proofs.Words.{Attempt, End, UpRecord, In, Out, Phase, Why, named_attempt, closes, comes_up, dooms_other, fresh_attempt, goes_on}
 use Rattle.dist_world_model.proofs.Words.{held_back, reply_phase, shuts, shuts_other, superseded_end, superseded_in, supersedes, NodeState, new_id, Heard}
 use Rattle.dist_world_model.proofs.Words.{StepRow, Taken, effect_of, sender_in, sender_to, Effect, Event, says, NodeLaws, given_by}
+use Rattle.dist_world_model.proofs.EndStates.{dialled_stand, named_stand, needs, needs_in, ready_stand, stand_in, stand_of}
 use Rattle.dist_messages.specs.declared.form.Form.TheVariants as form
 use Rattle.dist_peers.specs.declared.entry.Entry.TheVariants as entry
 use Rattle.dist_core_ends.specs.declared.known.End.TheVariants as ends
@@ -12,7 +13,6 @@ use Rattle.dist_core_ends.specs.declared.why.Why.TheVariants as why
 use Rattle.dist_core.specs.Rows as core
 use Rattle.dist_core.specs.declared.event.Event.TheVariants as event
 use Rattle.dist_core.specs.declared.reply.Note.TheVariants as note
-use Rattle.dist_world_model.proofs.EndStates.{dialled_stand, named_stand, needs, needs_in, ready_stand, stand_in, stand_of}
 
 abbrev pub greater_at : NodeState → Name → Bool
 greater_at n p = is_greater n.setup.name p

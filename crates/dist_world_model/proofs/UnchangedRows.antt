@@ -4,9 +4,9 @@ use Rattle.dist_world_model.proofs.Words.{option_map, sym, refl, ap, ◌∙◌, 
 use Rattle.dist_world_model.proofs.Words.{Acceptor, Dialler, EndId, IsThere, other_view, End, NodeState, ends_after, Effect, Event, Reply, add_some, NodeLaws}
 use Rattle.dist_world_model.proofs.Words.{EndRow, dooms, given_by, mark, new_row, once, peer_by, rises, row_after, rows_after, says_reply, shuts_end}
 use Rattle.dist_world_model.proofs.Words.{takes_name}
-use Rattle.dist_core.specs.declared.event.Event.TheVariants as event
 use Rattle.dist_world_model.proofs.{EndStates.AreBeside, EndStates.Beside, EndStates.Fits, EventEnds.Gives, RowMarks.once-false, StepEffects.is_given}
 use Rattle.dist_world_model.proofs.Places.{before-map, eqb-self, get-each, get-more, one-more}
+use Rattle.dist_core.specs.declared.event.Event.TheVariants as event
 
 pub same-length : (es : List End) (rows : List EndRow) → AreBeside es rows → length es ≡ length rows
 same-length [] [] h = refl

@@ -2,13 +2,13 @@
 use Rattle.dist_world_model.proofs.Words.{◌≡◌, ℕ, true, false, not, is_some, slice_get, Some, None, Option, sym, refl, ap, ◌∙◌, subst, false≢true, Side}
 use Rattle.dist_world_model.proofs.Words.{Acceptor, Dialler, End, announced_in, Setup, IsUp, NodeLaws, EndRow, past, Conn, Life, World, end_of_life}
 use Rattle.dist_world_model.proofs.Words.{row_of_life, runs}
-use Rattle.dist_core_ends.specs.declared.known.End.TheVariants as ends
-use Rattle.dist_core_setup.specs.Rules.{announced_by}
 use Rattle.dist_world_model.proofs.ConnectionRows.{ConnOf, IsEndOf, RowOf, end_of, row_of}
 use Rattle.dist_world_model.proofs.{EndPairs.IsOpen, EndPairs.Line, EndPairs.Seat, HappeningEffects.is-running, PastMoments.past-is, PastMoments.past-some}
 use Rattle.dist_world_model.proofs.{EndStates.Beside, EndStates.Fits, EndStates.Stand, EndStates.is_dialler, EndStates.open-row, WholeFrames.on_way}
 use Rattle.dist_world_model.proofs.Lookups.{end_in, far, life-there, row_in, voice-there, voice_in, voice_of}
 use Rattle.dist_world_model.proofs.{Wires.IsEnd, Wires.Voice, Wires.marks_of, Wires.peer_of, Wires.voice, WithEvent.up-open, WorldFacts.IsKept}
+use Rattle.dist_core_ends.specs.declared.known.End.TheVariants as ends
+use Rattle.dist_core_setup.specs.Rules.{announced_by}
 
 pub announced-is : (s : Setup) → announced_by s ≡ announced_in s.version s.flags.0
 unfolding announced_by

@@ -2,11 +2,11 @@
 use Rattle.dist_world_model.proofs.Words.{◌≡◌, ℕ, List, [], ◌∷◌, ◌++◌, slice_get, Some, None, Option, option_map, sym, refl, ap, ◌∙◌, subst, same_Some, Side}
 use Rattle.dist_world_model.proofs.Words.{Acceptor, Dialler, Setup, setup_after, Change, bare, after_delivery, change_to, text_to, shut_all, shut_row, at_place}
 use Rattle.dist_world_model.proofs.Words.{EndRow, Conn, Life, end_of_life, row_of_life}
-use Rattle.dist_core.specs.declared.changing.Change.TheVariants as change
 use Rattle.dist_world_model.proofs.AllWires.{AreWired, RowKept, conns-at, conns-same, hush-refl, quiet-wired, row-refl, same-conn, voice-refl}
 use Rattle.dist_world_model.proofs.{ConnectionRows.SameEnds, ConnectionRows.VoiceStays, WholeFrames.on_way, WholeFrames.way-delivered, WithoutEvent.get-shut}
 use Rattle.dist_world_model.proofs.Lookups.{at-other, changed-at, end_in, more-at, row_in, voice_in, voice_of}
 use Rattle.dist_world_model.proofs.Wires.{Hushed, same-voice}
+use Rattle.dist_core.specs.declared.changing.Change.TheVariants as change
 
 texts-same : (cs : List Conn) (c : ℕ) (k h : Conn) → slice_get cs c ≡ Some k → slice_get cs c ≡ Some h → (side : Side) → on_way (text_to side h) ≡ on_way (text_to side k)
 texts-same cs c k h a b side = ap (λ (k : Conn). on_way (text_to side k)) (sym (same-conn cs c k h a b))

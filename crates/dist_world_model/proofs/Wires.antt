@@ -2,13 +2,13 @@
 use Rattle.dist_world_model.proofs.Words.{◌≡◌, ℕ, Bool, true, false, cond, ◌&&◌, List, is_some, Some, None, Ok, Option, sym, refl, ap, ◌∙◌, subst, inl, inr}
 use Rattle.dist_world_model.proofs.Words.{common, high_half, low_half, Name, Creation, read, Form, Message, Side, Acceptor, Dialler, Attempt, End, Phase}
 use Rattle.dist_world_model.proofs.Words.{knows_six, Setup, bare, EndRow, past}
+use Rattle.dist_world_model.proofs.WholeFrames.{Whole}
 use Rattle.dist_messages.specs.declared.form.Form.TheVariants as form
 use Rattle.dist_messages.specs.declared.message.Message.TheVariants as message
 use Rattle.dist_core_ends.specs.declared.known.End.TheVariants as ends
 use Rattle.dist_core_ends.specs.declared.phase.Phase.TheVariants as phase
 use Rattle.dist_core_setup.specs.Rules.{announced_by}
 use Rattle.dist_world_model.specs.Frames.{IsCanonical}
-use Rattle.dist_world_model.proofs.WholeFrames.{Whole}
 
 -- what a node says of itself to others, by its setup; cookies and allow list stand in nothing that is sent but in digests
 pub record Voice : Type 0 where

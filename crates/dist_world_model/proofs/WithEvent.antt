@@ -6,8 +6,6 @@ use Rattle.dist_world_model.proofs.Words.{UpRecord, Kind, In, Out, Up, NodeState
 use Rattle.dist_world_model.proofs.Words.{StepError, lesser, life_after, claim_in, held_before, NodeLaws, EndRow, claim_before, claim_when, dooms, given_by}
 use Rattle.dist_world_model.proofs.Words.{holds_peer, mark, new_row, once, past, peer_by, rises, rows_after, says_reply, shuts_end, takes_name, entered_before}
 use Rattle.dist_world_model.proofs.Words.{left_before, Life, runs}
-use Rattle.dist_core_ends.specs.declared.known.End.TheVariants as ends
-use Rattle.dist_core.specs.declared.event.Event.TheVariants as event
 use Rattle.dist_world_model.proofs.{EndStates.AreBeside, EndStates.Fits, EndStates.Stand, EndStates.open-row, EndStates.ready_stand, OtherRows.own-after}
 use Rattle.dist_world_model.proofs.EventEnds.{climber, dial-idle, doomer, gives, none-of, sayer, taker}
 use Rattle.dist_world_model.proofs.IncarnationFacts.{Grown, Grows, IsGone, IsLife, NamedNow, New, Origin, Was, held-now, life-by}
@@ -16,6 +14,8 @@ use Rattle.dist_world_model.proofs.{RowMarks.below-of, RowMarks.fits-at, RowMark
 use Rattle.dist_world_model.proofs.StepEffects.{Deed, Dooms, Drops, Refuses, Takes, Takes_over, Works, deed_of, greater_at}
 use Rattle.dist_world_model.proofs.UnchangedRows.{Came, Fresh, Old, came, given-is, given-mark, row-then}
 use Rattle.dist_world_model.proofs.WithoutEvent.{not-over}
+use Rattle.dist_core_ends.specs.declared.known.End.TheVariants as ends
+use Rattle.dist_core.specs.declared.event.Event.TheVariants as event
 
 -- ---- what a deed says of a name that is taken
 

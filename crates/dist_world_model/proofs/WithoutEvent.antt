@@ -4,11 +4,11 @@ use Rattle.dist_world_model.proofs.Words.{Option, option_map, sym, refl, ap, ◌
 use Rattle.dist_world_model.proofs.Words.{is_claim, End, Kind, Setup, setup_after, Change, life_after_end, reached_life, reached_row, shut_all, shut_row}
 use Rattle.dist_world_model.proofs.Words.{AreApart, claim_in, held_before, at_place, EndRow, claim_before, claim_when, past, entered_before, left_before, Life}
 use Rattle.dist_world_model.proofs.Words.{runs}
-use Rattle.dist_core.specs.declared.changing.Change.TheVariants as change
 use Rattle.dist_world_model.proofs.{EndStates.AreBeside, EndStates.Below, EndStates.Beside, EndStates.Fits, Places.before-map, Places.get-place}
 use Rattle.dist_world_model.proofs.IncarnationFacts.{AllRows, Grown, Grows, IsLife, NamedNow, Was, apart-step, grows-below, life-by}
 use Rattle.dist_world_model.proofs.RowChanges.{Writes, quiet-writes, same-writes, writes-below}
 use Rattle.dist_world_model.proofs.RowMarks.{later-below, once-false, once-some}
+use Rattle.dist_core.specs.declared.changing.Change.TheVariants as change
 
 -- ---- rows that change each in its place, and take no name
 

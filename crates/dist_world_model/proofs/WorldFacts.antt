@@ -4,13 +4,13 @@ use Rattle.dist_world_model.proofs.Words.{slice_get, Some, None, Option, option_
 use Rattle.dist_world_model.proofs.Words.{slice_get_within, IsNodeName, Creation, Setup, after_change, Fits, AllFit, AreSetups, bare, life_after_end, new_life}
 use Rattle.dist_world_model.proofs.Words.{with_node, AllLives, at_place, first_where, NodeLaws, run, Conn, Life, World, empty, running, runs, runs_for}
 use Rattle.dist_world_model.proofs.Words.{Happening}
-use Rattle.dist_core_setup.specs.Rules.{announced_by}
 use Rattle.dist_world_model.proofs.{AcceptedWires.notified-kept, AllWires.AreWired, AllWires.row-refl, DialledWires.reached-wired, IncarnationFacts.IsLife}
 use Rattle.dist_world_model.proofs.HappeningEffects.{Act, Acted, Begins, Comes, Ends, Reaches, Reports, Resets}
 use Rattle.dist_world_model.proofs.IncarnationEffects.{alike, all-free, kept-by-all, one-step}
 use Rattle.dist_world_model.proofs.{LastingFacts.IsWhole, LastingFacts.whole_keeps, Lookups.decide, SentFrames.IsFit}
 use Rattle.dist_world_model.proofs.Places.{at-more, at-one, eqb-self, get-more}
 use Rattle.dist_world_model.proofs.WireSteps.{bare-stays, begun-wired, come-wired, shut-kept, turned-wired}
+use Rattle.dist_core_setup.specs.Rules.{announced_by}
 
 -- the incarnation has its node's setup, but for the creation, the cookies and the allow list
 pub record Owns (setups : List Setup) (l : Life) : Type 0 where

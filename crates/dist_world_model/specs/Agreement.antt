@@ -1,12 +1,10 @@
 -- AGREEMENT: what two running nodes have in common that each count the other as up.
 use Rattle.std.specs.Prelude.{if◌then◌else◌, ◌&&◌, ◌≡◌, ◌≢◌, ◌<◌, ◌^◌, ◌⊎◌}
-use Rattle.dist_world_model.specs.Words.{ℕ, List, [], Option, Some, None, UpRecord, slice_get, Setup, Creation, Happening}
-use Rattle.dist_world_model.specs.Words.{own_digest, AllByRecursion, IsNodeName, common, announced_in, knows_six}
-use Rattle.dist_core_ends.specs.declared.known.End.TheVariants as ends
+use Rattle.dist_world_model.specs.Words.{ℕ, List, [], Option, Some, None, UpRecord, slice_get, Setup, Creation, Happening, own_digest, AllByRecursion}
+use Rattle.dist_world_model.specs.Words.{IsNodeName, common, announced_in, knows_six}
+use Rattle.dist_world_model.specs.{Rows.EndRow, World.World, World.Life, World.Conn, World.running, World.empty, Run.run}
 use Rattle.dist_world_model.specs.declared.happening.Happening.TheVariants as happening
-use Rattle.dist_world_model.specs.Rows.{EndRow}
-use Rattle.dist_world_model.specs.World.{World, Life, Conn, running, empty}
-use Rattle.dist_world_model.specs.Run.{run}
+use Rattle.dist_core_ends.specs.declared.known.End.TheVariants as ends
 
 -- NODE a COUNTS NODE b AS UP on connection c: the running incarnation of a has an end of c that is up with b as its peer
 pub record IsUp (w : World) (a b c : ℕ) : Type 0 where

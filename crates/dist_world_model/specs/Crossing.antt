@@ -1,8 +1,8 @@
 -- ATTEMPTS THAT CROSS.
 use Rattle.std.specs.Prelude.{if◌then◌else◌, ◌≡◌}
 use Rattle.dist_world_model.specs.Words.{ℕ, List, Some, None, true, Name, Out, slice_get, is_claim}
-use Rattle.dist_peers.specs.Verdicts.{is_greater}
 use Rattle.dist_world_model.specs.Rows.{EndRow, claim_before}
+use Rattle.dist_peers.specs.Verdicts.{is_greater}
 
 -- an accepted end y took the name of p at number t, while the end x was dialled to p and neither up nor gone
 pub record Crosses (rows : List EndRow) (x y : ℕ) (p : Name) (t : ℕ) (own other : EndRow) : Type 0 where

@@ -1,9 +1,7 @@
 -- DELIVERY: what each side sends is appended to a text, its front moves on to the other side, and whole frames are taken.
 use Rattle.std.specs.Prelude.{◌++◌}
 use Rattle.dist_world_model.specs.Words.{ℕ, List, [], Option, Some, None, Side, Dialler, Acceptor, take, drop, w16, after_first}
-use Rattle.dist_world_model.specs.Lists.{at_place}
-use Rattle.dist_world_model.specs.Rows.{EndRow}
-use Rattle.dist_world_model.specs.World.{Text, Conn}
+use Rattle.dist_world_model.specs.{Lists.at_place, Rows.EndRow, World.Text, World.Conn}
 
 -- nothing was sent
 abbrev pub empty_text : Text

@@ -1,9 +1,8 @@
 -- THE FRAMES OF A WORLD: how their bodies are spelled.
 use Rattle.std.specs.Prelude.{◌≡◌, ◌⊎◌}
 use Rattle.dist_world_model.specs.Words.{ℕ, List, [], Some, Side, slice_get, Setup, w16, first_body, low_half, Message, Fits, canonical, announced_by}
+use Rattle.dist_world_model.specs.{World.World, World.Conn, Delivery.text_to}
 use Rattle.dist_messages.specs.declared.message.Message.TheVariants as message
-use Rattle.dist_world_model.specs.World.{World, Conn}
-use Rattle.dist_world_model.specs.Delivery.{text_to}
 
 -- the body has no byte, as half a tick has none, or it is the canonical spelling of such a message, whose fields fit
 abbrev pub IsCanonical : (Message → Type 0) → List ℕ → Type 0

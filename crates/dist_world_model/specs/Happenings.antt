@@ -1,15 +1,13 @@
 -- ONE HAPPENING OF THE WORLD.
-use Rattle.std.specs.Prelude.{if◌then◌else◌, ◌∷◌, ◌++◌, ◌&&◌, ◌+◌}
-use Rattle.dist_world_model.specs.Words.{ℕ, Bool, List, [], Option, Some, None, option_map, true, false, nat_lt, EndId, Event}
-use Rattle.dist_world_model.specs.Words.{Reply, slice_get, Setup, End, NodeState, w16, length, is_none, option_and_then, Creation, first_body, Change}
-use Rattle.dist_world_model.specs.Words.{is_open, is_dialing, change, step, opening, Happening}
-use Rattle.std.specs.Result.{result_ok}
-use Rattle.dist_core.specs.declared.event.Event.TheVariants as event
-use Rattle.dist_world_model.specs.declared.happening.Happening.TheVariants as happening
-use Rattle.dist_world_model.specs.Lists.{at_place}
-use Rattle.dist_world_model.specs.Rows.{EndRow, rows_after, once}
+use Rattle.std.specs.{Prelude.if◌then◌else◌, Prelude.◌∷◌, Prelude.◌++◌, Prelude.◌&&◌, Prelude.◌+◌, Result.result_ok}
+use Rattle.dist_world_model.specs.Words.{ℕ, Bool, List, [], Option, Some, None, option_map, true, false, nat_lt, EndId, Event, Reply, slice_get, Setup, End}
+use Rattle.dist_world_model.specs.Words.{NodeState, w16, length, is_none, option_and_then, Creation, first_body, Change, is_open, is_dialing, change, step}
+use Rattle.dist_world_model.specs.Words.{opening, Happening}
 use Rattle.dist_world_model.specs.World.{World, Life, Conn, runs, running, row_at, end_at}
 use Rattle.dist_world_model.specs.Delivery.{empty_text, after_delivery, body_taken, text_to, change_to, conns_after_saying}
+use Rattle.dist_world_model.specs.{Lists.at_place, Rows.EndRow, Rows.rows_after, Rows.once}
+use Rattle.dist_world_model.specs.declared.happening.Happening.TheVariants as happening
+use Rattle.dist_core.specs.declared.event.Event.TheVariants as event
 
 -- Each happening is one `do` block. A line with an arrow names a thing that must be there; a line that is a test must hold;
 -- the last one is the world afterwards. Where a thing is not there or a test does not hold, the happening does not apply.

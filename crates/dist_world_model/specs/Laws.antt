@@ -1,12 +1,9 @@
 -- LAWS OF EVERY INCARNATION of a world.
 use Rattle.std.specs.Prelude.{◌≡◌}
 use Rattle.dist_world_model.specs.Words.{ℕ, Some, true, UpRecord, slice_get, own_digest, same_bytes}
-use Rattle.dist_core_ends.specs.declared.known.End.TheVariants as ends
-use Rattle.dist_world_model.specs.Rows.{EndRow}
-use Rattle.dist_world_model.specs.World.{World, Life, runs}
-use Rattle.dist_world_model.specs.Holders.{AreApart}
-use Rattle.dist_world_model.specs.Crossing.{AreDecided}
 use Rattle.dist_world_model.specs.Stones.{SaysAlone, RisesAlone, RisesUndialled, DialsIdle, RisesFirst, TakesOver, Replaces}
+use Rattle.dist_world_model.specs.{Rows.EndRow, World.World, World.Life, World.runs, Holders.AreApart, Crossing.AreDecided}
+use Rattle.dist_core_ends.specs.declared.known.End.TheVariants as ends
 
 -- every incarnation of the world is so
 abbrev pub AllLives : (Life → Type 0) → World → Type 0

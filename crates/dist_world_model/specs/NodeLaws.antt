@@ -1,21 +1,16 @@
 -- WHAT THE LAWS OF WORLDS TAKE FROM ONE NODE: each is a contract of a crate below.
 use Rattle.std.specs.Prelude.{◌&&◌, ◌≡◌, ◌<◌, ◌^◌, ◌≤◌}
-use Rattle.dist_world_model.specs.Words.{ℕ, List, Some, true, false, Name, EndId, Side, Dialler, Acceptor, Event, slice_get, Setup, End, NodeState}
-use Rattle.dist_world_model.specs.Words.{length, Creation, Change, change, step, opening, IsNodeName, common, knows_six, low_half, Message, Fits}
-use Rattle.dist_world_model.specs.Words.{canonical, announced_by, Ok, has_all, handshake_23, same_name, is_said_by, AreLegal, ends_after, node_after}
-use Rattle.dist_world_model.specs.Words.{effect_of}
+use Rattle.dist_world_model.specs.Words.{ℕ, List, Some, true, false, Name, EndId, Side, Dialler, Acceptor, Event, slice_get, Setup, End, NodeState, length}
+use Rattle.dist_world_model.specs.Words.{Creation, Change, change, step, opening, IsNodeName, common, knows_six, low_half, Message, Fits, canonical}
+use Rattle.dist_world_model.specs.Words.{announced_by, Ok, has_all, handshake_23, same_name, is_said_by, AreLegal, ends_after, node_after, effect_of}
 use Rattle.dist_names.specs.declared.flags.Flags.{Flags}
-use Rattle.dist_messages.specs.declared.message.Status.{Status}
+use Rattle.dist_messages.specs.{declared.message.Status.Status, Reading.read}
 use Rattle.dist_messages.specs.declared.message.Message.TheVariants as message
-use Rattle.dist_messages.specs.Reading.{read}
 use Rattle.dist_core_ends.specs.Change.{IsThere, view_after}
 use Rattle.dist_core_setup.specs.Saying.{CanBeSaid}
 use Rattle.dist_secret.specs.Digest.{digest_of}
-use Rattle.dist_core.specs.Acts.{changed_or}
-use Rattle.dist_core.specs.declared.effect.Effect.{Effect}
-use Rattle.dist_core_laws.specs.Laws.{IsOther}
-use Rattle.dist_core_laws.specs.Records.{AreRight}
-use Rattle.dist_core.specs.Rows.{StepRow, Heard}
+use Rattle.dist_core.specs.{Acts.changed_or, declared.effect.Effect.Effect, Rows.StepRow, Rows.Heard}
+use Rattle.dist_core_laws.specs.{Laws.IsOther, Records.AreRight}
 
 -- names that compare as equal are one name, and a name is one with itself
 pub record NameLaws : Type 0 where

@@ -1,8 +1,6 @@
 -- THE ORDER OF NUMBERS, of incarnations and on connections.
 use Rattle.std.specs.Prelude.{◌≡◌, ◌<◌}
-use Rattle.dist_world_model.specs.Words.{ℕ, Some, false, slice_get}
-use Rattle.dist_world_model.specs.Rows.{EndRow}
-use Rattle.dist_world_model.specs.World.{World, Life, Conn, runs}
+use Rattle.dist_world_model.specs.{Words.ℕ, Words.Some, Words.false, Words.slice_get, Rows.EndRow, World.World, World.Life, World.Conn, World.runs}
 
 -- each number of a row is such a number
 pub record Numbers (P : ℕ → Type 0) (row : EndRow) : Type 0 where

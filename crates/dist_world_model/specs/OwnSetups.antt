@@ -1,11 +1,10 @@
 -- THE SETUP OF EACH INCARNATION: that of its node, with a creation of its own and the changes of its own resets, in order.
 use Rattle.std.specs.Prelude.{if◌then◌else◌, ◌∷◌, ◌++◌, ◌==◌, ◌≡◌}
-use Rattle.dist_world_model.specs.Words.{ℕ, is_some, Bool, List, [], Option, Some, None, true, false, UpRecord, slice_get, Setup, Change}
-use Rattle.dist_world_model.specs.Words.{Happening, own_digest, same_bytes, AllByRecursion, setup_after}
-use Rattle.dist_core_ends.specs.declared.known.End.TheVariants as ends
+use Rattle.dist_world_model.specs.Words.{ℕ, is_some, Bool, List, [], Option, Some, None, true, false, UpRecord, slice_get, Setup, Change, Happening}
+use Rattle.dist_world_model.specs.Words.{own_digest, same_bytes, AllByRecursion, setup_after}
+use Rattle.dist_world_model.specs.{World.World, World.Life, World.running, Happenings.applied_at, Happenings.happens}
 use Rattle.dist_world_model.specs.declared.happening.Happening.TheVariants as happening
-use Rattle.dist_world_model.specs.World.{World, Life, running}
-use Rattle.dist_world_model.specs.Happenings.{applied_at, happens}
+use Rattle.dist_core_ends.specs.declared.known.End.TheVariants as ends
 
 -- ---- which changes are made of an incarnation's setup
 

@@ -1,9 +1,8 @@
 -- A NODE THAT IS RENEWED, as a world has it: it ends, and begins again.
 use Rattle.std.specs.Prelude.{◌∷◌, ◌+◌, ◌≡◌, ◌<◌, ◌≤◌}
 use Rattle.dist_world_model.specs.Words.{ℕ, List, [], Some, slice_get, Setup, length, Creation, Change, opening, Happening}
+use Rattle.dist_world_model.specs.{World.World, World.Life, World.running, Happenings.most_applied, Happenings.most_begins}
 use Rattle.dist_world_model.specs.declared.happening.Happening.TheVariants as happening
-use Rattle.dist_world_model.specs.World.{World, Life, running}
-use Rattle.dist_world_model.specs.Happenings.{most_applied, most_begins}
 
 -- the node changes its setup so, one change after another
 abbrev pub resets : ℕ → List Change → List Happening

@@ -2,10 +2,10 @@
 use Rattle.std.specs.Prelude.{if◌then◌else◌, ◌==◌, ◌&&◌, ◌||◌}
 use Rattle.dist_world_model.specs.Words.{ℕ, Bool, List, Option, Some, None, option_map, true, false, not, nat_lt, Name, EndId}
 use Rattle.dist_world_model.specs.Words.{Side, Dialler, Acceptor, Event, Why, UpRecord, Reply, Kind, Out, In, Up, Claim}
+use Rattle.dist_world_model.specs.Lists.{at_each, add_some}
 use Rattle.dist_core.specs.declared.event.Event.TheVariants as event
 use Rattle.dist_core.specs.declared.reply.Note.{Note}
 use Rattle.dist_core.specs.declared.reply.Note.TheVariants as note
-use Rattle.dist_world_model.specs.Lists.{at_each, add_some}
 
 -- THE ROW OF AN END: its side, peer and connection, and the numbers of the happenings at which it was
 -- given out, took a name, was doomed, sent its reply, came up, was closed

@@ -1,8 +1,7 @@
 -- RUNS OF THE WORLD.
 use Rattle.std.specs.Prelude.{◌∷◌, ◌+◌}
 use Rattle.dist_world_model.specs.Words.{ℕ, List, [], Option, Some, None, Happening}
-use Rattle.dist_world_model.specs.World.{World}
-use Rattle.dist_world_model.specs.Happenings.{happens, applied_at}
+use Rattle.dist_world_model.specs.{World.World, Happenings.happens, Happenings.applied_at}
 
 -- the world after these happenings
 abbrev pub run : List Happening → World → World

@@ -1,8 +1,7 @@
 -- WHAT THE AGREEMENT RESTS ON, within one incarnation.
 use Rattle.std.specs.Prelude.{◌||◌, ◌≡◌, ◌≢◌, ◌<◌}
 use Rattle.dist_world_model.specs.Words.{ℕ, Bool, List, Some, true, false, nat_lt, Name, Dialler, Acceptor, Kind, slice_get}
-use Rattle.dist_world_model.specs.Rows.{EndRow, past, holds_peer}
-use Rattle.dist_world_model.specs.Holders.{held_before}
+use Rattle.dist_world_model.specs.{Rows.EndRow, Rows.past, Rows.holds_peer, Holders.held_before}
 
 -- before happening number t the end had begun to hold its peer: dialled, when given out; accepted, when it took the name
 abbrev pub entered_before : ℕ → EndRow → Bool

@@ -1,8 +1,7 @@
 -- THE WORLD: several nodes, all their incarnations, and the connections between them.
 use Rattle.std.specs.Prelude.{◌==◌, ◌&&◌}
 use Rattle.dist_world_model.specs.Words.{ℕ, Bool, List, [], Option, Some, None, not, EndId, Why, is_some, slice_get, Setup, End, NodeState}
-use Rattle.dist_world_model.specs.Lists.{first_where}
-use Rattle.dist_world_model.specs.Rows.{EndRow}
+use Rattle.dist_world_model.specs.{Lists.first_where, Rows.EndRow}
 
 -- one incarnation of a node: whose it is, since which happening, until which, its node and the rows of its ends
 pub record Life : Type 0 where

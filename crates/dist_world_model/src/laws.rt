@@ -2,15 +2,11 @@
 
 ghost use Rattle.std.specs.Prelude.{◌≡◌, ℕ, List, [], Some, slice_get};
 ghost use Rattle.dist_core_setup.specs.declared.setup.Setup.{Setup};
-ghost use Rattle.dist_world_model.specs.declared.happening.Happening.{Happening};
-ghost use Rattle.dist_world_model.specs.World.{World, Life, empty, running};
-ghost use Rattle.dist_world_model.specs.Run.{run};
 ghost use Rattle.dist_world_model.specs.Laws.{AllLives, Alone, Apart, Decided, InTurn, OwnDigests, UpsAreLinked};
-ghost use Rattle.dist_world_model.specs.Order.{AreAbove, AreInOrder, OnlyLastRuns};
 ghost use Rattle.dist_world_model.specs.Agreement.{Agreement, AreSetups, AllFit, IsReached, Counts, IsUp};
-ghost use Rattle.dist_world_model.specs.Frames.{AreCanonical};
-ghost use Rattle.dist_world_model.specs.Renewals.{HasOpened, HasRoom, renewal};
-ghost use Rattle.dist_world_model.specs.OwnSetups.{AreNoResets, HasSetDigests, IsSetUp, changes_at};
+ghost use Rattle.dist_world_model.specs.{declared.happening.Happening.Happening, World.World, World.Life, World.empty, World.running, Run.run};
+ghost use Rattle.dist_world_model.specs.{Order.AreAbove, Order.AreInOrder, Order.OnlyLastRuns, Frames.AreCanonical, Renewals.HasOpened, Renewals.HasRoom};
+ghost use Rattle.dist_world_model.specs.{Renewals.renewal, OwnSetups.AreNoResets, OwnSetups.HasSetDigests, OwnSetups.IsSetUp, OwnSetups.changes_at};
 
 use crate::node_laws::nodes_keep_laws;
 

@@ -1,9 +1,12 @@
 -- What decides the verdict of a talk beside the judgement.
-use Rattle.std.specs.Prelude.{Bool, true, false}
-use Rattle.dist_conformance.specs.declared.rows.Level.{Level}
+use Rattle.std.specs.Prelude.{ℕ, Bool, true, false, nat_le, if◌then◌else◌}
+use Rattle.dist_conformance.specs.declared.{rows.Level.Level, verdicts.TalkVerdict.TalkVerdict}
 use Rattle.dist_conformance.specs.declared.rows.Level.TheVariants as level
-use Rattle.dist_conformance.specs.declared.verdicts.TalkVerdict.{TalkVerdict}
 use Rattle.dist_conformance.specs.declared.verdicts.TalkVerdict.TheVariants as verdict
+
+-- the level of a row that is demanded since this release, by the guide of another: what a later guide demands is only noted
+abbrev pub level_by : ℕ → ℕ → Level → Level
+level_by guide since l = if nat_le since guide then l else level.May
 
 -- the verdict that counts at a level: at `may` nothing deviates, and at any other nothing is only noted
 abbrev pub verdict_at : Level → TalkVerdict → TalkVerdict

@@ -53,6 +53,8 @@ pub struct CheckOrder<'a> {
     pub rows: Option<&'a str>,
     /// The rows, talks or sections that are played alone, with commas between them.
     pub only: Option<&'a str>,
+    /// The release of OTP whose guide counts: what later ones demand is at level may.
+    pub guide: u16,
     /// A word in the names that this run gives itself.
     pub tag: &'a str,
     /// Whether slow rows are left out.
@@ -76,13 +78,14 @@ const PROGRAM: &str = "distcheck";
 const SWITCHES: [&str; 6] = ["cookie-unsafe", "list", "quick", "harsh", "strict", "json"];
 
 // The options that take a value.
-const VALUES: [&str; 9] = [
+const VALUES: [&str; 10] = [
     "epmd-port",
     "port",
     "mapper",
     "make-it-dial",
     "start",
     "explain",
+    "guide",
     "only",
     "tag",
     "rows",
@@ -104,7 +107,7 @@ fn program<'a>(alloc: Global) -> Result<Command<'a>, AllocError> {
 }
 
 // The number from 1 to 65,535 of this option, if it is given.
-fn port_in(alloc: Global, matches: &ArgMatches<'_>, id: &str) -> Result<Option<u16>, WordFault> {
+fn number_in(alloc: Global, matches: &ArgMatches<'_>, id: &str) -> Result<Option<u16>, WordFault> {
     option_number(alloc, PROGRAM, id, matches.get_str(id))
 }
 
@@ -167,8 +170,8 @@ fn order_in<'a>(
 ) -> Result<CheckOrder<'a>, Fault> {
     let order = CheckOrder {
         node: node_in(alloc, matches)?,
-        port: port_in(alloc, matches, "port")?,
-        mapper_port: port_in(alloc, matches, "epmd-port")?.unwrap_or(usual_port),
+        port: number_in(alloc, matches, "port")?,
+        mapper_port: number_in(alloc, matches, "epmd-port")?.unwrap_or(usual_port),
         mapper: place_in(alloc, matches, "mapper")?,
         make_it_dial: place_in(alloc, matches, "make-it-dial")?,
         start: place_in(alloc, matches, "start")?,
@@ -176,6 +179,7 @@ fn order_in<'a>(
         is_unsafe: matches.get_flag("cookie-unsafe"),
         rows: matches.get_str("rows"),
         only: matches.get_str("only"),
+        guide: number_in(alloc, matches, "guide")?.unwrap_or(u16::MAX),
         tag: tag_in(alloc, matches)?,
         quick: matches.get_flag("quick"),
         harsh: matches.get_flag("harsh"),

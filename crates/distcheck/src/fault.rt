@@ -1,8 +1,7 @@
 //! What stops the program, and how that is reported.
 
 ghost use Rattle.std.specs.Prelude.{◌≡◌};
-ghost use Rattle.distcheck.specs.Faults.{fault_status};
-ghost use Rattle.distcheck.specs.declared.fault.Fault.TheVariants.{NoMemory};
+ghost use Rattle.distcheck.specs.{Faults.fault_status, declared.fault.Fault.TheVariants.NoMemory};
 
 use dist_epmd_calls::LookupError;
 use dist_program::{CookieFault, HostError, WordFault};

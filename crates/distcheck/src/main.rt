@@ -44,8 +44,8 @@ use suite::{SuiteFile, read_suite};
 /// The help.
 const HELP: &str =
     "usage: distcheck NODE [--cookie FILE] [--cookie-unsafe] [--epmd-port N] [--port N] [--mapper HOST:PORT]
-                 [--make-it-dial HOST:PORT] [--start HOST:PORT] [--quick] [--harsh] [--strict] [--only ID,..] [--tag WORD]
-                 [--rows FOLDER] [--json]
+                 [--make-it-dial HOST:PORT] [--start HOST:PORT] [--guide N] [--quick] [--harsh] [--strict] [--only ID,..]
+                 [--tag WORD] [--rows FOLDER] [--json]
        distcheck --mapper HOST:PORT [the same]
        distcheck --list | --explain ID [--rows FOLDER]
        distcheck --help | --version
@@ -62,6 +62,7 @@ protocol allows and what it forbids, and reports each row whose answer is not wh
   --mapper HOST:PORT       the port mapper to check; names are registered there, and garbage is sent
   --make-it-dial HOST:PORT who makes the node dial; rows of its dials are played too, under names that are registered at its port mapper
   --start HOST:PORT        who starts the node, with a port mapper that is ours; rows of what it says there are played too
+  --guide N                the guide of this release of OTP counts: note only what later ones demand
   --quick                  leave out slow rows
   --harsh                  play rows too that can end a fragile node
   --strict                 every level counts, and so does what is loose

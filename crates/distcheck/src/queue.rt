@@ -1,5 +1,8 @@
 //! Which talks are played, and beside which others.
 
+ghost use Rattle.std.specs.Prelude.{◌≡◌};
+ghost use Rattle.distcheck.specs.Deciding.{level_by};
+
 use crate::command::CheckOrder;
 use crate::playing::Setting;
 use crate::suite::SuiteFile;
@@ -141,9 +144,17 @@ fn is_wanted(order: &CheckOrder<'_>, label: &TalkLabel<'_>) -> bool {
     false
 }
 
+// The level of a row that is demanded since this release, by the guide of another.
+fn level_by(guide: u32, since: u32, level: Level) -> Level
+    ensures { result ≡ level_by guide since level }
+{
+    if since <= guide { level } else { Level::May }
+}
+
 // What is printed of a talk, in this place.
 fn label_of<'a>(
     place: usize,
+    guide: u16,
     section: &'a Section,
     row: &'a SuiteRow,
     talk: &'a RowTalk,
@@ -153,7 +164,7 @@ fn label_of<'a>(
         number: section.number,
         section: section.title.as_slice(),
         row: row.id.as_slice(),
-        level: row.level,
+        level: level_by(u32::from(guide), row.marks.since, row.level),
         source: row.source.as_slice(),
         title: row.title.as_slice(),
         id: talk.id.as_slice(),
@@ -168,7 +179,7 @@ fn push_row<'a>(
     order: &CheckOrder<'_>,
 ) -> Result<(), AllocError> {
     for talk in row.talks.as_slice() {
-        let label = label_of(queue.count, section, row, talk);
+        let label = label_of(queue.count, order.guide, section, row, talk);
         let steps = talk.steps.as_slice();
         if is_wanted(order, &label) {
             let queued = QueuedTalk {

@@ -1,7 +1,6 @@
 -- What a log makes of a line.
 use Rattle.std.proofs.Common.{◌≡◌, ℕ, Bool, true, List, Option, sym, subst}
-use Rattle.distmapd.specs.declared.rates.Rates.{Rates}
-use Rattle.distmapd.specs.Logging.{PutsFor, PutsIf}
+use Rattle.distmapd.specs.{declared.rates.Rates.Rates, Logging.PutsFor, Logging.PutsIf}
 
 -- a line is put, after the rates were made these
 pub puts_if : (b : Bool) (count : ℕ) (line : List ℕ) (now : ℕ) (asked others old new : Rates) (before after : Option (List ℕ)) → b ≡ true → old ≡ asked →

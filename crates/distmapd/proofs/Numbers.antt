@@ -1,9 +1,7 @@
 -- Numbers that decimal digits write.
 use Rattle.std.proofs.Common.{◌≡◌, ℕ, ◌<◌, ◌≤◌, Bool, true, ◌&&◌, List, Option, nat_lt, nat_le, arith}
-use Rattle.std.specs.Prelude.{SomeIff}
-use Rattle.std.specs.Str.Parse.{IsNumeral, digits_value}
-use Rattle.std.proofs.lemmas.Bool.{and_parts}
-use Rattle.std.proofs.lemmas.Bool.Decides.{nat_tests}
+use Rattle.std.proofs.lemmas.Bool.{and_parts, Decides.nat_tests}
+use Rattle.std.specs.{Prelude.SomeIff, Str.Parse.IsNumeral, Str.Parse.digits_value}
 use Rattle.dist_names.specs.Digits.{is_numeral}
 use Rattle.dist_names.proofs.Digits.{below, is_below, both, numeral, a_numeral, by_test}
 use Rattle.distmapd.specs.Words.{number_of}

@@ -1,11 +1,8 @@
 -- The answer of a port mapper to the question for all names (ERTS User's Guide, Distribution Protocol, Get All Registered Names from
 -- EPMD), as far as it arrived.
 use Rattle.std.specs.Prelude.{◌≡◌, ℕ, ◌≤◌, Bool, List, [], ◌∷◌, ◌++◌, Option, Some, None, length}
-use Rattle.dist_stream.specs.Stream.{StreamState}
-use Rattle.dist_stream.specs.Turns.{Hears, SaysFront, reports_end}
-use Rattle.dist_stream.specs.declared.turn_error.TurnError.{TurnError}
-use Rattle.distmapd.specs.declared.answer.ReceivedAnswer.{ReceivedAnswer}
-use Rattle.distmapd.specs.declared.fault.Fault.{Fault}
+use Rattle.dist_stream.specs.{Stream.StreamState, Turns.Hears, Turns.SaysFront, Turns.reports_end, declared.turn_error.TurnError.TurnError}
+use Rattle.distmapd.specs.declared.{answer.ReceivedAnswer.ReceivedAnswer, fault.Fault.Fault}
 use Rattle.distmapd.specs.declared.fault.Fault.TheVariants as fault
 
 -- the frame of the question: a length, then a body of one byte

@@ -1,7 +1,6 @@
 -- BYTES AS A JSON STRING (RFC 8259, section 7): each byte is the character with its code.
 use Rattle.std.specs.Prelude.{ℕ, ◌/◌, ◌%◌, ◌==◌, if◌then◌else◌, List, [], ◌∷◌, ◌++◌, codes}
-use Rattle.std.specs.List.{flat_map}
-use Rattle.std.specs.Char.{digit_char}
+use Rattle.std.specs.{List.flat_map, Char.digit_char}
 use Rattle.dist_names.specs.Bytes.{is_printable}
 
 -- a byte as `\u` and its code in four hexadecimal digits

@@ -4,8 +4,7 @@ use Rattle.std.specs.Fmt.{decimal}
 use Rattle.dist_names.specs.Escaped.{in_double_quotes}
 use Rattle.dist_epmd_clients.specs.declared.event.ClientEvent.{ClientEvent}
 use Rattle.dist_epmd_clients.specs.declared.event.ClientEvent.TheVariants as event
-use Rattle.distmapd.specs.Json.{json_string}
-use Rattle.distmapd.specs.declared.settings.LogForm.{LogForm}
+use Rattle.distmapd.specs.{Json.json_string, declared.settings.LogForm.LogForm}
 use Rattle.distmapd.specs.declared.settings.LogForm.TheVariants as form
 
 -- the one of two texts that a line in this form has

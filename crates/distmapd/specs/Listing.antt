@@ -1,13 +1,9 @@
 -- What `-names` prints of an answer, and when the answer is reported as cut.
-use Rattle.std.specs.Prelude.{◌≡◌, ℕ, ◌<◌, Bool, false, ◌||◌, ◌&&◌, ◌==◌, List, [], ◌∷◌, ◌++◌, length}
-use Rattle.std.specs.Prelude.{take, drop, codes, Option, Result, Ok, Err, if◌then◌else◌, IsTrue}
-use Rattle.std.specs.Int.{w32, from_be_bytes}
-use Rattle.std.specs.Fmt.{decimal}
-use Rattle.std.specs.Io.KnownBytes.{Appends}
-use Rattle.std.specs.List.{ends_with}
+use Rattle.std.specs.Prelude.{◌≡◌, ℕ, ◌<◌, Bool, false, ◌||◌, ◌&&◌, ◌==◌, List, [], ◌∷◌, ◌++◌, length, take, drop, codes, Option, Result, Ok, Err}
+use Rattle.std.specs.Prelude.{if◌then◌else◌, IsTrue}
+use Rattle.std.specs.{Int.w32, Int.from_be_bytes, Fmt.decimal, Io.KnownBytes.Appends, List.ends_with}
 use Rattle.dist_names.specs.Escaped.{escaped_lines}
-use Rattle.distmapd.specs.declared.answer.ReceivedAnswer.{ReceivedAnswer}
-use Rattle.distmapd.specs.declared.fault.Fault.{Fault}
+use Rattle.distmapd.specs.declared.{answer.ReceivedAnswer.ReceivedAnswer, fault.Fault.Fault}
 use Rattle.distmapd.specs.declared.fault.Fault.TheVariants as fault
 
 -- a text that consists of whole lines, or is empty

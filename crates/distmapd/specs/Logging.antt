@@ -2,10 +2,8 @@
 use Rattle.std.specs.Prelude.{◌≡◌, ◌⊎◌, ℕ, ◌==◌, Bool, true, false, List, [], ◌∷◌, Option, take, nat_lt, if◌then◌else◌}
 use Rattle.std.specs.Io.KnownBytes.{Appends, Keeps}
 use Rattle.dist_epmd_clients.specs.declared.event.ClientEvent.{ClientEvent}
-use Rattle.distmapd.specs.declared.settings.LogForm.{LogForm}
-use Rattle.distmapd.specs.declared.rates.Rates.{Rates}
-use Rattle.distmapd.specs.Lines.{event_line, left_out_line}
 use Rattle.distmapd.specs.Rates.{after_admitting, after_missing, is_admitted, leaving_out, rate_of, with_none_left_out}
+use Rattle.distmapd.specs.{declared.settings.LogForm.LogForm, declared.rates.Rates.Rates, Lines.event_line, Lines.left_out_line}
 
 -- A line is put: all of it was written, or a prefix, or nothing.
 abbrev pub Puts : List ℕ → Bool → Option (List ℕ) → Option (List ℕ) → Type 0

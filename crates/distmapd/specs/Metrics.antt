@@ -1,8 +1,7 @@
 -- WHAT A MONITORING CLIENT GETS: the figures of the port mapper as text for Prometheus (its text format, version 0.0.4), over HTTP (RFC
 -- 9112).
 use Rattle.std.specs.Prelude.{ℕ, ◌-◌, ◌==◌, ◌||◌, ◌&&◌, Bool, true, false, List, [], ◌∷◌, ◌++◌, codes, length, drop, nat_le, if◌then◌else◌}
-use Rattle.std.specs.List.{flat_map, starts_with}
-use Rattle.std.specs.Fmt.{decimal}
+use Rattle.std.specs.{List.flat_map, List.starts_with, Fmt.decimal}
 use Rattle.dist_epmd_clients.specs.declared.counts.Counts.{Counts}
 
 -- ---- figures

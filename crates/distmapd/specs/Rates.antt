@@ -1,10 +1,8 @@
 -- How many lines a log may have of each kind in a second.
 use Rattle.std.specs.Prelude.{ℕ, ◌+◌, ◌-◌, Bool, ◌||◌, not, ◌==◌, nat_lt, get_or, replicate, set, if◌then◌else◌}
-use Rattle.dist_epmd_clients.specs.declared.event.ClientEvent.{ClientEvent}
+use Rattle.dist_epmd_clients.specs.{declared.event.ClientEvent.ClientEvent, Journal.at_most}
 use Rattle.dist_epmd_clients.specs.declared.event.ClientEvent.TheVariants as event
-use Rattle.dist_epmd_clients.specs.Journal.{at_most}
-use Rattle.distmapd.specs.declared.rates.Rate.{Rate}
-use Rattle.distmapd.specs.declared.rates.Rates.{Rates}
+use Rattle.distmapd.specs.declared.rates.{Rate.Rate, Rates.Rates}
 
 -- ---- one kind
 

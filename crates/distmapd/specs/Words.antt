@@ -1,21 +1,14 @@
 -- What the command line of `distmapd` asks for: options of epmd (ERTS Reference Manual, epmd), and some of our own.
-use Rattle.std.specs.Prelude.{ℕ, true, false, ◌&&◌, ◌==◌, List, [], ◌∷◌, Option, Some, None}
-use Rattle.std.specs.Prelude.{Result, Ok, Err, codes, nat_lt, nat_le, if◌then◌else◌}
+use Rattle.std.specs.Prelude.{ℕ, true, false, ◌&&◌, ◌==◌, List, [], ◌∷◌, Option, Some, None, Result, Ok, Err, codes, nat_lt, nat_le, if◌then◌else◌}
+use Rattle.std.specs.{Cmp.Lexicographic.pointwise, Str.Parse.digits_value}
 use Rattle.std.proofs.Common.{Bor}
-use Rattle.std.specs.Cmp.Lexicographic.{pointwise}
-use Rattle.std.specs.Str.Parse.{digits_value}
 use Rattle.dist_names.specs.Digits.{is_numeral}
-use Rattle.distmapd.specs.declared.key.Key.{Key}
 use Rattle.distmapd.specs.declared.key.Key.TheVariants.{Takes, Does, Systemd, Quiet, NotDone}
-use Rattle.distmapd.specs.declared.key.AwaitedValue.{AwaitedValue}
+use Rattle.distmapd.specs.declared.{key.Key.Key, key.AwaitedValue.AwaitedValue, reading.ParsedWords.ParsedWords, refusal.WordError.WordError}
+use Rattle.distmapd.specs.declared.{refusal.BadWord.BadWord, settings.LogForm.LogForm, settings.Settings.Settings}
 use Rattle.distmapd.specs.declared.key.AwaitedValue.TheVariants as value
-use Rattle.distmapd.specs.declared.reading.ParsedWords.{ParsedWords}
-use Rattle.distmapd.specs.declared.refusal.WordError.{WordError}
 use Rattle.distmapd.specs.declared.refusal.WordError.TheVariants as error
-use Rattle.distmapd.specs.declared.refusal.BadWord.{BadWord}
-use Rattle.distmapd.specs.declared.settings.LogForm.{LogForm}
 use Rattle.distmapd.specs.declared.settings.LogForm.TheVariants as form
-use Rattle.distmapd.specs.declared.settings.Settings.{Settings}
 use Rattle.distmapd.specs.declared.settings.Task.TheVariants as task
 
 -- ---- options and switches

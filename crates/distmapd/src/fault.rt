@@ -1,8 +1,7 @@
 //! Why the program stops.
 
 ghost use Rattle.std.specs.Prelude.{◌≡◌};
-ghost use Rattle.distmapd.specs.declared.fault.Fault.TheVariants.{NoMemory};
-ghost use Rattle.distmapd.specs.Answers.{fault_status};
+ghost use Rattle.distmapd.specs.{declared.fault.Fault.TheVariants.NoMemory, Answers.fault_status};
 
 use dist_program::{TextError, WordFault};
 use std::alloc::AllocError;

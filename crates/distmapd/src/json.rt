@@ -1,8 +1,6 @@
 //! Bytes from other machines as a JSON string (RFC 8259, section 7).
 
-ghost use Rattle.std.specs.Prelude.{◌≡◌, ◌++◌, ◌<◌, IfOk, OnOk};
-ghost use Rattle.std.specs.String.{string_bytes};
-ghost use Rattle.std.specs.Char.{digit_char};
+ghost use Rattle.std.specs.{Prelude.◌≡◌, Prelude.◌++◌, Prelude.◌<◌, Prelude.IfOk, Prelude.OnOk, String.string_bytes, Char.digit_char};
 ghost use Rattle.distmapd.specs.Json.{by_code, json_escape, json_string};
 
 use dist_names::is_printable;

@@ -1,7 +1,6 @@
 //! The words of the command line that are not values: options and switches.
 
-ghost use Rattle.std.specs.Prelude.{◌≡◌, Some, map};
-ghost use Rattle.std.specs.List.{AllByRecursion};
+ghost use Rattle.std.specs.{Prelude.◌≡◌, Prelude.Some, Prelude.map, List.AllByRecursion};
 ghost use Rattle.distmapd.specs.Words.{all_keys, key_in};
 
 use crate::settings::Task;

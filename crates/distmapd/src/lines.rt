@@ -1,7 +1,6 @@
 //! The lines of the log, in both forms. What a client sent is escaped in both.
 
-ghost use Rattle.std.specs.Prelude.{◌≡◌, ◌++◌, IfOk, codes};
-ghost use Rattle.std.specs.String.{string_bytes};
+ghost use Rattle.std.specs.{Prelude.◌≡◌, Prelude.◌++◌, Prelude.IfOk, Prelude.codes, String.string_bytes};
 ghost use Rattle.distmapd.specs.Lines.{event_line, left_out_line, line, name_front, name_part, port_part, refused_words, silence, spelling};
 
 use crate::json::json_string;

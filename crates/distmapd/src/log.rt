@@ -1,7 +1,6 @@
 //! The log. A writer that fails, or takes no more, neither stops nor delays the program: the lines that it does not take are left out.
 
-ghost use Rattle.std.specs.Prelude.{◌≡◌, ℕ, List, IfOk};
-ghost use Rattle.std.specs.String.{string_bytes};
+ghost use Rattle.std.specs.{Prelude.◌≡◌, Prelude.ℕ, Prelude.List, Prelude.IfOk, String.string_bytes};
 ghost use Rattle.dist_epmd_clients.specs.Reporting.{counts_of, events_of};
 ghost use Rattle.distmapd.specs.Logging.{LogsEvent, LogsEvents, LogsRound, Puts, PutsFor, ReportsLeftOut};
 ghost use Rattle.distmapd.specs.Rates.{new_rates};

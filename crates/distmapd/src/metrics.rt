@@ -1,8 +1,6 @@
 //! The figures of the port mapper, as text for Prometheus.
 
-ghost use Rattle.std.specs.Prelude.{◌≡◌, IfOk, map};
-ghost use Rattle.std.specs.List.{flat_map};
-ghost use Rattle.std.specs.String.{string_bytes};
+ghost use Rattle.std.specs.{Prelude.◌≡◌, Prelude.IfOk, Prelude.map, List.flat_map, String.string_bytes};
 ghost use Rattle.distmapd.specs.Metrics.{figure_text, figures_text};
 
 use dist_epmd_clients::Counts;

@@ -1,10 +1,7 @@
 //! What is printed: a text as a whole, and what `-names` prints of an answer.
 
-ghost use Rattle.std.specs.Prelude.{◌≡◌, IfErr, IfOk, OnOk};
-ghost use Rattle.std.specs.Io.KnownBytes.{Appends};
-ghost use Rattle.std.specs.String.{string_bytes};
-ghost use Rattle.distmapd.specs.declared.fault.Fault.TheVariants.{WriteFailed};
-ghost use Rattle.distmapd.specs.Listing.{Prints, has_whole_lines, line_end, listing};
+ghost use Rattle.std.specs.{Prelude.◌≡◌, Prelude.IfErr, Prelude.IfOk, Prelude.OnOk, Io.KnownBytes.Appends, String.string_bytes};
+ghost use Rattle.distmapd.specs.{declared.fault.Fault.TheVariants.WriteFailed, Listing.Prints, Listing.has_whole_lines, Listing.line_end, Listing.listing};
 
 use crate::answer::ReceivedAnswer;
 use crate::fault::Fault;

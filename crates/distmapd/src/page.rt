@@ -1,7 +1,6 @@
 //! The answers to monitoring clients, over HTTP (RFC 9112).
 
-ghost use Rattle.std.specs.Prelude.{◌≡◌, IfOk};
-ghost use Rattle.std.specs.String.{string_bytes};
+ghost use Rattle.std.specs.{Prelude.◌≡◌, Prelude.IfOk, String.string_bytes};
 ghost use Rattle.distmapd.specs.Metrics.{asks_path, answer_text, is_empty_line_next, head_text, is_whole, page_at, page_text};
 
 use std::alloc::{AllocError, Global};

@@ -2,10 +2,8 @@
 //!
 //! It does not read the environment, and does not parse addresses: they stay a text.
 
-ghost use Rattle.std.specs.Prelude.{◌≡◌, ◌<◌, ◌≤◌, IfSome, SomeIff};
-ghost use Rattle.std.specs.Str.Parse.{IsNumeral, digits_value};
-ghost use Rattle.distmapd.specs.Words.{after_key, after_value, after_word, all_keys, at_word, form_named, key_in};
-ghost use Rattle.distmapd.specs.Words.{number_of, reading_of, settings_of};
+ghost use Rattle.std.specs.{Prelude.◌≡◌, Prelude.◌<◌, Prelude.◌≤◌, Prelude.IfSome, Prelude.SomeIff, Str.Parse.IsNumeral, Str.Parse.digits_value};
+ghost use Rattle.distmapd.specs.Words.{after_key, after_value, after_word, all_keys, at_word, form_named, key_in, number_of, reading_of, settings_of};
 
 use crate::key::{AwaitedValue, KEYS, Key, key_in};
 use crate::refusal::{BadWord, WordError};

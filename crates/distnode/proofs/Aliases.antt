@@ -1,9 +1,7 @@
 -- Arguments with several names.
-use Rattle.std.proofs.Common.{◌≡◌, ◌∙◌, ℕ, Bool, ap, List, ◌++◌, map}
-use Rattle.std.proofs.lemmas.List.{map-append}
+use Rattle.std.proofs.{Common.◌≡◌, Common.◌∙◌, Common.ℕ, Common.Bool, Common.ap, Common.List, Common.◌++◌, Common.map, lemmas.List.map-append}
 use Rattle.std.specs.Borrow.{Bor}
-use Rattle.clap.specs.Words.{AddsAliases, Rule, Text, rule_of}
-use Rattle.clap.specs.declared.builder.arg.Arg.{Arg}
+use Rattle.clap.specs.{Words.AddsAliases, Words.Rule, Words.Text, Words.rule_of, declared.builder.arg.Arg.Arg}
 
 -- an argument that gets more names has those behind the ones that it had
 pub aliased : (old new : Arg) (xs : List (Bor (List ℕ) × Bool)) (r : Rule) → AddsAliases old new xs → rule_of old ≡ r → rule_of new ≡ record r { aliases = r.aliases ++ map (λ a. a.0.now) xs }

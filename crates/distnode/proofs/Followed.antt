@@ -1,17 +1,13 @@
 -- An order that was done, or ended.
 use Rattle.std.proofs.Common.{◌≡◌, ◌⊎◌, inl, inr, ℕ, Bool, List, Option, codes, refl, sym, subst}
 use Rattle.dist_stream.specs.Stream.{StreamState}
-use Rattle.dist_script.specs.Texts.{PutsFront}
-use Rattle.dist_script.specs.declared.fault.ScriptFault.{ScriptFault}
+use Rattle.dist_script.specs.{Texts.PutsFront, declared.fault.ScriptFault.ScriptFault}
 use Rattle.dist_script.specs.Fault as script
 use Rattle.dist_script_play.specs.Scenes.{IsBad, IsCut}
-use Rattle.distnode.specs.declared.fault.Fault.{Fault}
-use Rattle.distnode.specs.declared.fault.Fault.TheVariants as fault
-use Rattle.distnode.specs.Fault.{status_of, fault_line}
-use Rattle.distnode.specs.Stopped.{EndsByFault, StopsCookie, StopsNames}
-use Rattle.distnode.specs.RunPrinted.{PrintsRunOf}
-use Rattle.distnode.specs.RunStopped.{IsNoNodesFile, StopsRunOf}
 use Rattle.distnode.specs.Followed.{StopsCookieAt, StopsAnswer, StopsRunAt, EndsPlay}
+use Rattle.distnode.specs.{declared.fault.Fault.Fault, Fault.status_of, Fault.fault_line, Stopped.EndsByFault, Stopped.StopsCookie, Stopped.StopsNames}
+use Rattle.distnode.specs.{RunPrinted.PrintsRunOf, RunStopped.IsNoNodesFile, RunStopped.StopsRunOf}
+use Rattle.distnode.specs.declared.fault.Fault.TheVariants as fault
 
 -- ---- a fault that ended it
 

@@ -1,24 +1,18 @@
 -- What is printed in parts.
 use Rattle.std.proofs.Common.{◌≡◌, ◌∙◌, ℕ, zero, suc, ◌+◌, ◌<◌, List, [], ◌∷◌, ◌++◌, codes, Option, Some, length, take, get_or, refl, sym, ap, subst, arith, append-nil, append_assoc, add-one}
-use Rattle.std.specs.List.{flat_map}
-use Rattle.std.specs.Io.KnownBytes.{Appends, Consumes, IsAtEnd}
 use Rattle.std.proofs.KnownBytes.{Appends-nil, Appends-trans}
+use Rattle.std.specs.{List.flat_map, Io.KnownBytes.Appends, Io.KnownBytes.Consumes, Io.KnownBytes.IsAtEnd}
 use Rattle.dist_world_model.specs.World.{World}
 use Rattle.dist_locked_book.specs.declared.closing.Closed.{Closed}
-use Rattle.dist_audit.specs.declared.audit_error.AuditError.{AuditError}
-use Rattle.dist_audit.specs.Audit.{IsWorldOf, Reports, ReportsFirst}
+use Rattle.dist_audit.specs.{declared.audit_error.AuditError.AuditError, Audit.IsWorldOf, Audit.Reports, Audit.ReportsFirst}
 use Rattle.distnode.specs.declared.fault.Fault.{Fault}
 use Rattle.distnode.specs.declared.fault.Fault.TheVariants as fault
 use Rattle.distnode.specs.Fault.{status_of}
-use Rattle.dist_run_plan.specs.declared.plan.Plan.{Plan}
-use Rattle.dist_run_plan.specs.Plans.{plan_of}
-use Rattle.dist_run_hosts.specs.Setups.{AreOfPlans}
-use Rattle.dist_run_hosts.specs.Orders.{AreObeyed}
-use Rattle.dist_run_hosts.specs.declared.order_fault.OrderFault.{OrderFault}
-use Rattle.dist_run_hosts.specs.Runs.{AreInOrder}
+use Rattle.distnode.specs.RunPrinted.{order_line, orders_text, closed_node, closed_text, refusal_text, Puts, IsHeld, IsAudited, IsOfRun, PrintsRun, PrintsRunOf}
+use Rattle.dist_run_plan.specs.{declared.plan.Plan.Plan, Plans.plan_of}
+use Rattle.dist_run_hosts.specs.{Setups.AreOfPlans, Orders.AreObeyed, declared.order_fault.OrderFault.OrderFault, Runs.AreInOrder}
 use Rattle.dist_script_play.specs.Worlds.{nodes_text, PutsAgreements}
 use Rattle.dist_script_play.proofs.Printing.{in_three}
-use Rattle.distnode.specs.RunPrinted.{order_line, orders_text, closed_node, closed_text, refusal_text, Puts, IsHeld, IsAudited, IsOfRun, PrintsRun, PrintsRunOf}
 
 -- nothing more
 pub nothing : (a : Option (List ℕ)) → Appends a a []

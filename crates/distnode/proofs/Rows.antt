@@ -1,16 +1,12 @@
 -- What the parser matched, as the rows of its arguments.
 use Rattle.std.proofs.Common.{◌≡◌, ◌∙◌, ℕ, ◌<◌, ◌^◌, Bool, true, false, not, ◌&&◌, refl, sym, ap, subst, List, [], Option, Some, None, Err, codes, option_map}
-use Rattle.std.specs.Prelude.{SomeIff, IsSomeAnd, IfOk}
-use Rattle.std.specs.Option.{ok_or}
-use Rattle.std.specs.Str.Parse.{IsNumeral, digits_value}
+use Rattle.std.specs.{Prelude.SomeIff, Prelude.IsSomeAnd, Prelude.IfOk, Option.ok_or, Str.Parse.IsNumeral, Str.Parse.digits_value}
 use Rattle.clap.specs.Words.{Row, Text, fault_of, first_of, first_value, rows_of, subcommand_of}
 use Rattle.clap.specs.declared.parser.matches.Found.{Found}
 use Rattle.clap.proofs.WalkLemmas.{first_value-rows}
-use Rattle.distnode.specs.declared.order_of_words.Order.{Order}
-use Rattle.distnode.specs.declared.order_of_words.Order.TheVariants.{Cookie, Run}
-use Rattle.distnode.specs.declared.fault.Fault.{Fault}
-use Rattle.distnode.specs.declared.fault.Fault.TheVariants.{BadCommandLine, NoMemory}
 use Rattle.distnode.specs.CommandLine.{Asks, FoundBy, HasNumber, IsOrderOf, program_app}
+use Rattle.distnode.specs.declared.order_of_words.Order.{Order, TheVariants.Cookie, TheVariants.Run}
+use Rattle.distnode.specs.declared.fault.Fault.{Fault, TheVariants.BadCommandLine, TheVariants.NoMemory}
 
 -- what a getter gives is what the rows have
 pub matched : {B : Type 0} (now : B → Text) (f : Found) (id : Text) (r o : Option B) → option_map now r ≡ first_value f id → r ≡ o → first_of id (rows_of f) ≡ option_map now o

@@ -1,16 +1,13 @@
 -- What a fault leaves of `run`.
 use Rattle.std.proofs.Common.{◌≡◌, inr, ℕ, List, [], Option, Some, None, Result, Ok, Err, IfErr, refl, sym, subst}
-use Rattle.std.specs.Result.{IsErrAnd}
-use Rattle.std.specs.Io.KnownBytes.{Consumes, IsAtEnd}
+use Rattle.std.specs.{Result.IsErrAnd, Io.KnownBytes.Consumes, Io.KnownBytes.IsAtEnd}
 use Rattle.dist_locked_book.specs.declared.closing.Closed.{Closed}
 use Rattle.dist_run_plan.specs.Plans.{plan_of}
 use Rattle.dist_run_hosts.specs.declared.order_fault.OrderFault.{OrderFault}
 use Rattle.dist_script.specs.Texts.{PutsFront}
-use Rattle.distnode.specs.declared.fault.Fault.{Fault}
+use Rattle.distnode.specs.{declared.fault.Fault.Fault, Fault.status_of, RunPrinted.Puts, RunPrinted.IsOfRun, RunPrinted.IsUnprinted}
+use Rattle.distnode.specs.{RunStopped.StopsPrinting, RunStopped.StopsRun, RunStopped.StopsRunOf}
 use Rattle.distnode.specs.declared.fault.Fault.TheVariants as fault
-use Rattle.distnode.specs.Fault.{status_of}
-use Rattle.distnode.specs.RunPrinted.{Puts, IsOfRun, IsUnprinted}
-use Rattle.distnode.specs.RunStopped.{StopsPrinting, StopsRun, StopsRunOf}
 
 -- what a run printed could not be written
 pub cut_run : (faults : List OrderFault) (closed : List Closed) (status : ℕ) (made text : List ℕ) (a b : Option (List ℕ)) → Puts (IsOfRun status faults closed) (Some []) (Some made) → text ≡ made → PutsFront text a b → StopsPrinting faults closed a b fault.WriteFailed

@@ -1,8 +1,6 @@
 -- What a fault leaves.
-use Rattle.std.proofs.Common.{◌≡◌, ℕ, Bool, true, List, Option, Ok, subst}
-use Rattle.std.specs.List.{All}
-use Rattle.std.specs.Io.KnownBytes.{Appends, Keeps}
-use Rattle.std.proofs.KnownBytes.{Appends-kept}
+use Rattle.std.proofs.{Common.◌≡◌, Common.ℕ, Common.Bool, Common.true, Common.List, Common.Option, Common.Ok, Common.subst, KnownBytes.Appends-kept}
+use Rattle.std.specs.{List.All, Io.KnownBytes.Appends, Io.KnownBytes.Keeps}
 use Rattle.dist_names.specs.Escaped.{IsPrintableOrLineFeed}
 use Rattle.dist_secret.specs.Hearing.{Hears}
 use Rattle.dist_stream.specs.Stream.{StreamState}
@@ -10,9 +8,8 @@ use Rattle.dist_epmd.specs.declared.message.Request.TheVariants.{Names}
 use Rattle.dist_epmd_calls.specs.Asking.{AsksFor, names_meant}
 use Rattle.dist_script.specs.Texts.{PutsFront}
 use Rattle.dist_script.proofs.Fronts.{front_all}
+use Rattle.distnode.specs.{Printed.cookie_line, Printed.PrintsNames, Printed.answer_text, Stopped.StopsCookie, Stopped.StopsNames}
 use Rattle.distnode.specs.declared.fault.Fault.TheVariants as fault
-use Rattle.distnode.specs.Printed.{cookie_line, PrintsNames, answer_text}
-use Rattle.distnode.specs.Stopped.{StopsCookie, StopsNames}
 
 -- ---- what was written, and then flushed
 

@@ -4,8 +4,7 @@ use Rattle.std.specs.Prelude.{◌≡◌, ℕ, ◌<◌, ◌^◌, true, List, [], 
 use Rattle.std.specs.Str.Parse.{IsNumeral, digits_value}
 use Rattle.clap.specs.Words.{App, Row, Rule, Text, fault_of, first_of, new_app, new_rule, subcommand_of, with_rule, with_subcommand}
 use Rattle.clap.specs.declared.builder.action.ArgAction.TheVariants.{Set}
-use Rattle.distnode.specs.declared.order_of_words.Order.{Order}
-use Rattle.distnode.specs.declared.order_of_words.Order.TheVariants.{Enact, Cookie, Names, Run}
+use Rattle.distnode.specs.declared.order_of_words.Order.{Order, TheVariants.Enact, TheVariants.Cookie, TheVariants.Names, TheVariants.Run}
 
 -- a required argument without a name
 abbrev pub word : Text → Rule

@@ -1,12 +1,9 @@
 -- How a fault ends the program, and its line on standard error.
-use Rattle.std.specs.Prelude.{ℕ, List, [], ◌∷◌, codes}
-use Rattle.std.specs.List.{concat}
+use Rattle.std.specs.{Prelude.ℕ, Prelude.List, Prelude.[], Prelude.◌∷◌, Prelude.codes, List.concat}
 use Rattle.dist_secret.specs.Answer as cookies
 use Rattle.dist_epmd_calls.specs.Refusals as lookups
-use Rattle.dist_program.specs.declared.word_fault.WordFault.{WordFault}
-use Rattle.dist_program.specs.declared.text_error.TextError.{TextError}
+use Rattle.dist_program.specs.{declared.word_fault.WordFault.WordFault, declared.text_error.TextError.TextError, Sentences.word_fault_text}
 use Rattle.dist_program.specs.declared.text_error.TextError.TheVariants as words
-use Rattle.dist_program.specs.Sentences.{word_fault_text}
 use Rattle.dist_run_hosts.specs.Words.{run_error_name}
 use Rattle.dist_script.specs.declared.fault.ScriptFault.{ScriptFault}
 use Rattle.dist_script.specs.declared.fault.ScriptFault.TheVariants as script

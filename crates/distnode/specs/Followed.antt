@@ -1,21 +1,14 @@
 -- WHAT EACH ORDER DOES.
 use Rattle.std.specs.Prelude.{◌≡◌, ◌⊎◌, ℕ, Bool, List, Option, Result, Err}
 use Rattle.dist_stream.specs.Stream.{StreamState}
-use Rattle.distnode.specs.declared.order_of_words.Order.{Order}
+use Rattle.distnode.specs.{declared.order_of_words.Order.Order, declared.fault.Fault.Fault, declared.fault.Fault.TheVariants.OpenFailed}
+use Rattle.distnode.specs.{declared.fault.Fault.TheVariants.ConnectFailed, Fault.port_line, Printed.PrintsCookie, Printed.PrintsNames, Stopped.EndsByFault}
+use Rattle.distnode.specs.{Stopped.StopsCookie, Stopped.StopsNames, RunPrinted.PrintsRunOf, RunStopped.StopsRunOf}
 use Rattle.distnode.specs.declared.order_of_words.Order.TheVariants as order
-use Rattle.dist_program.specs.declared.word_fault.WordFault.{WordFault}
-use Rattle.dist_program.specs.Sentences.{word_fault_status}
-use Rattle.dist_script.specs.Texts.{PutsFront}
-use Rattle.dist_script.specs.declared.fault.ScriptFault.{ScriptFault}
+use Rattle.dist_program.specs.{declared.word_fault.WordFault.WordFault, Sentences.word_fault_status}
+use Rattle.dist_script.specs.{Texts.PutsFront, declared.fault.ScriptFault.ScriptFault}
 use Rattle.dist_script.specs.Fault as script
 use Rattle.dist_script_play.specs.Scenes.{Plays, IsBad, IsCut}
-use Rattle.distnode.specs.declared.fault.Fault.{Fault}
-use Rattle.distnode.specs.declared.fault.Fault.TheVariants.{OpenFailed, ConnectFailed}
-use Rattle.distnode.specs.Fault.{port_line}
-use Rattle.distnode.specs.Printed.{PrintsCookie, PrintsNames}
-use Rattle.distnode.specs.Stopped.{EndsByFault, StopsCookie, StopsNames}
-use Rattle.distnode.specs.RunPrinted.{PrintsRunOf}
-use Rattle.distnode.specs.RunStopped.{StopsRunOf}
 
 -- the port mapper's answer on this connection was printed, in at most 1,280 turns; on a terminal it was escaped
 abbrev pub PrintsAnswer : Bool → StreamState → Option (List ℕ) → Option (List ℕ) → Type 0

@@ -1,11 +1,9 @@
 -- WHAT `cookie` AND `names` PRINT.
 use Rattle.std.specs.Prelude.{◌≡◌, ℕ, Bool, true, false, List, ◌∷◌, [], length, codes, decimal, Option, Ok}
-use Rattle.std.specs.List.{All, concat}
-use Rattle.std.specs.Io.KnownBytes.{Appends}
+use Rattle.std.specs.{List.All, List.concat, Io.KnownBytes.Appends}
 use Rattle.hex.specs.Hex.{encode_lower}
 use Rattle.dist_names.specs.Escaped.{escaped_lines, IsPrintableOrLineFeed}
-use Rattle.dist_secret.specs.Digest.{digest_of}
-use Rattle.dist_secret.specs.Hearing.{Hears}
+use Rattle.dist_secret.specs.{Digest.digest_of, Hearing.Hears}
 use Rattle.dist_stream.specs.Stream.{StreamState}
 use Rattle.dist_epmd.specs.declared.message.Request.TheVariants.{Names}
 use Rattle.dist_epmd_calls.specs.Asking.{AsksFor, names_meant}

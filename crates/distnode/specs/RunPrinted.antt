@@ -1,24 +1,14 @@
 -- WHAT `run` PRINTS.
 use Rattle.std.specs.Prelude.{◌≡◌, ℕ, zero, suc, List, [], ◌∷◌, ◌++◌, codes, decimal, Option, Some}
-use Rattle.std.specs.List.{concat, flat_map}
-use Rattle.std.specs.Io.KnownBytes.{Appends, Consumes, IsAtEnd}
+use Rattle.std.specs.{List.concat, List.flat_map, Io.KnownBytes.Appends, Io.KnownBytes.Consumes, Io.KnownBytes.IsAtEnd}
 use Rattle.dist_world_model.specs.World.{World}
 use Rattle.dist_locked_book.specs.declared.closing.Closed.{Closed}
-use Rattle.dist_audit.specs.declared.audit_error.AuditError.{AuditError}
 use Rattle.dist_audit.specs.Audit.{IsWorldOf, Reports, ReportsFirst}
-use Rattle.dist_audit.specs.Refusals.{refusal_name, refusal_number}
-use Rattle.dist_run_plan.specs.declared.plan.Plan.{Plan}
-use Rattle.dist_run_plan.specs.Plans.{plan_of}
-use Rattle.dist_run_hosts.specs.Setups.{AreOfPlans}
-use Rattle.dist_run_hosts.specs.Orders.{AreObeyed}
-use Rattle.dist_run_hosts.specs.Words.{order_refusal_name}
-use Rattle.dist_run_hosts.specs.declared.order_fault.OrderFault.{OrderFault}
-use Rattle.dist_run_hosts.specs.Runs.{AreInOrder}
-use Rattle.dist_script_play.specs.Lines.{node_text}
-use Rattle.dist_script_play.specs.Worlds.{nodes_text, AreAgreements}
-use Rattle.distnode.specs.declared.fault.Fault.{Fault}
-use Rattle.distnode.specs.declared.fault.Fault.TheVariants.{WriteFailed}
-use Rattle.distnode.specs.Fault.{status_of}
+use Rattle.dist_audit.specs.{declared.audit_error.AuditError.AuditError, Refusals.refusal_name, Refusals.refusal_number}
+use Rattle.dist_run_plan.specs.{declared.plan.Plan.Plan, Plans.plan_of}
+use Rattle.dist_run_hosts.specs.{Setups.AreOfPlans, Orders.AreObeyed, Words.order_refusal_name, declared.order_fault.OrderFault.OrderFault, Runs.AreInOrder}
+use Rattle.dist_script_play.specs.{Lines.node_text, Worlds.nodes_text, Worlds.AreAgreements}
+use Rattle.distnode.specs.{declared.fault.Fault.Fault, declared.fault.Fault.TheVariants.WriteFailed, Fault.status_of}
 
 -- a text of this kind was written
 abbrev pub Puts : (List ℕ → Type 0) → Option (List ℕ) → Option (List ℕ) → Type 0

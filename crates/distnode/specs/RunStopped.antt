@@ -1,15 +1,12 @@
 -- WHAT A FAULT LEAVES of `run`: why it ended early, and what was then written to standard output.
 use Rattle.std.specs.Prelude.{◌≡◌, ℕ, ◌<◌, ◌⊎◌, List, [], length, Option, Some, None}
-use Rattle.std.specs.Str.{IsUtf8}
-use Rattle.std.specs.Io.KnownBytes.{Consumes, IsAtEnd}
+use Rattle.std.specs.{Str.IsUtf8, Io.KnownBytes.Consumes, Io.KnownBytes.IsAtEnd}
 use Rattle.dist_locked_book.specs.declared.closing.Closed.{Closed}
-use Rattle.dist_run_plan.specs.declared.plan.Plan.{Plan}
-use Rattle.dist_run_plan.specs.Plans.{plan_of}
+use Rattle.dist_run_plan.specs.{declared.plan.Plan.Plan, Plans.plan_of}
 use Rattle.dist_run_hosts.specs.declared.order_fault.OrderFault.{OrderFault}
 use Rattle.dist_script.specs.Texts.{PutsFront}
-use Rattle.distnode.specs.declared.fault.Fault.{Fault}
 use Rattle.distnode.specs.declared.fault.Fault.TheVariants.{BadNodesFile, RunEnded, ReadFailed, WriteFailed, NoMemory}
-use Rattle.distnode.specs.RunPrinted.{Puts, IsOfRun, PrintsRun}
+use Rattle.distnode.specs.{declared.fault.Fault.Fault, RunPrinted.Puts, RunPrinted.IsOfRun, RunPrinted.PrintsRun}
 
 -- what stops the printing of a run with this result: a write failed, after a prefix of the text; or memory ran out for the text
 abbrev pub StopsPrinting : List OrderFault → List Closed → Option (List ℕ) → Option (List ℕ) → Fault → Type 0

@@ -5,10 +5,8 @@ use Rattle.dist_stream.specs.Stream.{StreamState}
 use Rattle.dist_epmd.specs.declared.message.Request.TheVariants.{Names}
 use Rattle.dist_epmd_calls.specs.Asking.{AsksFor, names_meant}
 use Rattle.dist_script.specs.Texts.{PutsFront}
-use Rattle.distnode.specs.declared.fault.Fault.{Fault}
 use Rattle.distnode.specs.declared.fault.Fault.TheVariants.{WriteFailed, NoCookie, NoAnswer, NoMemory}
-use Rattle.distnode.specs.Fault.{status_of, fault_line}
-use Rattle.distnode.specs.Printed.{cookie_line, answer_text}
+use Rattle.distnode.specs.{declared.fault.Fault.Fault, Fault.status_of, Fault.fault_line, Printed.cookie_line, Printed.answer_text}
 
 -- A FAULT OF THIS STATUS ENDED A COMMAND: one that stops it in this way. Its line was written to standard error, or, if that failed, a
 -- prefix of it

@@ -1,10 +1,7 @@
 //! The command `cookie`: the length of a file's cookie, and a digest made with it.
 
-ghost use Rattle.std.specs.Prelude.{◌≡◌, ◌≤◌, IfErr, IfOk, OnOk};
-ghost use Rattle.std.specs.Io.KnownBytes.{Appends};
-ghost use Rattle.distnode.specs.Fault.{status_of};
-ghost use Rattle.distnode.specs.Printed.{cookie_line, PrintsCookie};
-ghost use Rattle.distnode.specs.Stopped.{EndsByFault, StopsCookie};
+ghost use Rattle.std.specs.{Prelude.◌≡◌, Prelude.◌≤◌, Prelude.IfErr, Prelude.IfOk, Prelude.OnOk, Io.KnownBytes.Appends};
+ghost use Rattle.distnode.specs.{Fault.status_of, Printed.cookie_line, Printed.PrintsCookie, Stopped.EndsByFault, Stopped.StopsCookie};
 
 use crate::fault::Fault;
 use crate::output::write_text;

@@ -1,11 +1,8 @@
 //! Calls the command of an order.
 
-ghost use Rattle.std.specs.Prelude.{◌≡◌, ◌≤◌, ◌⊎◌, Option, List, ℕ};
-ghost use Rattle.std.specs.Io.KnownBytes.{Keeps};
-ghost use Rattle.distnode.specs.Printed.{PrintsCookie};
-ghost use Rattle.distnode.specs.Stopped.{EndsByFault};
-ghost use Rattle.distnode.specs.RunPrinted.{PrintsRunOf};
+ghost use Rattle.std.specs.{Prelude.◌≡◌, Prelude.◌≤◌, Prelude.◌⊎◌, Prelude.Option, Prelude.List, Prelude.ℕ, Io.KnownBytes.Keeps};
 ghost use Rattle.distnode.specs.Followed.{PrintsAnswer, Follows, StopsCookieAt, StopsAnswer, StopsRunAt, EndsByPort, Ends};
+ghost use Rattle.distnode.specs.{Printed.PrintsCookie, Stopped.EndsByFault, RunPrinted.PrintsRunOf};
 
 use crate::cookie_command::cookie;
 use crate::fault::{Fault, report_port};

@@ -3,8 +3,7 @@
 ghost use Rattle.std.specs.Prelude.{◌≡◌};
 ghost use Rattle.dist_program.specs.Sentences.{word_fault_status};
 ghost use Rattle.dist_script.specs.Texts.{PutsFront};
-ghost use Rattle.distnode.specs.Fault.{status_of, fault_text, line_of, fault_line, port_line};
-ghost use Rattle.distnode.specs.Fault.{fault_of, fault_of_text};
+ghost use Rattle.distnode.specs.Fault.{status_of, fault_text, line_of, fault_line, port_line, fault_of, fault_of_text};
 ghost use Rattle.distnode.specs.declared.fault.Fault.TheVariants.{NoMemory};
 
 use dist_epmd_calls::LookupError;

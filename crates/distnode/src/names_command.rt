@@ -1,11 +1,8 @@
 //! The command `names`: asks a port mapper which nodes it knows.
 
-ghost use Rattle.std.specs.Prelude.{◌≡◌, ◌≤◌, IfErr, IfOk, OnOk, true};
-ghost use Rattle.std.specs.List.{All};
+ghost use Rattle.std.specs.{Prelude.◌≡◌, Prelude.◌≤◌, Prelude.IfErr, Prelude.IfOk, Prelude.OnOk, Prelude.true, List.All};
 ghost use Rattle.dist_names.specs.Escaped.{IsPrintableOrLineFeed};
-ghost use Rattle.distnode.specs.Fault.{status_of};
-ghost use Rattle.distnode.specs.Printed.{PrintsNames, answer_text};
-ghost use Rattle.distnode.specs.Stopped.{EndsByFault, StopsNames};
+ghost use Rattle.distnode.specs.{Fault.status_of, Printed.PrintsNames, Printed.answer_text, Stopped.EndsByFault, Stopped.StopsNames};
 
 use crate::fault::Fault;
 use crate::output::write_text;

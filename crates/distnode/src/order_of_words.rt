@@ -2,8 +2,7 @@
 
 ghost use Rattle.std.specs.Prelude.{◌≡◌, ◌⊎◌, IfErr, IfOk, map};
 ghost use Rattle.clap.specs.Words.{kind_of};
-ghost use Rattle.distnode.specs.declared.order_of_words.Order.{Order};
-ghost use Rattle.distnode.specs.CommandLine.{Asks};
+ghost use Rattle.distnode.specs.{declared.order_of_words.Order.Order, CommandLine.Asks};
 
 use crate::fault::Fault;
 use crate::matched::order_in;

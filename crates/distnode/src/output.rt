@@ -1,7 +1,6 @@
 //! Writes what the commands print, as a whole.
 
-ghost use Rattle.std.specs.Prelude.{OnErr, OnOk};
-ghost use Rattle.std.specs.Io.KnownBytes.{Appends};
+ghost use Rattle.std.specs.{Prelude.OnErr, Prelude.OnOk, Io.KnownBytes.Appends};
 ghost use Rattle.dist_script.specs.Texts.{PutsFront};
 
 use dist_script::{ScriptFault, or_write_failed, put_bytes};

@@ -3,10 +3,9 @@
 ghost use Rattle.std.specs.Prelude.{◌≡◌, ◌≤◌, ◌⊎◌, ℕ, List, Option, Some, None, IfOk, IfErr, OnOk, codes};
 ghost use Rattle.std.specs.Io.KnownBytes.{Appends};
 ghost use Rattle.dist_script.specs.Texts.{PutsFront};
-ghost use Rattle.distnode.specs.RunPrinted.{order_line, orders_text, closed_text, refused_line, refusal_text};
-ghost use Rattle.distnode.specs.RunPrinted.{Puts, IsHeld, IsAudited, IsOfRun, PrintsRun, PrintsRunOf, PrintsNothing};
-ghost use Rattle.distnode.specs.Stopped.{EndsByFault};
-ghost use Rattle.distnode.specs.RunStopped.{IsNoNodesFile, StopsPrinting, StopsRun, StopsRunOf};
+ghost use Rattle.distnode.specs.RunPrinted.{order_line, orders_text, closed_text, refused_line, refusal_text, Puts, IsHeld, IsAudited, IsOfRun, PrintsRun};
+ghost use Rattle.distnode.specs.RunPrinted.{PrintsRunOf, PrintsNothing};
+ghost use Rattle.distnode.specs.{Stopped.EndsByFault, RunStopped.IsNoNodesFile, RunStopped.StopsPrinting, RunStopped.StopsRun, RunStopped.StopsRunOf};
 ghost use Rattle.dist_run_plan.specs.Plans as plans;
 
 use crate::fault::Fault;

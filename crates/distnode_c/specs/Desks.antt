@@ -1,21 +1,14 @@
 -- What is done with a registry of the port mapper in C's memory.
 use Rattle.std.specs.Prelude.{◌≡◌, ℕ, ◌+◌, ◌==◌, ◌⊎◌, if◌then◌else◌, List, [], length, Option, Some, None, Result, Ok, Err}
 use Rattle.dist_names.specs.Answer.{RefusedBut}
-use Rattle.dist_epmd.specs.declared.epmd_error.EpmdError.{EpmdError}
+use Rattle.dist_epmd.specs.{declared.epmd_error.EpmdError.EpmdError, declared.message.Request.Request, declared.message.Answer.Answer, Answering.is_want}
+use Rattle.dist_epmd.specs.{Registrations.Registrations, Registrations.opening, Registrations.after_closed, Layout.written_answer, Reading.read_request}
 use Rattle.dist_epmd.specs.declared.epmd_error.EpmdError.TheVariants as epmd
-use Rattle.dist_epmd.specs.declared.message.Request.{Request}
-use Rattle.dist_epmd.specs.declared.message.Answer.{Answer}
 use Rattle.dist_epmd.specs.declared.message.Answer.TheVariants as answer
-use Rattle.dist_epmd.specs.Answering.{is_want}
-use Rattle.dist_epmd.specs.Registrations.{Registrations, opening, after_closed}
-use Rattle.dist_epmd.specs.Layout.{written_answer}
-use Rattle.dist_epmd.specs.Reading.{read_request}
 use Rattle.dist_epmd_calls.specs.Mapping.{Allows}
-use Rattle.distnode_c.specs.declared.desk.RegistryDesk.{RegistryDesk}
-use Rattle.distnode_c.specs.declared.desk.DeskError.{DeskError}
-use Rattle.distnode_c.specs.declared.desk.DeskError.TheVariants as desk
-use Rattle.distnode_c.specs.declared.registry.DnServed.{DnServed}
 use Rattle.distnode_c.specs.Codes.{epmd_code}
+use Rattle.distnode_c.specs.declared.{desk.RegistryDesk.RegistryDesk, desk.DeskError.DeskError, registry.DnServed.DnServed}
+use Rattle.distnode_c.specs.declared.desk.DeskError.TheVariants as desk
 use Rattle.dist_c_guest.specs.Steps.{Copies, Keeps, Silent}
 
 -- 1 where an answer registers the node that asked

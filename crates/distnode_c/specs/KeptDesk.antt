@@ -4,8 +4,7 @@ use base.Fml.{Fml, ftrue}
 use denote.RawPtr.{Ptr}
 use Rattle.std.specs.Box.Ownership.{box_owns}
 use Rattle.libc.specs.Heap.{chunk}
-use Rattle.distnode_c.specs.declared.desk.RegistryDesk.{RegistryDesk}
-use Rattle.distnode_c.specs.contracts.desk.RegistryDesk.{the_row}
+use Rattle.distnode_c.specs.{declared.desk.RegistryDesk.RegistryDesk, contracts.desk.RegistryDesk.the_row}
 
 -- the desk at the pointer and the right to free its block, where there is one
 abbrev pub kept_desk : Ptr → Option RegistryDesk → Fml

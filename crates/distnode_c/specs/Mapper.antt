@@ -2,17 +2,12 @@
 use Rattle.std.specs.Prelude.{◌≡◌, ℕ, ◌^◌, ◌≤◌, ◌⊎◌, List, [], length, Result, Ok, Err}
 use Rattle.std.specs.Int.{w16}
 use Rattle.dist_frames.specs.Stream.{body_frame}
-use Rattle.dist_secret.specs.declared.cookie_error.CookieError.{CookieError}
-use Rattle.dist_secret.specs.Digest.{digest_of}
-use Rattle.dist_epmd.specs.declared.epmd_error.EpmdError.{EpmdError}
-use Rattle.dist_epmd.specs.declared.message.Answer.{Answer}
+use Rattle.dist_secret.specs.{declared.cookie_error.CookieError.CookieError, Digest.digest_of}
+use Rattle.dist_epmd.specs.declared.{epmd_error.EpmdError.EpmdError, message.Answer.Answer, message.Request.Request}
 use Rattle.dist_epmd.specs.declared.message.Answer.TheVariants as answer
-use Rattle.dist_epmd.specs.declared.message.Request.{Request}
 use Rattle.dist_epmd.specs.declared.message.Request.TheVariants as request
-use Rattle.distnode_c.specs.declared.mapper.DnInfo.{DnInfo}
-use Rattle.dist_c_guest.specs.Codes.{cookie_code}
-use Rattle.distnode_c.specs.Codes.{epmd_code}
-use Rattle.dist_c_guest.specs.Steps.{Copies, Keeps, Silent}
+use Rattle.distnode_c.specs.{declared.mapper.DnInfo.DnInfo, Codes.epmd_code}
+use Rattle.dist_c_guest.specs.{Codes.cookie_code, Steps.Copies, Steps.Keeps, Steps.Silent}
 
 -- the frame of what is written is copied, or the reason why nothing is
 abbrev pub Asks : Result (List ℕ) EpmdError → ℕ → ℕ → ℕ → List ℕ → List ℕ → Type 0

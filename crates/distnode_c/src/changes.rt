@@ -1,9 +1,8 @@
 //! Which peers may connect, and under which cookie: changes of a node's setup, at any time between two steps.
 ghost use Rattle.dist_names.specs.NodeName.{name_of_bytes};
 ghost use Rattle.dist_secret.specs.Cookie.{cookie_of};
-ghost use Rattle.dist_c_guest.specs.Forms.{has_form};
-ghost use Rattle.dist_c_guest.specs.Planning.{Changes};
 ghost use Rattle.dist_c_guest.specs.Changes.{AllowsText, AtGuest, DisallowsText, Keys, KeysUsually, Unkeys};
+ghost use Rattle.dist_c_guest.specs.{Forms.has_form, Planning.Changes};
 
 use dist_c_guest::{
     DnNode, MARK, NOT_A_NODE, allow_text, disallow_text, has_form, set_cookie, set_usual_cookie,

@@ -1,6 +1,5 @@
 //! A registry, and the answer to its newest request.
-ghost use Rattle.std.specs.Prelude.{◌≡◌, None};
-ghost use Rattle.std.specs.Int.{w16};
+ghost use Rattle.std.specs.{Prelude.◌≡◌, Prelude.None, Int.w16};
 ghost use Rattle.dist_epmd.specs.Registrations.{opening, after_closed};
 ghost use Rattle.dist_frames.specs.Stream.{first_body};
 ghost use Rattle.distnode_c.specs.Desks.{IsAnswered, IsReceivedByDesk, registered_number};

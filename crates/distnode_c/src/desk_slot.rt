@@ -1,7 +1,6 @@
 //! The pointer to a desk that C holds.
 ghost use Rattle.std.specs.Prelude.{◌≡◌, Option, Some, None};
-ghost use Rattle.distnode_c.specs.declared.desk.RegistryDesk.{RegistryDesk};
-ghost use Rattle.distnode_c.specs.KeptDesk.{kept_desk};
+ghost use Rattle.distnode_c.specs.{declared.desk.RegistryDesk.RegistryDesk, KeptDesk.kept_desk};
 
 use crate::desk::RegistryDesk;
 use dist_c_guest::Parts;

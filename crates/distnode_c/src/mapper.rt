@@ -1,8 +1,7 @@
 //! The messages of the port mapper, and the digest of a cookie.
 ghost use Rattle.std.specs.Prelude.{◌≡◌};
 ghost use Rattle.dist_secret.specs.Cookie.{cookie_of};
-ghost use Rattle.dist_epmd.specs.Reading.{read_answer};
-ghost use Rattle.dist_epmd.specs.Layout.{written_request};
+ghost use Rattle.dist_epmd.specs.{Reading.read_answer, Layout.written_request};
 ghost use Rattle.distnode_c.specs.Mapper.{Asks, ReportsAlive, ReportsPort, Digests, alive_of};
 
 use crate::codes::epmd_code;

@@ -2,8 +2,7 @@
 ghost use Rattle.std.specs.Prelude.{Ok};
 ghost use Rattle.dist_names.specs.NodeName.{name_of_bytes};
 ghost use Rattle.dist_secret.specs.Cookie.{cookie_of};
-ghost use Rattle.dist_c_guest.specs.Nodes.{News, version_of, Frees};
-ghost use Rattle.dist_c_guest.specs.Ends.{Forgets, Renews};
+ghost use Rattle.dist_c_guest.specs.{Nodes.News, Nodes.version_of, Nodes.Frees, Ends.Forgets, Ends.Renews};
 
 use dist_c_guest::{DnNode, DnSetup, IN_USE, MARK, NOT_A_NODE, OK, let_go, new_guest, renew};
 use dist_peers::EndId;

@@ -1,17 +1,12 @@
 //! What a node is asked. No question changes it.
-ghost use Rattle.std.specs.Prelude.{◌≡◌, slice_get};
+ghost use Rattle.std.specs.{Prelude.◌≡◌, Prelude.slice_get, Int.w16};
 ghost use Rattle.std.specs.FinMap as map;
-ghost use Rattle.std.specs.Int.{w16};
 ghost use Rattle.dist_names.specs.NodeName.{name_of_bytes};
 ghost use Rattle.dist_core_ends.specs.Ends.{up_from, up_ids, table_of, record_in};
-ghost use Rattle.dist_c_guest.specs.Steps.{Copies};
 ghost use Rattle.dist_c_guest.specs.Nodes.{Says, ReportsAt, ReportsNext};
-ghost use Rattle.dist_c_guest.specs.Bodies.{SaysBody};
-ghost use Rattle.dist_c_guest.specs.Statuses.{ReportsStatuses, status_number};
+ghost use Rattle.dist_c_guest.specs.{Steps.Copies, Bodies.SaysBody, Statuses.ReportsStatuses, Statuses.status_number, Foreseeing.IsReady};
+ghost use Rattle.dist_c_guest.specs.{Foreseeing.IsReadyBody, Entries.ReportsEntry, Ends.ReportsEndAt, Ends.ReportsOldest};
 ghost use Rattle.dist_frames.specs.Stream.{first_body};
-ghost use Rattle.dist_c_guest.specs.Foreseeing.{IsReady, IsReadyBody};
-ghost use Rattle.dist_c_guest.specs.Entries.{ReportsEntry};
-ghost use Rattle.dist_c_guest.specs.Ends.{ReportsEndAt, ReportsOldest};
 
 use dist_c_guest::{
     DnEnd, DnEntry, DnNode, DnPeer, DnReply, MARK, NOT_A_NODE, OK, copy_body, copy_say,

@@ -1,6 +1,5 @@
 //! A registry of the port mapper is made, asked, and let go.
-ghost use Rattle.std.specs.Prelude.{◌≡◌, Option, Some, None};
-ghost use Rattle.std.specs.Int.{w16};
+ghost use Rattle.std.specs.{Prelude.◌≡◌, Prelude.Option, Prelude.Some, Prelude.None, Int.w16};
 ghost use Rattle.dist_frames.specs.Stream.{first_body};
 ghost use Rattle.dist_c_guest.specs.Nodes.{Frees};
 ghost use Rattle.distnode_c.specs.Desks.{Opens, Asked, Answers, CopiesText, Closes, answer_text};

@@ -1,13 +1,10 @@
 //! The steps of a node: its connections come, are dialled, open or lost, a tick is due, bytes came.
-ghost use Rattle.std.specs.Prelude.{◌≢◌, Some, None, IsTrue};
-ghost use Rattle.std.specs.Int.{w16};
+ghost use Rattle.std.specs.{Prelude.◌≢◌, Prelude.Some, Prelude.None, Prelude.IsTrue, Int.w16};
 ghost use Rattle.dist_names.specs.NodeName.{name_of_bytes};
 ghost use Rattle.dist_c_guest.specs.Steps.{opening_of, Steps, Receives, Loses};
-ghost use Rattle.dist_c_guest.specs.Newcomers.{Comes, Dials};
+ghost use Rattle.dist_c_guest.specs.{Newcomers.Comes, Newcomers.Dials, Bodies.ReceivesBody, Guarding.ReceivesGuarded};
 ghost use Rattle.dist_core.specs.Losses.{is_loss};
 ghost use Rattle.dist_frames.specs.Stream.{first_body};
-ghost use Rattle.dist_c_guest.specs.Bodies.{ReceivesBody};
-ghost use Rattle.dist_c_guest.specs.Guarding.{ReceivesGuarded};
 
 use dist_c_guest::{
     DnNode, DnReply, MARK, NO_SUCH, NOT_A_NODE, guard_body, name_code, opening_of, report_room,

@@ -1,6 +1,5 @@
 //! The words of codes and causes.
-ghost use Rattle.dist_c_guest.specs.Words.{code_word, IsWordOf};
-ghost use Rattle.dist_c_guest.specs.Steps.{Copies};
+ghost use Rattle.dist_c_guest.specs.{Words.code_word, Words.IsWordOf, Steps.Copies};
 
 use dist_c_guest::{NO_SUCH, code_word, copy_out, why_of};
 

@@ -1,8 +1,7 @@
 -- Lists in which no two elements are one.
 use Rattle.std.proofs.Common.{◌≢◌, ℕ, ◌+◌, ◌<◌, ◌≤◌, List, length, take, get_or, arith, subst, sym, length-take}
+use Rattle.std.proofs.lemmas.List.{take_more, Quantifiers.all_pairs_push}
 use Rattle.std.specs.List.{AllPairs}
-use Rattle.std.proofs.lemmas.List.{take_more}
-use Rattle.std.proofs.lemmas.List.Quantifiers.{all_pairs_push}
 
 -- one element is no two
 pub apart_few : {X : Type 0} (xs : List X) (n : ℕ) → n ≤ 1 → AllPairs (λ x y. x ≢ y) (take n xs)

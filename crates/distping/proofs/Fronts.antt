@@ -2,9 +2,8 @@
 use Rattle.std.proofs.Common.{◌≡◌, ℕ, ◌≤◌, Bool, true, false, List, ◌||◌, length, take, None, refl, sym, ap, ◌∙◌, arith}
 use Rattle.std.specs.Io.KnownBytes.{prepend_known}
 use Rattle.dist_stream.specs.Stream.{Reads, StreamState, Writes, heard_count, is_end}
-use Rattle.dist_stream.specs.declared.stream.Heard.{Heard}
+use Rattle.dist_stream.specs.declared.stream.{Heard.Heard, Took.Took}
 use Rattle.dist_stream.specs.declared.stream.Heard.TheVariants as heard
-use Rattle.dist_stream.specs.declared.stream.Took.{Took}
 use Rattle.distping.specs.Fronts.{front_meaning}
 
 or_swap : (a b c : Bool) → (a || (b || c)) ≡ (b || (a || c))

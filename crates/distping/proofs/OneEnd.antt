@@ -1,36 +1,23 @@
 -- What a node does that has one end: a connection comes, a name comes on it, and then a reply.
 use Rattle.std.proofs.Common.{◌≡◌, ℕ, ◌+◌, Bool, true, false, cond, ◌||◌, List, [], Some, None, Result, Ok, Err, refl, sym, ap, ◌⊎◌, inl, inr}
-use Rattle.dist_names.specs.Order.{Name, same_name}
-use Rattle.dist_names.specs.declared.flags.Flags.{Flags}
-use Rattle.dist_names.specs.declared.creation.Creation.{Creation}
+use Rattle.dist_names.specs.{Order.Name, Order.same_name, declared.flags.Flags.Flags, declared.creation.Creation.Creation}
 use Rattle.dist_messages.specs.Reading.{read}
+use Rattle.dist_messages.specs.declared.{message.Side.TheVariants.Dialler, message.Message.Message, message_error.MessageError.MessageError}
 use Rattle.dist_messages.specs.declared.form.Form.TheVariants as form
-use Rattle.dist_messages.specs.declared.message.Side.TheVariants.{Dialler}
 use Rattle.dist_messages.specs.declared.message.Status.TheVariants as status
-use Rattle.dist_messages.specs.declared.message.Message.{Message}
 use Rattle.dist_messages.specs.declared.message.Message.TheVariants as message
-use Rattle.dist_messages.specs.declared.message_error.MessageError.{MessageError}
 use Rattle.dist_peers.specs.Table.{replaced_by}
-use Rattle.dist_core_ends.specs.Ends.{entry_from}
-use Rattle.dist_core_ends.specs.declared.why.Why.{Why}
+use Rattle.dist_core_ends.specs.{Ends.entry_from, declared.why.Why.Why, declared.known.Attempt.Attempt, declared.known.End.End}
 use Rattle.dist_core_ends.specs.declared.why.Why.TheVariants as why
-use Rattle.dist_core_ends.specs.declared.known.Attempt.{Attempt}
-use Rattle.dist_core_ends.specs.declared.known.End.{End}
 use Rattle.dist_core_ends.specs.declared.known.End.TheVariants as ends
-use Rattle.dist_core_setup.specs.declared.setup.Setup.{Setup}
 use Rattle.dist_core_setup.specs.Rules.{is_refused, knows_six, own_digest, required_of, same_bytes}
-use Rattle.dist_core_setup.specs.Saying.{ack_text, greeting_text, status_text}
-use Rattle.dist_core.specs.Accepted.{named_attempt}
-use Rattle.dist_core.specs.Effects.{closes, comes_up, goes_on, record_of, shuts}
+use Rattle.dist_core_setup.specs.{declared.setup.Setup.Setup, Saying.ack_text, Saying.greeting_text, Saying.status_text}
 use Rattle.dist_core.specs.Node.{NodeState, is_crowded, is_full_for, is_given_out, is_spent, new_id}
-use Rattle.dist_core.specs.Runs.{opening}
-use Rattle.dist_core.specs.Step.{after, effect_of, message_effect, step, step_result}
-use Rattle.dist_core.specs.declared.effect.Effect.{Effect}
-use Rattle.dist_core.specs.declared.event.Event.{Event}
+use Rattle.dist_core.specs.{Accepted.named_attempt, Effects.closes, Effects.comes_up, Effects.goes_on, Effects.record_of, Effects.shuts, Runs.opening}
+use Rattle.dist_core.specs.{Step.after, Step.effect_of, Step.message_effect, Step.step, Step.step_result}
+use Rattle.dist_core.specs.declared.{effect.Effect.Effect, event.Event.Event, reply.Reply.Reply, step_error.StepError.StepError}
 use Rattle.dist_core.specs.declared.event.Event.TheVariants as event
 use Rattle.dist_core.specs.declared.reply.Note.TheVariants as note
-use Rattle.dist_core.specs.declared.reply.Reply.{Reply}
-use Rattle.dist_core.specs.declared.step_error.StepError.{StepError}
 use Rattle.dist_core.specs.declared.step_error.StepError.TheVariants as error
 use Rattle.distping.specs.Accepting.{AwaitsName, alone, only_end}
 

@@ -2,35 +2,22 @@
 use Rattle.std.proofs.Common.{◌≡◌, ℕ, ◌+◌, Bool, true, false, List, Option, Some, None, Result, Ok, Err, refl, sym, ap, ◌∙◌, subst, ◌⊎◌, inl, inr}
 use Rattle.std.specs.Prelude.{IfSome}
 use Rattle.dist_messages.specs.Reading.{read}
-use Rattle.dist_messages.specs.declared.message.Side.TheVariants.{Dialler}
-use Rattle.dist_messages.specs.declared.message.Message.{Message}
+use Rattle.dist_messages.specs.declared.{message.Side.TheVariants.Dialler, message.Message.Message, message_error.MessageError.MessageError}
 use Rattle.dist_messages.specs.declared.message.Message.TheVariants as message
-use Rattle.dist_messages.specs.declared.message_error.MessageError.{MessageError}
-use Rattle.dist_core_ends.specs.Ends.{awaited_in, awaited_of, still_of}
-use Rattle.dist_core_ends.specs.declared.phase.Awaited.{Awaited}
-use Rattle.dist_core_ends.specs.declared.phase.Awaited.TheVariants as awaited
-use Rattle.dist_core_ends.specs.declared.why.Why.{Why}
-use Rattle.dist_core_ends.specs.declared.why.Why.TheVariants as why
-use Rattle.dist_core_ends.specs.declared.known.UpRecord.{UpRecord}
-use Rattle.dist_core_ends.specs.declared.known.End.{End}
-use Rattle.dist_core_ends.specs.declared.known.End.TheVariants as ends
-use Rattle.dist_core_ends.specs.declared.known.Attempt.{Attempt}
 use Rattle.dist_messages.specs.declared.form.Form.TheVariants as form
-use Rattle.dist_probe.specs.Services.{service_of}
-use Rattle.dist_core_setup.specs.declared.setup.Setup.{Setup}
-use Rattle.dist_core.specs.Accepted.{named_attempt}
-use Rattle.dist_core.specs.Effects.{record_of}
-use Rattle.dist_core.specs.Node.{NodeState}
-use Rattle.dist_core.specs.Step.{step}
-use Rattle.dist_core.specs.declared.event.Event.TheVariants as event
-use Rattle.dist_core.specs.declared.reply.Reply.{Reply}
-use Rattle.dist_core.specs.declared.step_error.StepError.{StepError}
-use Rattle.dist_core.specs.declared.step_error.StepError.TheVariants as error
-use Rattle.dist_probe.specs.declared.bodies.Came.{Came}
+use Rattle.dist_core_ends.specs.Ends.{awaited_in, awaited_of, still_of}
+use Rattle.dist_core_ends.specs.declared.{phase.Awaited.Awaited, why.Why.Why, known.UpRecord.UpRecord, known.End.End, known.Attempt.Attempt}
+use Rattle.dist_core_ends.specs.declared.phase.Awaited.TheVariants as awaited
+use Rattle.dist_core_ends.specs.declared.why.Why.TheVariants as why
+use Rattle.dist_core_ends.specs.declared.known.End.TheVariants as ends
+use Rattle.dist_probe.specs.{Services.service_of, declared.bodies.Came.Came, declared.asking.Peer.Peer}
 use Rattle.dist_probe.specs.declared.bodies.Came.TheVariants as came
-use Rattle.dist_probe.specs.declared.asking.Peer.{Peer}
-use Rattle.dist_stream.specs.Stream.{StreamState}
-use Rattle.dist_stream.specs.declared.turn_error.TurnError.{TurnError}
+use Rattle.dist_core_setup.specs.declared.setup.Setup.{Setup}
+use Rattle.dist_core.specs.{Accepted.named_attempt, Effects.record_of, Node.NodeState, Step.step}
+use Rattle.dist_core.specs.declared.{reply.Reply.Reply, step_error.StepError.StepError}
+use Rattle.dist_core.specs.declared.event.Event.TheVariants as event
+use Rattle.dist_core.specs.declared.step_error.StepError.TheVariants as error
+use Rattle.dist_stream.specs.{Stream.StreamState, declared.turn_error.TurnError.TurnError}
 use Rattle.dist_stream.specs.declared.turn_error.TurnError.TheVariants as fault
 use Rattle.distping_report.specs.declared.taken.Taken.{Taken}
 use Rattle.distping_report.specs.declared.taken.Taken.TheVariants as taken

@@ -2,35 +2,19 @@
 use Rattle.std.specs.Prelude.{◌≡◌, ℕ, ◌⊎◌, Bool, true, false, List, [], ◌∷◌, Option, Some, None, Result, Ok, Err, slice_get}
 use Rattle.dist_names.specs.Flags.{common}
 use Rattle.dist_messages.specs.Reading.{read}
-use Rattle.dist_messages.specs.declared.message.Side.TheVariants.{Dialler}
-use Rattle.dist_messages.specs.declared.message.Message.{Message}
+use Rattle.dist_messages.specs.declared.{message.Side.TheVariants.Dialler, message.Message.Message, message_error.MessageError.MessageError}
 use Rattle.dist_messages.specs.declared.message.Message.TheVariants as message
-use Rattle.dist_messages.specs.declared.message_error.MessageError.{MessageError}
 use Rattle.dist_peers.specs.declared.entry.EndId.{EndId}
-use Rattle.dist_core_ends.specs.Ends.{awaited_of, still_of}
-use Rattle.dist_core_ends.specs.declared.phase.Awaited.{Awaited}
+use Rattle.dist_core_ends.specs.{Ends.awaited_of, Ends.still_of, declared.phase.Awaited.Awaited, declared.known.UpRecord.UpRecord, declared.known.End.End}
 use Rattle.dist_core_ends.specs.declared.phase.Awaited.TheVariants as awaited
 use Rattle.dist_core_ends.specs.declared.why.Why.TheVariants as why
-use Rattle.dist_core_ends.specs.declared.known.UpRecord.{UpRecord}
-use Rattle.dist_core_ends.specs.declared.known.End.{End}
 use Rattle.dist_core_ends.specs.declared.known.End.TheVariants as ends
-use Rattle.dist_core_setup.specs.declared.setup.Setup.{Setup}
-use Rattle.dist_core_setup.specs.Rules.{announced_by, own_digest, same_bytes}
-use Rattle.dist_core.specs.Answers.{Refuses}
-use Rattle.dist_core.specs.Node.{NodeState}
-use Rattle.dist_core.specs.Step.{step}
+use Rattle.dist_core_setup.specs.{declared.setup.Setup.Setup, Rules.announced_by, Rules.own_digest, Rules.same_bytes}
+use Rattle.dist_core.specs.{Answers.Refuses, Node.NodeState, Step.step, declared.reply.Reply.Reply, declared.step_error.StepError.StepError}
 use Rattle.dist_core.specs.declared.event.Event.TheVariants as event
-use Rattle.dist_core.specs.declared.reply.Reply.{Reply}
-use Rattle.dist_core.specs.declared.step_error.StepError.{StepError}
-use Rattle.dist_probe.specs.Bodies.{HearsFrameOf}
-use Rattle.dist_probe.specs.declared.bodies.Came.{Came}
+use Rattle.dist_probe.specs.{Bodies.HearsFrameOf, declared.bodies.Came.Came, Ending.Rests, Services.service_of, declared.asking.Peer.Peer}
 use Rattle.dist_probe.specs.declared.bodies.Came.TheVariants as came
-use Rattle.dist_probe.specs.Ending.{Rests}
-use Rattle.dist_probe.specs.Services.{service_of}
-use Rattle.dist_probe.specs.declared.asking.Peer.{Peer}
-use Rattle.dist_stream.specs.Stream.{StreamState}
-use Rattle.dist_stream.specs.Turns.{SaysFront}
-use Rattle.dist_stream.specs.declared.turn_error.TurnError.{TurnError}
+use Rattle.dist_stream.specs.{Stream.StreamState, Turns.SaysFront, declared.turn_error.TurnError.TurnError}
 use Rattle.distping_report.specs.declared.taken.Taken.{Taken}
 use Rattle.distping_report.specs.declared.taken.Taken.TheVariants as taken
 use Rattle.distping.specs.Listening.{fault_verdict, own_verdict, step_verdict, written_verdict}

@@ -2,14 +2,11 @@
 use Rattle.std.specs.Prelude.{Bool, false, ◌==◌, codes, Option, Some, None, Result, Ok, Err, if◌then◌else◌}
 use Rattle.std.specs.List.{starts_with}
 use Rattle.dist_names.specs.Flags.{has_all, name_me}
-use Rattle.dist_messages.specs.declared.message.Message.{Message}
+use Rattle.dist_messages.specs.declared.{message.Message.Message, message_error.MessageError.MessageError}
 use Rattle.dist_messages.specs.declared.message.Message.TheVariants as message
-use Rattle.dist_messages.specs.declared.message_error.MessageError.{MessageError}
-use Rattle.dist_core_ends.specs.declared.phase.Awaited.{Awaited}
+use Rattle.dist_core_ends.specs.declared.{phase.Awaited.Awaited, phase.Still.Still, why.Why.Why}
 use Rattle.dist_core_ends.specs.declared.phase.Awaited.TheVariants as awaited
-use Rattle.dist_core_ends.specs.declared.phase.Still.{Still}
 use Rattle.dist_core_ends.specs.declared.phase.Still.TheVariants as still
-use Rattle.dist_core_ends.specs.declared.why.Why.{Why}
 use Rattle.dist_core_ends.specs.declared.why.Why.TheVariants as why
 use Rattle.dist_core.specs.declared.step_error.StepError.{StepError}
 use Rattle.dist_core.specs.declared.step_error.StepError.TheVariants as error

@@ -1,11 +1,8 @@
 -- THE RESULT OF SEVERAL ADDRESSES.
-use Rattle.std.specs.Prelude.{◌≡◌, ℕ, length}
-use Rattle.std.specs.List.{IsFirstBest, slice_index_or}
-use Rattle.dist_probe.specs.Reaching.{is_further}
-use Rattle.dist_probe.specs.declared.verdict.ProbeVerdict.{ProbeVerdict}
+use Rattle.std.specs.{Prelude.◌≡◌, Prelude.ℕ, Prelude.length, List.IsFirstBest, List.slice_index_or}
+use Rattle.dist_probe.specs.{Reaching.is_further, declared.verdict.ProbeVerdict.ProbeVerdict}
 use Rattle.distping.specs.declared.links.tries.Tries.{Tries}
-use Rattle.distping_report.specs.declared.found.Found.{Found}
-use Rattle.distping_report.specs.declared.found.ProbeOutcome.{ProbeOutcome}
+use Rattle.distping_report.specs.declared.found.{Found.Found, ProbeOutcome.ProbeOutcome}
 
 -- The result is what was found out at one address, and the verdict on it: the first of those that got furthest.
 pub record IsFurthest (all : Tries) (outcome : ProbeOutcome) : Type 0 where

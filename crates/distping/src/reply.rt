@@ -1,7 +1,6 @@
 //! The result for one of several nodes that were dialled at once.
 
-ghost use Rattle.std.specs.Prelude.{◌≡◌};
-ghost use Rattle.std.specs.Result.{ForOk};
+ghost use Rattle.std.specs.{Prelude.◌≡◌, Result.ForOk};
 
 use dist_cluster::Half;
 use dist_names::NodeName;

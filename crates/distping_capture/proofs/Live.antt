@@ -1,24 +1,19 @@
 -- The verdict of a live probe is the one that its three messages have in a capture.
 use Rattle.std.proofs.Common.{◌≡◌, ℕ, Bool, true, false, List, Option, Some, None, Result, refl, sym, ◌∙◌, ap, subst}
 use Rattle.std.specs.Prelude.{unwrap_or, is_none, ◌&&◌, if◌then◌else◌}
-use Rattle.dist_names.specs.Order.{same_name}
-use Rattle.dist_names.specs.declared.flags.Flags.{Flags}
+use Rattle.dist_names.specs.{Order.same_name, declared.flags.Flags.Flags}
 use Rattle.dist_messages.specs.declared.message.Message.TheVariants as message
 use Rattle.dist_messages.specs.declared.message.Status.TheVariants as status
 use Rattle.dist_stream.specs.Stream.{StreamState}
-use Rattle.dist_core_setup.specs.declared.setup.Setup.{Setup}
-use Rattle.dist_core_setup.specs.Rules.{own_digest}
-use Rattle.dist_probe.specs.declared.hearing.ReceivedMessage.{ReceivedMessage}
-use Rattle.dist_probe.specs.declared.hearing.ReceivedMessage.TheVariants as heard
-use Rattle.dist_probe.specs.declared.verdict.ProbeVerdict.{ProbeVerdict}
-use Rattle.dist_probe.specs.declared.verdict.ProbeVerdict.TheVariants as verdict
-use Rattle.dist_probe.specs.declared.asking.Report.{Report}
+use Rattle.dist_core_setup.specs.{declared.setup.Setup.Setup, Rules.own_digest}
 use Rattle.dist_probe.specs.Verdicts.{ack_verdict, challenge_verdict, status_verdict}
 use Rattle.dist_probe.specs.Ending.{BehindName, Decides, Ends, challenge_in, lacking, outcome_of}
-use Rattle.distping_capture.specs.declared.judging.Standing.{Standing}
-use Rattle.distping_capture.specs.declared.judging.Standing.TheVariants as standing
+use Rattle.dist_probe.specs.declared.{hearing.ReceivedMessage.ReceivedMessage, verdict.ProbeVerdict.ProbeVerdict, asking.Report.Report}
+use Rattle.dist_probe.specs.declared.hearing.ReceivedMessage.TheVariants as heard
+use Rattle.dist_probe.specs.declared.verdict.ProbeVerdict.TheVariants as verdict
 use Rattle.distping_capture.specs.Judging.{due_unless, ends_with, upon_challenge, upon_reply, upon_status}
-use Rattle.distping_capture.specs.Live.{NamesTarget, SameVerdict, probe_part, verdict_in}
+use Rattle.distping_capture.specs.{declared.judging.Standing.Standing, Live.NamesTarget, Live.SameVerdict, Live.probe_part, Live.verdict_in}
+use Rattle.distping_capture.specs.declared.judging.Standing.TheVariants as standing
 
 -- a verdict, as an outcome, is that verdict
 pub verdict_of : (v : ProbeVerdict) → verdict_in (outcome_of v) ≡ v

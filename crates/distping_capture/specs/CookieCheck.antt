@@ -2,9 +2,8 @@
 use Rattle.std.specs.Prelude.{ℕ, Bool, true, false, ◌==◌, List, codes, Option, Some, None, option_map}
 use Rattle.std.specs.Cmp.Lexicographic.{pointwise}
 use Rattle.dist_secret.specs.Digest.{digest_of}
-use Rattle.distping_capture.specs.declared.cookie_check.CookieCheck.{CookieCheck}
+use Rattle.distping_capture.specs.declared.cookie_check.{CookieCheck.CookieCheck, Digests.Digests}
 use Rattle.distping_capture.specs.declared.cookie_check.CookieCheck.TheVariants as check
-use Rattle.distping_capture.specs.declared.cookie_check.Digests.{Digests}
 
 -- the digest is that of this cookie and challenge
 abbrev pub is_of : List ℕ → ℕ → List ℕ → Bool

@@ -2,14 +2,11 @@
 -- Source: ERTS User's Guide, Distribution Protocol, Distribution Handshake, the statuses `nok`, `ok_simultaneous` and `alive`.
 use Rattle.std.specs.Prelude.{◌≡◌, ◌≢◌, ◌⊎◌, ◌≤◌, ◌+◌, ◌*◌, ◌^◌, ℕ, Bool, true, false, length, IsTrue}
 use Rattle.std.specs.Ordering.{is_lt}
-use Rattle.dist_names.specs.NodeName.{short_of}
-use Rattle.dist_names.specs.Order.{Name, name_cmp}
+use Rattle.dist_names.specs.{NodeName.short_of, Order.Name, Order.name_cmp}
 use Rattle.dist_messages.specs.declared.message.Side.TheVariants.{Dialler}
 use Rattle.dist_probe.specs.declared.verdict.ProbeVerdict.TheVariants as verdict
-use Rattle.distping_capture.specs.declared.dials.PastDial.{PastDial}
-use Rattle.distping_capture.specs.declared.outcome.AttemptOutcome.{AttemptOutcome}
+use Rattle.distping_capture.specs.{declared.dials.PastDial.PastDial, declared.outcome.AttemptOutcome.AttemptOutcome, Outcomes.is_outcome_up}
 use Rattle.distping_capture.specs.declared.outcome.AttemptOutcome.TheVariants as outcome
-use Rattle.distping_capture.specs.Outcomes.{is_outcome_up}
 
 -- THE RULE: of two dials that cross, the one of the greater name has to win
 abbrev pub must_win : PastDial → PastDial → Bool

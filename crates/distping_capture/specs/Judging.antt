@@ -7,14 +7,10 @@ use Rattle.dist_messages.specs.declared.message.Status.TheVariants as status
 use Rattle.dist_messages.specs.declared.opening.Opening.{Opening}
 use Rattle.dist_messages.specs.declared.opening.Opening.TheVariants as opening
 use Rattle.dist_stream.specs.Stream.{StreamState}
-use Rattle.dist_probe.specs.declared.hearing.ReceivedMessage.{ReceivedMessage}
+use Rattle.dist_probe.specs.{Verdicts.ack_verdict, Verdicts.challenge_verdict, Verdicts.status_verdict, Hearing.HearsMessage, Ending.Rests}
+use Rattle.dist_probe.specs.declared.{hearing.ReceivedMessage.ReceivedMessage, verdict.ProbeVerdict.ProbeVerdict}
 use Rattle.dist_probe.specs.declared.hearing.ReceivedMessage.TheVariants as heard
-use Rattle.dist_probe.specs.declared.verdict.ProbeVerdict.{ProbeVerdict}
-use Rattle.dist_probe.specs.Verdicts.{ack_verdict, challenge_verdict, status_verdict}
-use Rattle.dist_probe.specs.Hearing.{HearsMessage}
-use Rattle.dist_probe.specs.Ending.{Rests}
-use Rattle.distping_capture.specs.declared.judging.DiallerPart.{DiallerPart}
-use Rattle.distping_capture.specs.declared.judging.Standing.{Standing}
+use Rattle.distping_capture.specs.declared.judging.{DiallerPart.DiallerPart, Standing.Standing}
 use Rattle.distping_capture.specs.declared.judging.Standing.TheVariants as standing
 
 -- a verdict ends the handshake

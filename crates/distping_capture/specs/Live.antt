@@ -3,18 +3,13 @@ use Rattle.std.specs.Prelude.{◌≡◌, ℕ, false, List, Some, Result, Ok, Err
 use Rattle.dist_names.specs.declared.flags.Flags.{Flags}
 use Rattle.dist_messages.specs.declared.message.Message.TheVariants as message
 use Rattle.dist_messages.specs.declared.opening.Opening.TheVariants as opening
-use Rattle.dist_core_setup.specs.declared.setup.Setup.{Setup}
-use Rattle.dist_core_setup.specs.Rules.{own_digest}
-use Rattle.dist_probe.specs.declared.hearing.ReceivedMessage.{ReceivedMessage}
+use Rattle.dist_core_setup.specs.{declared.setup.Setup.Setup, Rules.own_digest}
+use Rattle.dist_probe.specs.{Verdicts.challenge_verdict, Ending.lacking}
+use Rattle.dist_probe.specs.declared.{hearing.ReceivedMessage.ReceivedMessage, verdict.ProbeVerdict.ProbeVerdict, asking.Report.Report}
 use Rattle.dist_probe.specs.declared.hearing.ReceivedMessage.TheVariants as heard
-use Rattle.dist_probe.specs.declared.verdict.ProbeVerdict.{ProbeVerdict}
 use Rattle.dist_probe.specs.declared.verdict.ProbeVerdict.TheVariants as verdict
-use Rattle.dist_probe.specs.declared.asking.Report.{Report}
-use Rattle.dist_probe.specs.Verdicts.{challenge_verdict}
-use Rattle.dist_probe.specs.Ending.{lacking}
-use Rattle.distping_capture.specs.declared.judging.DiallerPart.{DiallerPart}
+use Rattle.distping_capture.specs.{declared.judging.DiallerPart.DiallerPart, Judging.standing_of}
 use Rattle.distping_capture.specs.declared.judging.Standing.TheVariants as standing
-use Rattle.distping_capture.specs.Judging.{standing_of}
 
 -- the verdict of a report
 abbrev pub verdict_in : Result (Unit {0}) ProbeVerdict → ProbeVerdict

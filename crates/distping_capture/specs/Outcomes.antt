@@ -1,15 +1,12 @@
 -- WHAT AN ATTEMPT CAME TO: the verdict of the live probe on the accepting side's bytes, or, where the dialling side was due, what that did.
 use Rattle.std.specs.Prelude.{ℕ, Bool, true, false, List, codes, Option, Some, None, if◌then◌else◌}
-use Rattle.dist_messages.specs.declared.message.Side.{Side}
-use Rattle.dist_messages.specs.declared.message.Side.TheVariants.{Dialler}
+use Rattle.dist_messages.specs.declared.message.Side.{Side, TheVariants.Dialler}
 use Rattle.dist_probe.specs.declared.verdict.ProbeVerdict.TheVariants as verdict
 use Rattle.dist_probe.specs.Words.{status_of, verdict_word}
 use Rattle.distping_report.specs.declared.taken.Taken.TheVariants as taken
 use Rattle.distping_report.specs.TakenWords.{taken_status, taken_word}
-use Rattle.distping_capture.specs.declared.judging.Standing.{Standing}
+use Rattle.distping_capture.specs.declared.{judging.Standing.Standing, outcome.Leaving.Leaving, outcome.AttemptOutcome.AttemptOutcome}
 use Rattle.distping_capture.specs.declared.judging.Standing.TheVariants as standing
-use Rattle.distping_capture.specs.declared.outcome.Leaving.{Leaving}
-use Rattle.distping_capture.specs.declared.outcome.AttemptOutcome.{AttemptOutcome}
 use Rattle.distping_capture.specs.declared.outcome.AttemptOutcome.TheVariants as outcome
 
 -- nothing is concluded but who closed

@@ -4,8 +4,7 @@ ghost use Rattle.std.specs.Prelude.{◌≡◌, ℕ, List, false, true};
 ghost use Rattle.dist_names.specs.Order.{same_name};
 ghost use Rattle.dist_stream.specs.Stream.{StreamState};
 ghost use Rattle.dist_core_setup.specs.declared.setup.Setup.{Setup};
-ghost use Rattle.dist_probe.specs.declared.asking.Report.{Report};
-ghost use Rattle.dist_probe.specs.Ending.{Ends};
+ghost use Rattle.dist_probe.specs.{declared.asking.Report.Report, Ending.Ends};
 ghost use Rattle.distping_capture.specs.Live.{SameVerdict};
 
 /// Whatever a live probe with a cookie ends with, the messages that it received have the same verdict in a capture, if the node that

@@ -1,7 +1,6 @@
 //! The nodes that were seen: their restarts, names that two hosts use, who listens where, and which lookups no dial followed yet.
 
-ghost use Rattle.std.specs.Prelude.{length};
-ghost use Rattle.std.specs.List.Sorted.{IsSearchInRange};
+ghost use Rattle.std.specs.{Prelude.length, List.Sorted.IsSearchInRange};
 
 use crate::connection::CapturedConnection;
 use crate::facts::{Facts, NodeDescription};

@@ -3,12 +3,9 @@ use Rattle.std.proofs.Common.{◌≡◌, ◌+◌, ◌<◌, ℕ, List, [], ◌∷
 use Rattle.std.proofs.lemmas.List.{map-append, take_more}
 use Rattle.std.proofs.lemmas.List.Elements.{filter_more}
 use Rattle.std.specs.Borrow.{Bor}
-use Rattle.dist_flags.specs.Names.{flag_of, name_of}
-use Rattle.dist_flags.specs.declared.dflag.Dflag.{Dflag}
+use Rattle.dist_flags.specs.{Names.flag_of, Names.name_of, declared.dflag.Dflag.Dflag}
 use Rattle.dist_names.specs.Flags.{has_all}
-use Rattle.json.specs.Token.{Token}
-use Rattle.json.specs.Tree.{json_tokens, items_tokens, members_tokens}
-use Rattle.json.specs.Written.{Written, Writes}
+use Rattle.json.specs.{Token.Token, Tree.json_tokens, Tree.items_tokens, Tree.members_tokens, Written.Written, Written.Writes}
 use Rattle.dist_cluster.specs.declared.summary.WordCount.{WordCount}
 use Rattle.distping_report.specs.Layouts.{counts_layout}
 use Rattle.distping_report.specs.Objects.{Shape, number, texts, object, objects, Layout, no_member, member, Layouts, no_object, one_object, texts_in, json_of, members_in, objects_in, names_among, shape_of, layout_of, front, object_tokens, PutsValue, PutsMembers, PutsObjects}

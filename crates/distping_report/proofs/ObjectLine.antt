@@ -1,18 +1,13 @@
 -- The line of an object: how deep it nests, that it reads back, and that it is one line.
 use Rattle.std.proofs.Common.{◌≡◌, ◌≤◌, ◌<◌, ◌/◌, ◌%◌, ◌+◌, ◌==◌, ◌&&◌, ℕ, zero, suc, Bool, true, false, cond, nat_lt, List, [], ◌∷◌, ◌++◌, ⊎_elim, Some, All, option_and_then, decimal, refl, sym, ap, ◌∙◌, subst, arith, append-nil}
-use Rattle.std.specs.Bool.{⊤}
-use Rattle.std.specs.Fmt.{digit_glyph, digits, digits_onto}
 use Rattle.std.proofs.lemmas.Bool.{and_parts, cases_eq, cases_lt, ltb-true}
 use Rattle.std.proofs.lemmas.List.Concat.{flat_map-cons}
 use Rattle.std.proofs.lemmas.List.Elements.{All-nil, All-cons}
-use Rattle.json.specs.Json.{Json, document, value, if_last, max_depth}
-use Rattle.json.specs.Lex.{tokens}
+use Rattle.std.specs.{Bool.⊤, Fmt.digit_glyph, Fmt.digits, Fmt.digits_onto}
 use Rattle.json.specs.Print.{print, print_from, separator, begins, ends, token_text, escape, escape_byte, quoted}
-use Rattle.json.specs.Token.{Token}
-use Rattle.json.specs.Tree.{json_tokens, items_tokens, depth, items_depth, members_depth}
-use Rattle.json.specs.Written.{Written}
-use Rattle.json.proofs.Printed.Strings.{escape_byte_plain}
-use Rattle.json.proofs.Printed.Trees.{value-json_tokens}
+use Rattle.json.specs.{Json.Json, Json.document, Json.value, Json.if_last, Json.max_depth, Lex.tokens, Token.Token, Tree.json_tokens, Tree.items_tokens}
+use Rattle.json.specs.{Tree.depth, Tree.items_depth, Tree.members_depth, Written.Written}
+use Rattle.json.proofs.Printed.{Strings.escape_byte_plain, Trees.value-json_tokens}
 use Rattle.distping_report.specs.Objects.{Shape, nothing, truth, number, text, texts, object, objects, Layout, no_member, member, Layouts, no_object, one_object, texts_in, json_of, members_in, objects_in, IsObjectLine, front, PutsMembers, BeginsLine, levels, layout_levels, object_levels}
 use Rattle.distping_report.proofs.Members.{members_tokens-front}
 

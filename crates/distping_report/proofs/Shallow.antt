@@ -1,20 +1,15 @@
 -- How deep the members of a line nest.
 use Rattle.std.proofs.Common.{◌≡◌, ℕ, ◌<◌, ◌≤◌, List, [], ◌∷◌, Option, Some, None, refl, arith}
-use Rattle.std.specs.Borrow.{Bor}
-use Rattle.std.specs.declared.net.socket_addr.SocketAddr.{SocketAddr}
+use Rattle.std.specs.{Borrow.Bor, declared.net.socket_addr.SocketAddr.SocketAddr}
 use Rattle.json.specs.Json.{max_depth}
-use Rattle.dist_cluster.specs.declared.summary.Summary.{Summary}
-use Rattle.dist_cluster.specs.declared.summary.WordCount.{WordCount}
+use Rattle.dist_cluster.specs.declared.summary.{Summary.Summary, WordCount.WordCount}
 use Rattle.dist_epmd.specs.declared.message.NodeInfo.{NodeInfo}
-use Rattle.dist_probe.specs.declared.asking.Peer.{Peer}
-use Rattle.dist_probe.specs.declared.verdict.ProbeVerdict.{ProbeVerdict}
-use Rattle.distping_report.specs.declared.asked.Listen.{Listen}
-use Rattle.distping_report.specs.declared.found.ProbeOutcome.{ProbeOutcome}
-use Rattle.distping_report.specs.declared.taken.Caller.{Caller}
-use Rattle.distping_report.specs.declared.taken.Taken.{Taken}
-use Rattle.distping_report.specs.Objects.{Shape, Layout, member, object, objects, layout_levels, layout_of, levels, number_or_null, object_levels, shape_of, text_or_null}
+use Rattle.dist_probe.specs.declared.{asking.Peer.Peer, verdict.ProbeVerdict.ProbeVerdict}
+use Rattle.distping_report.specs.Objects.{Shape, Layout, member, object, objects, layout_levels, layout_of, levels, number_or_null, object_levels, shape_of}
+use Rattle.distping_report.specs.Objects.{text_or_null}
 use Rattle.distping_report.specs.Layouts.{answer_word, caller_layout, counts_layout, node_layout, peer_shape, registration_shape, summary_layout, tries_in}
-use Rattle.distping_report.specs.declared.objects.member.Value.{Value}
+use Rattle.distping_report.specs.declared.taken.{Caller.Caller, Taken.Taken}
+use Rattle.distping_report.specs.declared.{asked.Listen.Listen, found.ProbeOutcome.ProbeOutcome, objects.member.Value.Value}
 use Rattle.distping_report.specs.declared.objects.member.Value.TheVariants as value
 
 pub record IsShallow (l : Layout) : Type 0 where

@@ -1,43 +1,24 @@
 -- THE MEMBERS OF EACH LINE OF JSON.
 use Rattle.std.specs.Prelude.{ℕ, List, [], ◌∷◌, Option, Some, None, codes, false, not, option_map}
-use Rattle.std.specs.Fmt.{digits}
-use Rattle.std.specs.Net.Socket.{socket_ip}
-use Rattle.std.specs.Net.Text.{ip_text}
-use Rattle.std.specs.declared.net.socket_addr.SocketAddr.{SocketAddr}
+use Rattle.std.specs.{Fmt.digits, Net.Socket.socket_ip, Net.Text.ip_text, declared.net.socket_addr.SocketAddr.SocketAddr}
 use Rattle.dist_epmd.specs.declared.message.NodeInfo.{NodeInfo}
-use Rattle.dist_flags.specs.Names.{flag_of}
-use Rattle.dist_flags.specs.Releases.{missing, release_of, required_by}
+use Rattle.dist_flags.specs.{Names.flag_of, Releases.missing, Releases.release_of, Releases.required_by, declared.release.Release.Release}
 use Rattle.dist_flags.specs.declared.dflag.Dflag.TheVariants as flag
-use Rattle.dist_flags.specs.declared.release.Release.{Release}
 use Rattle.dist_flags.specs.declared.release.Release.TheVariants as release
-use Rattle.dist_names.specs.Escaped.{escapes_of}
-use Rattle.dist_names.specs.Flags.{has_all}
+use Rattle.dist_names.specs.{Escaped.escapes_of, Flags.has_all}
 use Rattle.dist_messages.specs.Spelling.{text_of}
-use Rattle.dist_probe.specs.Sentences.{cause_of, remedy_of}
-use Rattle.dist_probe.specs.Unreached.{unreached_word}
-use Rattle.dist_probe.specs.Words.{status_of, verdict_word}
-use Rattle.dist_probe.specs.declared.asking.Peer.{Peer}
+use Rattle.dist_probe.specs.{Sentences.cause_of, Sentences.remedy_of, Unreached.unreached_word, Words.status_of, Words.verdict_word}
+use Rattle.dist_probe.specs.declared.{asking.Peer.Peer, verdict.ProbeVerdict.ProbeVerdict}
 use Rattle.dist_probe.specs.declared.unreached.Unreached.TheVariants as unreached
-use Rattle.dist_probe.specs.declared.verdict.ProbeVerdict.{ProbeVerdict}
 use Rattle.dist_probe.specs.declared.verdict.ProbeVerdict.TheVariants as verdict
-use Rattle.dist_cluster.specs.Pairs.{pair_cause, pair_status, pair_word}
-use Rattle.dist_cluster.specs.Targets.{group_word}
-use Rattle.dist_cluster.specs.declared.change.VerdictChange.{VerdictChange}
-use Rattle.dist_cluster.specs.declared.latencies.LatencySummary.{LatencySummary}
-use Rattle.dist_cluster.specs.declared.pairs.Pairing.{Pairing}
-use Rattle.dist_cluster.specs.declared.summary.Summary.{Summary}
-use Rattle.dist_cluster.specs.declared.summary.WordCount.{WordCount}
-use Rattle.dist_cluster.specs.declared.targets.Group.{Group}
+use Rattle.dist_cluster.specs.{Pairs.pair_cause, Pairs.pair_status, Pairs.pair_word, Targets.group_word}
+use Rattle.dist_cluster.specs.declared.{change.VerdictChange.VerdictChange, latencies.LatencySummary.LatencySummary, pairs.Pairing.Pairing}
+use Rattle.dist_cluster.specs.declared.{summary.Summary.Summary, summary.WordCount.WordCount, targets.Group.Group}
 use Rattle.distping_report.specs.TakenWords.{taken_cause, taken_status, taken_word}
-use Rattle.distping_report.specs.Watched.{word_in_verdict}
-use Rattle.distping_report.specs.declared.asked.Listen.{Listen}
-use Rattle.distping_report.specs.declared.found.ProbeOutcome.{ProbeOutcome}
-use Rattle.distping_report.specs.declared.left_out.LeftOut.{LeftOut}
-use Rattle.distping_report.specs.declared.taken.Caller.{Caller}
-use Rattle.distping_report.specs.declared.taken.Taken.{Taken}
-use Rattle.distping_report.specs.declared.watched.Seen.{Seen}
-use Rattle.distping_report.specs.Objects.{Shape, nothing, number, text, texts, truth, object, objects, Layout, no_member, member}
-use Rattle.distping_report.specs.Objects.{Layouts, no_object, one_object, flag_names, number_or_null, text_or_null}
+use Rattle.distping_report.specs.Objects.{Shape, nothing, number, text, texts, truth, object, objects, Layout, no_member, member, Layouts, no_object}
+use Rattle.distping_report.specs.Objects.{one_object, flag_names, number_or_null, text_or_null}
+use Rattle.distping_report.specs.{Watched.word_in_verdict, declared.asked.Listen.Listen, declared.found.ProbeOutcome.ProbeOutcome}
+use Rattle.distping_report.specs.{declared.left_out.LeftOut.LeftOut, declared.taken.Caller.Caller, declared.taken.Taken.Taken, declared.watched.Seen.Seen}
 
 -- an address without its port
 abbrev pub address_text : SocketAddr → List ℕ

@@ -1,9 +1,7 @@
 -- The lines about several nodes: what a port mapper has in place of a name, a summary of all nodes, and how long answers took.
 use Rattle.std.specs.Prelude.{ℕ, List, [], ◌∷◌, ◌++◌, Option, Some, None, codes, decimal}
 use Rattle.dist_names.specs.Escaped.{in_double_quotes}
-use Rattle.dist_cluster.specs.declared.latencies.LatencySummary.{LatencySummary}
-use Rattle.dist_cluster.specs.declared.summary.Summary.{Summary}
-use Rattle.dist_cluster.specs.declared.summary.WordCount.{WordCount}
+use Rattle.dist_cluster.specs.declared.{latencies.LatencySummary.LatencySummary, summary.Summary.Summary, summary.WordCount.WordCount}
 use Rattle.distping_report.specs.declared.watched.Answers.{Answers}
 
 -- the line of a text that a port mapper has in place of a node's name

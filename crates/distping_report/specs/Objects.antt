@@ -1,18 +1,11 @@
 -- JSON OBJECTS, each on a line of its own: which members they have, in which order, and the value of each.
 use Rattle.std.specs.Prelude.{◌≡◌, ℕ, List, [], ◌∷◌, ◌++◌, ◌<◌, ◌≤◌, suc, max, Bool, false, Option, Some, None, All, decimal, filter, map}
-use Rattle.std.specs.Borrow.{Bor}
-use Rattle.std.specs.Fmt.{digits}
-use Rattle.std.specs.Net.Text.{ip_text}
-use Rattle.dist_flags.specs.Names.{all_flags, flag_of, name_of}
-use Rattle.dist_flags.specs.declared.dflag.Dflag.{Dflag}
-use Rattle.dist_names.specs.Escaped.{escapes_of}
-use Rattle.dist_names.specs.Flags.{has_all}
-use Rattle.json.specs.Json as json
+use Rattle.std.specs.{Borrow.Bor, Fmt.digits, Net.Text.ip_text}
+use Rattle.dist_flags.specs.{Names.all_flags, Names.flag_of, Names.name_of, declared.dflag.Dflag.Dflag}
+use Rattle.dist_names.specs.{Escaped.escapes_of, Flags.has_all}
 use Rattle.json.specs.Json.{Json, Items, no_items, item, Members, document, max_depth}
-use Rattle.json.specs.Print.{print}
-use Rattle.json.specs.Token.{Token}
-use Rattle.json.specs.Tree.{json_tokens}
-use Rattle.json.specs.Written.{Written}
+use Rattle.json.specs.{Print.print, Token.Token, Tree.json_tokens, Written.Written}
+use Rattle.json.specs.Json as json
 use Rattle.distping_report.specs.declared.objects.member.Value.{Value}
 use Rattle.distping_report.specs.declared.objects.member.Value.TheVariants as value
 

@@ -1,17 +1,11 @@
 -- What is printed: the pieces of a line, and the lines of a verdict.
 use Rattle.std.specs.Prelude.{◌==◌, false, ℕ, List, [], ◌∷◌, codes, decimal, if◌then◌else◌}
-use Rattle.std.specs.Fmt.{digits}
-use Rattle.std.specs.List.{concat, flat_map}
-use Rattle.std.specs.Net.Text.{ip_text}
-use Rattle.dist_flags.specs.Names.{all_flags, flag_of, name_of}
-use Rattle.dist_flags.specs.declared.dflag.Dflag.{Dflag}
-use Rattle.dist_names.specs.Escaped.{escapes_of, in_double_quotes}
-use Rattle.dist_names.specs.Flags.{has_all}
+use Rattle.std.specs.{Fmt.digits, List.concat, List.flat_map, Net.Text.ip_text}
+use Rattle.dist_flags.specs.{Names.all_flags, Names.flag_of, Names.name_of, declared.dflag.Dflag.Dflag}
+use Rattle.dist_names.specs.{Escaped.escapes_of, Escaped.in_double_quotes, Flags.has_all}
 use Rattle.distping_report.specs.declared.piece.LinePiece.{LinePiece}
 use Rattle.distping_report.specs.declared.piece.LinePiece.TheVariants as piece
-use Rattle.dist_probe.specs.declared.verdict.ProbeVerdict.{ProbeVerdict}
-use Rattle.dist_probe.specs.Sentences.{cause_of, remedy_of}
-use Rattle.dist_probe.specs.Words.{status_of, verdict_word}
+use Rattle.dist_probe.specs.{declared.verdict.ProbeVerdict.ProbeVerdict, Sentences.cause_of, Sentences.remedy_of, Words.status_of, Words.verdict_word}
 
 -- the mark of an exit status, in UTF-8: a check mark for 0, else a cross
 abbrev pub mark_of : ℕ → List ℕ

@@ -1,6 +1,5 @@
 -- The word of a printed verdict, as the lines of watched nodes have it.
-use Rattle.std.specs.Prelude.{ℕ, ◌==◌, Bool, List}
-use Rattle.std.specs.List.{before_first}
+use Rattle.std.specs.{Prelude.ℕ, Prelude.◌==◌, Prelude.Bool, Prelude.List, List.before_first}
 
 -- the character ':'
 abbrev pub is_colon : ℕ → Bool

@@ -1,7 +1,6 @@
 //! The pieces of a line: the program's own text, and escaped text from outside.
 
-ghost use Rattle.std.specs.Prelude.{◌≡◌, ◌++◌, ◌∷◌, [], IfOk, OnOk, string_bytes};
-ghost use Rattle.std.specs.List.{flat_map};
+ghost use Rattle.std.specs.{Prelude.◌≡◌, Prelude.◌++◌, Prelude.◌∷◌, Prelude.[], Prelude.IfOk, Prelude.OnOk, Prelude.string_bytes, List.flat_map};
 ghost use Rattle.distping_report.specs.Texts.{flag_text, piece_text};
 
 use dist_flags::Dflag;

@@ -1,7 +1,6 @@
 //! What was observed of a watched node.
 
-ghost use Rattle.std.specs.Prelude.{◌≡◌};
-ghost use Rattle.std.specs.List.{position, position_or_len};
+ghost use Rattle.std.specs.{Prelude.◌≡◌, List.position, List.position_or_len};
 ghost use Rattle.distping_report.specs.Watched.{is_colon, word_in_verdict};
 
 use dist_cluster::LatencySummary;

@@ -1,13 +1,11 @@
 -- The exit status of a fault, what bytes give, and what can be asked for.
 use Rattle.std.specs.Prelude.{◌≡◌, ◌<◌, ℕ, true, false, List, length, Result, Ok, Err, is_some}
 use Rattle.dist_names.specs.NodeName.{IsNodeName}
-use Rattle.distping_words.specs.declared.command.Wanted.{Wanted}
-use Rattle.distping_words.specs.declared.fault.Fault.{Fault}
+use Rattle.distping_words.specs.declared.{command.Wanted.Wanted, fault.Fault.Fault, refusal.Refusal.Refusal}
 use Rattle.distping_words.specs.declared.fault.Fault.TheVariants as fault
+use Rattle.distping_words.specs.declared.refusal.Refusal.TheVariants as refusal
 use Rattle.dist_program.specs.declared.word_fault.WordFault.{WordFault}
 use Rattle.dist_program.specs.declared.word_fault.WordFault.TheVariants as word
-use Rattle.distping_words.specs.declared.refusal.Refusal.{Refusal}
-use Rattle.distping_words.specs.declared.refusal.Refusal.TheVariants as refusal
 
 -- 2 if the command line is at fault, else 1
 abbrev pub fault_status : Fault → ℕ

@@ -1,9 +1,7 @@
 //! What the command line asks for.
 
-ghost use Rattle.std.specs.Prelude.{◌≡◌, ◌+◌, ◌*◌, IfOk, IfSome, None};
-ghost use Rattle.std.specs.Str.{IsUtf8};
+ghost use Rattle.std.specs.{Prelude.◌≡◌, Prelude.◌+◌, Prelude.◌*◌, Prelude.IfOk, Prelude.IfSome, Prelude.None, Str.IsUtf8, Duration.as_nanos};
 ghost use Rattle.dist_names.specs.NodeName.{host_of};
-ghost use Rattle.std.specs.Duration.{as_nanos};
 ghost use Rattle.distping_words.specs.Faults.{Fits, GivesName};
 ghost use Rattle.distping_words.specs.declared.command.Instead.TheVariants as instead;
 

@@ -1,8 +1,7 @@
 //! What stops the program before a verdict, and how that is reported.
 
 ghost use Rattle.std.specs.Prelude.{◌≡◌, ◌⊎◌};
-ghost use Rattle.distping_words.specs.Faults.{fault_status};
-ghost use Rattle.distping_words.specs.declared.fault.Fault.TheVariants.{NoMemory, WriteFailed};
+ghost use Rattle.distping_words.specs.{Faults.fault_status, declared.fault.Fault.TheVariants.NoMemory, declared.fault.Fault.TheVariants.WriteFailed};
 
 use dist_cluster::WatchError;
 use std::alloc::{AllocError, AllocFailed};

@@ -44,10 +44,20 @@ fn answer(alloc: Global, all: &[Closed]) -> &'static str {
     }
 }
 
-// Empties the body of a frame, `body`, or else sets the ticket.
+// Changes the first byte. The same change once more undoes it.
+fn flip(alloc: Global, text: &mut ByteString) -> Option<()> {
+    let mut bytes = Vec::from_slice(alloc, text.as_slice()).ok()?;
+    *bytes.first_mut()? ^= 1;
+    *text = ByteString::from_vec(bytes);
+    Some(())
+}
+
+// Changes the link of a connection that came, the body of a frame, or what was sent; or else sets the ticket.
 fn alter(alloc: Global, line: &mut Line, what: &str) -> Option<()> {
     match (what, &mut line.event) {
-        ("body", Event::Frame { body, .. }) => *body = ByteString::new(alloc),
+        ("link", Event::Incoming { link }) => *link ^= 1024,
+        ("body", Event::Frame { body, .. }) => return flip(alloc, body),
+        ("say", _) => return flip(alloc, &mut line.reply.say),
         (ticket, _) => line.ticket = ticket.parse::<u64>().ok()?,
     }
     Some(())
@@ -80,12 +90,14 @@ fn is_so(alloc: Global, all: &mut [Closed], part: &str) -> bool {
     }
 }
 
-// A ticket of the other node; two tickets exchanged. Then each ticket doubled plus one (shifted_tickets), that of the connection that came
-// one below that of `opened`, and one below that of the dial. Then the original tickets, without the last line, and without a body.
+// A ticket of the other node; two tickets exchanged; the link of the connection that came, a byte of a frame's body, and a byte of what
+// was sent last, each undone. Then each ticket doubled plus one (shifted_tickets), that of the connection that came one below that of
+// `opened`, and one below that of the dial. Then the original tickets, without the last line.
 const ALTERED: &str = "\
     ? agreed, 0 2 3, ? TicketTwice, 0 2 5, 0 3 4, ? TicketFalls, 0 2 4, 0 3 5, ? agreed, \
+    1 0 link, ? Unpaired, 1 0 link, 1 1 body, ? NotSent, 1 1 body, 1 2 say, ? OtherReply, 1 2 say, ? agreed, \
     0 4 15, 0 3 11, 0 2 9, 0 1 3, 0 0 1, 1 2 13, 1 1 7, 1 0 5, ? agreed, 1 0 2, ? agreed, 1 0 0, ? OtherReply, \
-    1 0 5, 0 4 out, ? OtherReply, 1 1 body, ? NotSent";
+    1 0 5, 0 4 out, ? OtherReply";
 
 #[test]
 fn audited_handshake(rt: HostRuntime) {
@@ -97,19 +109,41 @@ fn audited_handshake(rt: HostRuntime) {
     }
 }
 
-// The result of the audit of these histories.
-fn audit_answer(rt: &impl Wait, alloc: Global, steps: &str) -> Option<&'static str> {
-    Some(answer(alloc, &histories(rt, alloc, steps)?))
+// The result of the audit of these histories, or of node b's alone.
+fn audit_answer(
+    rt: &impl Wait,
+    alloc: Global,
+    steps: &str,
+    is_b_alone: bool,
+) -> Option<&'static str> {
+    let all = histories(rt, alloc, steps)?;
+    Some(answer(alloc, all.get(usize::from(is_b_alone)..)?))
 }
 
 // No node; a connection that no node dialled; two dials of a node.
 #[test]
 fn small_audits(rt: HostRuntime) {
     assert_eq!(rt; answer(rt.alloc(), &[]), "not agreed");
-    assert_eq!(rt;
-        audit_answer(&rt, rt.alloc(), "b incoming"),
-        Some("Unpaired")
-    );
-    let dialled = audit_answer(&rt, rt.alloc(), "a dial, a ended, a dial");
+    let alone = audit_answer(&rt, rt.alloc(), "b incoming", true);
+    assert_eq!(rt; alone, Some("Unpaired"));
+    let dialled = audit_answer(&rt, rt.alloc(), "a dial, a ended, a dial", false);
     assert_eq!(rt; dialled, Some("not agreed"));
+}
+
+// Whether an audit finds that both agree, or runs out of memory and then finds it on the next try.
+fn is_agreed(rt: &impl Wait, alloc: Global) -> Option<bool> {
+    let all = histories(rt, alloc, HANDSHAKE)?;
+    let noted = answer(alloc, &all);
+    Some(noted == "agreed" || noted == "NoMemory" && answer(alloc, &all) == "agreed")
+}
+
+// Each request for memory is refused in turn. If one is refused before the audit, the test is repeated; else the audit reports it,
+// unless a vector that grows can do with less.
+#[test]
+fn audit_memory_refused(rt: HostRuntime) {
+    let noted = match is_agreed(&rt, rt.alloc()) {
+        None => is_agreed(&rt, rt.alloc()),
+        noted => noted,
+    };
+    assert!(rt; noted == Some(true));
 }

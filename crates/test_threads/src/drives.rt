@@ -1,7 +1,6 @@
 //! Calls that drive an end: their stream fails, ends, is cut or is quiet, their turns run out, or memory does.
 
-use crate::setting::{CHALLENGE, Rising, bytes_of, event, number, setup_of, word};
-use dist_core::Node;
+use crate::setting::{CHALLENGE, Rising, bytes_of, node_after, number, word};
 use dist_drive::{Desk, FaultStream, MemoryDesk, Outcome, drive};
 use dist_peers::EndId;
 use std::alloc::Global;
@@ -37,16 +36,6 @@ fn stream_of(alloc: Global, row: &str, at: u64) -> Option<FaultStream> {
     let mut stream = FaultStream::new(alloc, input);
     set_faults(&mut stream, row, at)?;
     Some(stream)
-}
-
-// The node of this letter after the events for these words. `None`: it refused one, or memory was refused.
-fn node_after(alloc: Global, letter: &str, words: &str) -> Option<Node> {
-    let mut node = Node::new(alloc, setup_of(alloc, letter)?);
-    for word in words.split(' ') {
-        let event = event(alloc, word)?;
-        node.step(alloc, &event, CHALLENGE).ok()?;
-    }
-    Some(node)
 }
 
 // The desk of the first end: of node a, which `dialled` node b; or of node b, whose end is `gone` before the call, or accepted.

@@ -1,7 +1,7 @@
 //! Nodes under locks, each with two seats that give it events in turn, and the queue of dial orders.
 
 use crate::setting::{CHALLENGE, LETTERS, event, setup_of, word};
-use dist_locked::{Closed, DialOrder, LockedNode, Orders, Seat, Tickets, close};
+use dist_locked::{CloseError, Closed, DialOrder, LockedNode, Orders, Seat, Tickets, close};
 use std::alloc::Global;
 use std::sync::{Arc, Wait};
 use std::test::*;
@@ -117,6 +117,24 @@ fn memory_refused_in_a_step(rt: HostRuntime) {
     assert!(rt; is_closed(&rt, rt.alloc(), 0) != Some(false));
 }
 
+// The second seat of node a makes three steps, after two of node b.
+const STEPS_OF_ANOTHER: &str = "\
+    b incoming, b name, a incoming, a incoming, a incoming, a incoming, a incoming, a incoming";
+
+// Why node b is not closed without its second seat, or with that of node a in its place.
+fn refusal_without(rt: &impl Wait, alloc: Global, is_replaced: bool) -> Option<CloseError> {
+    let mut sides = sides_after(rt, alloc, STEPS_OF_ANOTHER)?;
+    let (mut side, mut other) = (sides.pop()?, sides.pop()?);
+    let _ = side.seats.pop();
+    if is_replaced {
+        side.seats.push(other.seats.pop()?).ok()?;
+    }
+    match close(side.node.into_book(), side.seats) {
+        Ok(_) => None,
+        Err((error, _, _)) => Some(error),
+    }
+}
+
 // The orders 4, 5 and 6 are put into a queue of two, three are taken, 7 is put and taken.
 fn are_in_turn(rt: &impl Wait, alloc: Global) -> Option<bool> {
     let (orders, mut put, mut one, two) = Orders::new(alloc, 2).ok()?;
@@ -144,4 +162,8 @@ fn are_in_turn(rt: &impl Wait, alloc: Global) -> Option<bool> {
 fn two_seats_and_orders(rt: HostRuntime) {
     assert!(rt; is_closed(&rt, rt.alloc(), 4) == Some(true));
     assert!(rt; are_in_turn(&rt, rt.alloc()) == Some(true));
+    let missing = refusal_without(&rt, rt.alloc(), false);
+    assert!(rt; missing == Some(CloseError::MissingSeat));
+    let absent = refusal_without(&rt, rt.alloc(), true);
+    assert!(rt; absent == Some(CloseError::ReceiptAbsent));
 }

@@ -1,6 +1,6 @@
-//! What the tests share: two nodes, what each sends in a handshake, the events, and a source of challenges.
+//! What the tests share: three nodes, what a and b send in a handshake, the events, and a source of challenges.
 
-use dist_core::{Event, Opening, Setup, Why};
+use dist_core::{Event, Node, Opening, Setup, Why};
 use dist_drive::Draws;
 use dist_names::{ByteString, NodeName};
 use dist_peers::EndId;
@@ -10,19 +10,20 @@ use std::alloc::Global;
 /// The challenge of node b.
 pub const CHALLENGE: u32 = 123456789;
 
-/// Nodes a and b. Node a limits which nodes may connect, so that its list of names is copied where a setup is.
-const NODES: &str = "\
+/// Nodes a, b and c. Node a limits which nodes may connect, so that its list of names is copied where a setup is.
+pub const NODES: &str = "\
 node a@127.0.0.1 ABCDEFGHIJKLMNOPQRSTUVWXYZabcdefghijklmnopqrstuvwxyz0 401000004 5 allow b@127.0.0.1
 node b@127.0.0.1 ABCDEFGHIJKLMNOPQRSTUVWXYZabcdefghijklmnopqrstuvwxyz0 101000104 6
+node c@127.0.0.1 ABCDEFGHIJKLMNOPQRSTUVWXYZabcdefghijklmnopqrstuvwxyz0 101000104 8
 ";
 
-/// The letters of the nodes, in their order.
+/// The letters of the nodes that have a seat, in their order.
 pub const LETTERS: &str = "ab";
 
-// Node a sends its name, and a reply to the challenge 123456789; node b sends a status, this challenge and its acknowledgement; then
-// comes a packet of 5 bytes behind a tick. The old name is that of a node that only knows version 5, written by hand from the ERTS User's
-// Guide, Distribution Handshake: a tag, the version 5, the flags 4 in four bytes, the name.
-const FRAMES: [(&str, &[u8]); 8] = [
+// Node a sends its name, a reply to the challenge 123456789, one with a wrong bit, and the status `true`; node b sends the other statuses,
+// this challenge and its acknowledgement; then comes a packet of 5 bytes behind a tick. The old name is that of a node that only knows
+// version 5, written by hand from the ERTS User's Guide, Distribution Handshake: a tag, the version 5, the flags 4 in four bytes, the name.
+const FRAMES: [(&str, &[u8]); 10] = [
     (
         "name",
         b"\x00\x1aN\x00\x00\x00\x04\x01\x00\x00\x04\x00\x00\x00\x05\x00\x0ba@127.0.0.1",
@@ -32,6 +33,11 @@ const FRAMES: [(&str, &[u8]); 8] = [
         "reply",
         b"\x00\x15r\x07\x5b\xcd\x15\xd1\x74\xab\x98\xd2\x77\xd9\xf5\xa5\x61\x1c\x2c\x9f\x41\x9d\x9f",
     ),
+    (
+        "wrong_reply",
+        b"\x00\x15r\x07\x5b\xcd\x15\xd1\x74\xab\x98\xd2\x77\xd9\xf5\xa5\x61\x1c\x2c\x9f\x41\x9d\x9e",
+    ),
+    ("true", b"\x00\x05strue"),
     ("ok", b"\x00\x03sok"),
     ("nok", b"\x00\x04snok"),
     (
@@ -90,28 +96,30 @@ pub fn bytes_of(alloc: Global, words: &str) -> Option<Vec<u8>> {
     Some(bytes)
 }
 
-/// The event of end 0 for a word: a frame; `dial` of node b; or what `short_event` says.
+/// The event for a word: a frame; `dial` of node b; or what `short_event` says. It is for end 0, or behind `1:` for end 1.
 pub fn event(alloc: Global, word: &str) -> Option<Event> {
+    let (end_, word) = match word.strip_prefix("1:") {
+        Some(word) => (EndId(1), word),
+        None => (EndId(0), word),
+    };
     if word == "dial" {
         let peer = NodeName::new(alloc, b"b@127.0.0.1").ok()?;
         let opening = Opening::New;
         return Some(Event::Dial { peer, opening });
     }
     let Some(body) = frame(word).get(2..) else {
-        return Some(short_event(word));
+        return Some(short_event(end_, word));
     };
     let body = ByteString::from_slice(alloc, body).ok()?;
-    Some(Event::Frame {
-        end_: EndId(0),
-        body,
-    })
+    Some(Event::Frame { end_, body })
 }
 
-// An event that takes no memory: the end is `opened`, or is `replaced` or has `ended`; for any other word, a connection has come.
-fn short_event(word: &str) -> Event {
-    let end_ = EndId(0);
+// An event that takes no memory: the end is `opened`, or is `replaced` or has `ended`; a tick is due; for any other word, a connection has
+// come.
+fn short_event(end_: EndId, word: &str) -> Event {
     match word {
         "opened" => Event::Opened { end_, link: 1 },
+        "tick" => Event::Tick { end_ },
         "ended" => Event::Lost {
             end_,
             why: Why::Ended,
@@ -122,6 +130,16 @@ fn short_event(word: &str) -> Event {
         },
         _ => Event::Incoming { link: 1 },
     }
+}
+
+/// The node of this letter after the events for these words. `None`: it refused one, or memory was refused.
+pub fn node_after(alloc: Global, letter: &str, words: &str) -> Option<Node> {
+    let mut node = Node::new(alloc, setup_of(alloc, letter)?);
+    for word in words.split(' ') {
+        let event = event(alloc, word)?;
+        node.step(alloc, &event, CHALLENGE).ok()?;
+    }
+    Some(node)
 }
 
 /// The word at this place of a row.

@@ -1,6 +1,5 @@
 //! The eleven happenings.
-ghost use Rattle.std.specs.Prelude.{◌≡◌, Ok, slice_get, IfOk};
-ghost use Rattle.std.specs.Option.{option_map};
+ghost use Rattle.std.specs.{Prelude.◌≡◌, Prelude.Ok, Prelude.slice_get, Prelude.IfOk, Option.option_map};
 ghost use Rattle.dist_world_model.specs.World.{running};
 ghost use Rattle.dist_world_model.specs.Happenings.{notify, notify_node, without_closing, begin, halt, reset};
 ghost use Rattle.dist_world_model.specs.Happenings.{reach, notify_opened, accept, deliver, take_frame, world_after, applied_at};

@@ -4,9 +4,7 @@
 //! closed. The listener itself judges two bodies: the older form of a name, and a reply if no cookie is compared.
 
 ghost use Rattle.std.specs.Prelude.{◌≡◌, IfOk};
-ghost use Rattle.dist_messages.specs.Reading.{read};
-ghost use Rattle.dist_messages.specs.Views.{message_of};
-ghost use Rattle.dist_messages.specs.declared.message.Side.TheVariants.{Dialler};
+ghost use Rattle.dist_messages.specs.{Reading.read, Views.message_of, declared.message.Side.TheVariants.Dialler};
 ghost use Rattle.distping.specs.Accepting.{AwaitsName, HearsBody, Shows, Takes, Talks, TalksOn, Writes, only, peer_in};
 ghost use Rattle.distping.specs.Listening.{close_verdict, fault_verdict, message_verdict, own_verdict, step_verdict, written_verdict};
 

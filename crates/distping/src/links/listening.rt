@@ -1,8 +1,7 @@
 //! Takes one connection, as a node takes it, and prints what the other side sends.
 
 ghost use Rattle.std.specs.Prelude.{◌≡◌};
-ghost use Rattle.distping.specs.Accepting.{AwaitsName};
-ghost use Rattle.distping.specs.Listening.{behind_left, is_probe, wants_name};
+ghost use Rattle.distping.specs.{Accepting.AwaitsName, Listening.behind_left, Listening.is_probe, Listening.wants_name};
 
 use crate::links::accepting::{END, hear, open_node, peer_in, step_verdict, talk};
 use crate::links::attempt::ProbeStream;

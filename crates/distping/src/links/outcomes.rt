@@ -1,10 +1,8 @@
 //! The result of trying the addresses of a host.
 
 ghost use Rattle.std.specs.Prelude.{◌≡◌, ◌<◌, [], length, is_some};
-ghost use Rattle.distping.specs.Places.{host_verdict};
-ghost use Rattle.distping.specs.Trying.{IsFurthest};
-ghost use Rattle.dist_probe.specs.declared.verdict.Unresolved.TheVariants.{NoName};
-ghost use Rattle.dist_probe.specs.declared.verdict.ProbeVerdict.TheVariants.{NoHost};
+ghost use Rattle.distping.specs.{Places.host_verdict, Trying.IsFurthest};
+ghost use Rattle.dist_probe.specs.declared.verdict.{Unresolved.TheVariants.NoName, ProbeVerdict.TheVariants.NoHost};
 
 use crate::links::tries::Tries;
 use dist_probe::{ProbeVerdict, Unresolved, furthest};

@@ -1,8 +1,6 @@
 //! The members of a JSON object.
 
-ghost use Rattle.std.specs.Prelude.{◌≡◌, [], IfOk, OnOk, false, string_bytes};
-ghost use Rattle.std.specs.Fmt.{digits};
-ghost use Rattle.std.specs.Net.Text.{ip_text};
+ghost use Rattle.std.specs.{Prelude.◌≡◌, Prelude.[], Prelude.IfOk, Prelude.OnOk, Prelude.false, Prelude.string_bytes, Fmt.digits, Net.Text.ip_text};
 ghost use Rattle.dist_names.specs.Escaped.{escapes_of};
 ghost use Rattle.distping_report.specs.Objects.{BeginsLine, EndsLine, IsObjectLine, PutsMembers, PutsValue};
 ghost use Rattle.distping_report.specs.Objects.{layout_of, member, names_among, no_member, object, shape_of, text, texts};

@@ -2,9 +2,8 @@
 
 ghost use Rattle.std.specs.Prelude.{◌≡◌, IfOk, option_map, string_bytes};
 ghost use Rattle.dist_names.specs.Escaped.{escapes_of};
-ghost use Rattle.distping_report.specs.Watched.{word_in_verdict};
-ghost use Rattle.distping_report.specs.Layouts.{change_layout, latency_layout};
 ghost use Rattle.distping_report.specs.Objects.{IsObjectLine, shape_of, text_or_null};
+ghost use Rattle.distping_report.specs.{Watched.word_in_verdict, Layouts.change_layout, Layouts.latency_layout};
 
 use crate::objects::member::{Value, object_line};
 use crate::watched::{Answers, Seen, verdict_word_in};

@@ -1,5 +1,4 @@
-use Rattle.dist_audit.proofs.Words.{sym, ◌∙◌}
-use Rattle.dist_audit.proofs.Tickets.{twice_part, twice_found, known_more}
+use Rattle.dist_audit.proofs.{Words.sym, Words.◌∙◌, Tickets.twice_part, Tickets.twice_found, Tickets.known_more}
 use Rattle.dist_audit.proofs.checks.twice.Goals as goal
 
 pub returns-then-has_one_of : goal.returns-then-has_one_of

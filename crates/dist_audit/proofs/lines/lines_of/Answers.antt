@@ -1,6 +1,6 @@
 use Rattle.dist_audit.proofs.Words.{IsPermutation, subst, rules, ticket_of}
-use Rattle.std.proofs.lemmas.List.Sorted.{IsNonDecreasingBy-from_sort_by_key}
 use Rattle.dist_audit.proofs.lines.lines_of.Goals as goal
+use Rattle.std.proofs.lemmas.List.Sorted.{IsNonDecreasingBy-from_sort_by_key}
 
 pub returns : goal.returns
 returns c = record {

@@ -1,5 +1,4 @@
-use Rattle.dist_audit.proofs.Words.{◌∙◌}
-use Rattle.dist_audit.proofs.Linking.{knows_more, repeat_part, repeat_found}
+use Rattle.dist_audit.proofs.{Words.◌∙◌, Linking.knows_more, Linking.repeat_part, Linking.repeat_found}
 use Rattle.dist_audit.proofs.links.link_table.Goals as goal
 
 pub returns-then-branch-clause-err : goal.returns-then-branch-clause-err

@@ -1,5 +1,4 @@
-use Rattle.dist_audit.proofs.Words.{drop}
-use Rattle.dist_audit.proofs.Walking.{Decides}
+use Rattle.dist_audit.proofs.{Words.drop, Walking.Decides}
 use Rattle.dist_audit.proofs.walk.follow_all.Given as goal
 
 -- what is left decides

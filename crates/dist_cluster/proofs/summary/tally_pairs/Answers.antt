@@ -1,5 +1,4 @@
-use Rattle.std.proofs.Common.{take, arith, sym, ap, ◌∙◌}
-use Rattle.std.proofs.lemmas.List.{take_more}
+use Rattle.std.proofs.{Common.take, Common.arith, Common.sym, Common.ap, Common.◌∙◌, lemmas.List.take_more}
 use Rattle.dist_cluster.specs.Summary.{how_many, tallied}
 use Rattle.dist_cluster.proofs.Counts.{one_more, words_of}
 use Rattle.dist_cluster.proofs.summary.tally_pairs.Goals as goal

@@ -1,6 +1,5 @@
 use Rattle.std.proofs.Common.{◌≡◌, length, map}
-use Rattle.dist_conformance.specs.Terms.{terms_of}
-use Rattle.dist_conformance.specs.Lists.{all_in, behind_items}
+use Rattle.dist_conformance.specs.{Terms.terms_of, Lists.all_in, Lists.behind_items}
 use Rattle.dist_conformance.proofs.from_text.all_of.Given as goal
 
 -- the items so far, and then those of the parts that are left, are all items

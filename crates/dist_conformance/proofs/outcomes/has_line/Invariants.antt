@@ -1,8 +1,6 @@
 use Rattle.std.proofs.Common.{◌≡◌}
-use Rattle.std.specs.Prelude.{option_copied}
-use Rattle.std.specs.List.{list_any}
-use Rattle.dist_conformance.specs.Texts.{lines_of, parts_in, bytes_left}
-use Rattle.dist_conformance.specs.Judging.{is_line}
+use Rattle.std.specs.{Prelude.option_copied, List.list_any}
+use Rattle.dist_conformance.specs.{Texts.lines_of, Texts.parts_in, Texts.bytes_left, Judging.is_line}
 use Rattle.dist_conformance.proofs.outcomes.has_line.Given as goal
 
 -- what is left decides

@@ -1,5 +1,4 @@
-use Rattle.std.proofs.Common.{ℕ, List, length, ◌-◌, Bor, sym}
-use Rattle.std.proofs.lemmas.List.{take-map}
+use Rattle.std.proofs.{Common.ℕ, Common.List, Common.length, Common.◌-◌, Common.Bor, Common.sym, lemmas.List.take-map}
 use Rattle.dist_conformance.proofs.reading.first_lines.Goals as goal
 
 pub returns : goal.returns

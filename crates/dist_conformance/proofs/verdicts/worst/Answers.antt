@@ -1,7 +1,6 @@
 use Rattle.std.proofs.Common.{◌≤◌, [], sym, subst}
 use Rattle.std.specs.Prelude.{◌≢◌, All, Contains}
-use Rattle.dist_conformance.specs.declared.verdicts.TalkVerdict.{TalkVerdict}
-use Rattle.dist_conformance.specs.Verdicts.{rank_of}
+use Rattle.dist_conformance.specs.{declared.verdicts.TalkVerdict.TalkVerdict, Verdicts.rank_of}
 use Rattle.dist_conformance.proofs.Ranks.{none_worse, one_of_them}
 use Rattle.dist_conformance.proofs.verdicts.worst.Goals as goal
 

@@ -1,7 +1,7 @@
 use Rattle.dist_drive.proofs.Words.{◌≡◌, Bool, [], sym, subst, arith, IfErr-weaker, IfOk-weaker, to_come, EndId, Finish, EndsSo, GoesOn, Place, Ending}
-use Rattle.dist_core_ends.specs.declared.phase.Still.TheVariants as still
 use Rattle.dist_drive.proofs.{Carrying.gone, Carrying.piece_ends, Carrying.piece_comes, Keeping.FrameLaws, Shown.ok_so}
 use Rattle.dist_drive.proofs.driving.turn.Goals as goal
+use Rattle.dist_core_ends.specs.declared.phase.Still.TheVariants as still
 
 pub returns-in-Gone-clause-ends : goal.returns-in-Gone-clause-ends
 returns-in-Gone-clause-ends g c =

@@ -1,8 +1,8 @@
 use Rattle.dist_drive.proofs.Words.{refl, inl, Start, Place}
-use Rattle.dist_core_ends.specs.declared.why.Why.TheVariants as why
-use Rattle.dist_drive.specs.declared.outcome.Ending.TheVariants as ending
 use Rattle.dist_drive.proofs.{Carrying.lacks, Handshakes.comes_up, Keeping.FrameLaws}
 use Rattle.dist_drive.proofs.handshaking.handshake.Goals as goal
+use Rattle.dist_core_ends.specs.declared.why.Why.TheVariants as why
+use Rattle.dist_drive.specs.declared.outcome.Ending.TheVariants as ending
 
 pub newest_record-requires : goal.newest_record-requires
 newest_record-requires g c = c.in-Ok.ensures.up.1.newest refl

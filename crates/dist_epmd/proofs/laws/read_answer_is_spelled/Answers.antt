@@ -1,5 +1,4 @@
-use Rattle.dist_epmd.proofs.Words.{subst, AnswerFits, SpellsAnswer}
-use Rattle.dist_epmd.proofs.Messages.{IsReading, answer_again, answer_reading}
+use Rattle.dist_epmd.proofs.{Words.subst, Words.AnswerFits, Words.SpellsAnswer, Messages.IsReading, Messages.answer_again, Messages.answer_reading}
 use Rattle.dist_epmd.proofs.laws.read_answer_is_spelled.Goals as goal
 
 pub returns-clause-read : goal.returns-clause-read

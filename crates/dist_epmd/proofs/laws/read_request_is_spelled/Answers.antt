@@ -1,5 +1,4 @@
-use Rattle.dist_epmd.proofs.Words.{subst, RequestFits, SpellsRequest}
-use Rattle.dist_epmd.proofs.Messages.{IsReading, request_again, request_reading}
+use Rattle.dist_epmd.proofs.{Words.subst, Words.RequestFits, Words.SpellsRequest, Messages.IsReading, Messages.request_again, Messages.request_reading}
 use Rattle.dist_epmd.proofs.laws.read_request_is_spelled.Goals as goal
 
 pub returns-clause-read : goal.returns-clause-read

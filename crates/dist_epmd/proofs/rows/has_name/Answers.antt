@@ -1,5 +1,4 @@
-use Rattle.dist_epmd.proofs.Words.{◌∙◌}
-use Rattle.dist_epmd.proofs.Named.{has_at_name}
+use Rattle.dist_epmd.proofs.{Words.◌∙◌, Named.has_at_name}
 use Rattle.dist_epmd.proofs.rows.has_name.Goals as goal
 
 pub returns : goal.returns

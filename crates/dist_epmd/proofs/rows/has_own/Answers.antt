@@ -1,5 +1,4 @@
-use Rattle.dist_epmd.proofs.Words.{false, sym, ap, ◌∙◌, values, option_map_or, is_of}
-use Rattle.dist_epmd.proofs.Own.{own_is}
+use Rattle.dist_epmd.proofs.{Words.false, Words.sym, Words.ap, Words.◌∙◌, Words.values, Words.option_map_or, Words.is_of, Own.own_is}
 use Rattle.dist_epmd.proofs.rows.has_own.Goals as goal
 
 pub returns-in-Some : goal.returns-in-Some

@@ -1,5 +1,4 @@
-use Rattle.dist_epmd.proofs.Words.{sym, ap, ◌∙◌, subst, values_of, StandAtNames}
-use Rattle.dist_epmd.proofs.Named.{put_rows}
+use Rattle.dist_epmd.proofs.{Words.sym, Words.ap, Words.◌∙◌, Words.subst, Words.values_of, Words.StandAtNames, Named.put_rows}
 use Rattle.dist_epmd.proofs.rows.put_row.Goals as goal
 
 pub returns-clause-ok : goal.returns-clause-ok

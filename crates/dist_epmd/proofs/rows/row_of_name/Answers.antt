@@ -1,5 +1,4 @@
-use Rattle.dist_epmd.proofs.Words.{◌∙◌}
-use Rattle.dist_epmd.proofs.Named.{found_at_name}
+use Rattle.dist_epmd.proofs.{Words.◌∙◌, Named.found_at_name}
 use Rattle.dist_epmd.proofs.rows.row_of_name.Goals as goal
 
 pub returns : goal.returns

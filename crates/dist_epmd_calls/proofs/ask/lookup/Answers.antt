@@ -1,9 +1,9 @@
 use Rattle.dist_epmd_calls.proofs.Words.{◌≡◌, suc, false, ltb, length, Ok, Err, sym, subst, arith, le-ltb, written_request, read_answer, AsksFor, Settles}
 use Rattle.dist_epmd_calls.proofs.Words.{info_meant}
-use Rattle.dist_epmd.specs.declared.message.Asked.TheVariants as asked
-use Rattle.dist_epmd.specs.declared.message.Request.TheVariants as request
 use Rattle.dist_epmd_calls.proofs.Asks.{Exchanges, reported, unsent, asks_none, fits_frame, answer_of, refusal_of}
 use Rattle.dist_epmd_calls.proofs.ask.lookup.Goals as goal
+use Rattle.dist_epmd.specs.declared.message.Asked.TheVariants as asked
+use Rattle.dist_epmd.specs.declared.message.Request.TheVariants as request
 
 pub returns-in_err-from_slice : goal.returns-in_err-from_slice
 returns-in_err-from_slice g c =

@@ -1,7 +1,7 @@
 use Rattle.dist_epmd_calls.proofs.Words.{Result, sym, subst, Creation, read_answer, Settles, creation_meant, LookupError}
-use Rattle.dist_epmd.specs.declared.message.Asked.TheVariants as asked
 use Rattle.dist_epmd_calls.proofs.Creations.{creation_settles}
 use Rattle.dist_epmd_calls.proofs.registration.creation_of.Goals as goal
+use Rattle.dist_epmd.specs.declared.message.Asked.TheVariants as asked
 
 pub returns : goal.returns
 returns c =

@@ -1,6 +1,5 @@
-use Rattle.dist_epmd_calls.proofs.Words.{◌+◌, ◌-◌, ◌++◌, get_or, drop}
-use Rattle.dist_epmd_calls.proofs.Asks.{reported}
 use Rattle.dist_epmd_calls.proofs.Registering.{answer_none, answer_cut, answer_whole, answer_is, first_len, more_len, rest_few}
+use Rattle.dist_epmd_calls.proofs.{Words.◌+◌, Words.◌-◌, Words.◌++◌, Words.get_or, Words.drop, Asks.reported}
 use Rattle.dist_epmd_calls.proofs.registration.read_answer.Goals as goal
 
 pub returns-in_err-read_exact-clause-hears : goal.returns-in_err-read_exact-clause-hears

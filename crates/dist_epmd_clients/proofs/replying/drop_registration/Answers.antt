@@ -1,9 +1,8 @@
 use Rattle.std.proofs.Common.{Option, ◌∙◌, ap, Bor}
 use Rattle.std.specs.Prelude.{option_copied}
-use Rattle.dist_epmd_clients.proofs.Words.{Client}
-use Rattle.dist_epmd_clients.specs.Standing.{client_name, talk_name}
-use Rattle.dist_epmd_clients.proofs.Standings.{closed_same}
+use Rattle.dist_epmd_clients.proofs.{Words.Client, Standings.closed_same}
 use Rattle.dist_epmd_clients.proofs.replying.drop_registration.Goals as goal
+use Rattle.dist_epmd_clients.specs.Standing.{client_name, talk_name}
 
 pub returns-in_default : goal.returns-in_default
 returns-in_default g c =

@@ -1,7 +1,6 @@
 use Rattle.std.proofs.Common.{◌∙◌, ap, sym, subst}
 use Rattle.dist_epmd.specs.Registrations.{Registrations, after_closed}
-use Rattle.dist_epmd_clients.proofs.Words.{Keeps}
-use Rattle.dist_epmd_clients.proofs.Standings.{keeps_back}
+use Rattle.dist_epmd_clients.proofs.{Words.Keeps, Standings.keeps_back}
 use Rattle.dist_epmd_clients.proofs.replying.reply_to.Goals as goal
 
 pub returns-in_default-clause-err : goal.returns-in_default-clause-err

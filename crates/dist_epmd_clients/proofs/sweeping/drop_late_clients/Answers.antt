@@ -1,5 +1,4 @@
-use Rattle.std.proofs.Common.{rules, not}
-use Rattle.std.proofs.lemmas.Map.Made.{filter_same_pairs}
+use Rattle.std.proofs.{Common.rules, Common.not, lemmas.Map.Made.filter_same_pairs}
 use Rattle.dist_epmd_clients.specs.Sweeping.{is_late}
 use Rattle.dist_epmd_clients.proofs.sweeping.drop_late_clients.Goals as goal
 

@@ -1,6 +1,6 @@
 use Rattle.std.proofs.Common.{rules, tests, ◌≡◌, ◌∙◌, Option, Some, None, refl}
-use Rattle.std.specs.Option.{option_map}
 use Rattle.std.proofs.lemmas.Iterator.Consumers.{nth_from_yields_List, YieldsList-from_filter_map, YieldsList-from_rest, YieldsList-at}
+use Rattle.std.specs.Option.{option_map}
 use Rattle.dist_epmd_clients.proofs.Sweepings.{first_is_asking}
 use Rattle.dist_epmd_clients.proofs.sweeping.first_asking.Goals as goal
 

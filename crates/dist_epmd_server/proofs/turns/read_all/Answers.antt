@@ -1,7 +1,5 @@
-use Rattle.std.proofs.Common.{◌<◌, length, rules, refl, ◌∙◌, arith}
-use Rattle.std.proofs.lemmas.Grind.{common_steps}
-use Rattle.dist_epmd_server.specs.Turns.{none, next}
-use Rattle.dist_epmd_server.specs.declared.turns.ReadStep.TheVariants.{More}
+use Rattle.std.proofs.{Common.◌<◌, Common.length, Common.rules, Common.refl, Common.◌∙◌, Common.arith, lemmas.Grind.common_steps}
+use Rattle.dist_epmd_server.specs.{Turns.none, Turns.next, declared.turns.ReadStep.TheVariants.More}
 use Rattle.dist_epmd_server.proofs.turns.read_all.Goals as goal
 
 pub loop-init : goal.loop-init

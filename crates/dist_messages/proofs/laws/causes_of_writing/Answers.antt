@@ -1,7 +1,6 @@
-use Rattle.dist_messages.proofs.Words.{Ok, Err}
-use Rattle.dist_messages.specs.declared.message_error.MessageError.TheVariants as errors
-use Rattle.dist_messages.proofs.Writings.{answers_law}
+use Rattle.dist_messages.proofs.{Words.Ok, Words.Err, Writings.answers_law}
 use Rattle.dist_messages.proofs.laws.causes_of_writing.Goals as goal
+use Rattle.dist_messages.specs.declared.message_error.MessageError.TheVariants as errors
 
 pub returns-clause-written : goal.returns-clause-written
 returns-clause-written c = λ side m body. answers_law side m (Ok body)

@@ -1,5 +1,4 @@
-use Rattle.dist_messages.proofs.Words.{refl, arith, message_of}
-use Rattle.dist_messages.proofs.Messages.{named_has_tag}
+use Rattle.dist_messages.proofs.{Words.refl, Words.arith, Words.message_of, Messages.named_has_tag}
 use Rattle.dist_messages.proofs.reading.read_message.Goals as goal
 
 pub returns-in_err-to_message-in-Ok-clause-memory : goal.returns-in_err-to_message-in-Ok-clause-memory

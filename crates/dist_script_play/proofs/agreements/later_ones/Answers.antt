@@ -1,5 +1,4 @@
-use Rattle.dist_script_play.proofs.Words.{sym}
-use Rattle.dist_script_play.proofs.Finding.{ok_all}
+use Rattle.dist_script_play.proofs.{Words.sym, Finding.ok_all}
 use Rattle.dist_script_play.proofs.agreements.later_ones.Goals as goal
 
 pub returns-in-Some : goal.returns-in-Some

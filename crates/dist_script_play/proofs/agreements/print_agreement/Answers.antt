@@ -1,5 +1,4 @@
-use Rattle.dist_script_play.proofs.Words.{None, Appends-nil}
-use Rattle.dist_script_play.proofs.Pairing.{none_both}
+use Rattle.dist_script_play.proofs.{Words.None, Words.Appends-nil, Pairing.none_both}
 use Rattle.dist_script_play.proofs.agreements.print_agreement.Goals as goal
 
 pub returns-in-None : goal.returns-in-None

@@ -1,5 +1,4 @@
-use Rattle.dist_script_play.proofs.Words.{length, ap, arith}
-use Rattle.dist_script_play.proofs.Pairing.{pairs_go_on, pairs_end}
+use Rattle.dist_script_play.proofs.{Words.length, Words.ap, Words.arith, Pairing.pairs_go_on, Pairing.pairs_end}
 use Rattle.dist_script_play.proofs.agreements.print_agreements.Goals as goal
 
 pub loop-place-preserved : goal.loop-place-preserved

@@ -1,5 +1,4 @@
-use Rattle.dist_script_play.proofs.Words.{arith}
-use Rattle.dist_script_play.proofs.Pairing.{row_begins, row_goes_on, row_ends, none_left}
+use Rattle.dist_script_play.proofs.{Words.arith, Pairing.row_begins, Pairing.row_goes_on, Pairing.row_ends, Pairing.none_left}
 use Rattle.dist_script_play.proofs.agreements.print_later.Goals as goal
 
 pub loop-other-init : goal.loop-other-init

@@ -1,5 +1,4 @@
-use Rattle.dist_script_play.proofs.Words.{length}
-use Rattle.dist_script_play.proofs.Pairing.{RowSoFar}
+use Rattle.dist_script_play.proofs.{Words.length, Pairing.RowSoFar}
 use Rattle.dist_script_play.proofs.agreements.print_later.Given as goal
 
 -- those before the next one are printed

@@ -1,5 +1,4 @@
-use Rattle.std.proofs.Common.{◌≡◌, List, get_or, length, ap, arith}
-use Rattle.std.proofs.lemmas.List.{at_drop_all}
+use Rattle.std.proofs.{Common.◌≡◌, Common.List, Common.get_or, Common.length, Common.ap, Common.arith, lemmas.List.at_drop_all}
 use Rattle.dist_core_setup.specs.declared.setup.Setup.{Setup}
 use Rattle.dist_script.proofs.Fronts.{all_put}
 use Rattle.dist_script_play.specs.Worlds.{nodes_from}

@@ -1,7 +1,7 @@
 use Rattle.dist_script_play.proofs.Words.{cond, Some, None, Ok, refl, ap, ◌∙◌, inl, Events, Happenings, SameName}
-use Rattle.dist_script.specs.Scripts.{says}
 use Rattle.dist_script_play.proofs.{Faults.bad_script, Faults.cut_short, Faults.stopped_world, Lines.was_played, Pages.at_err}
 use Rattle.dist_script_play.proofs.playing.perform.Goals as goal
+use Rattle.dist_script.specs.Scripts.{says}
 
 pub returns-in-Events-clause-played : goal.returns-in-Events-clause-played
 returns-in-Events-clause-played g c =

@@ -1,7 +1,7 @@
 use Rattle.dist_script_play.proofs.Words.{List, OnOk, subst, arith, Appends, Name, Entry, table_of, NodeState, more_put}
-use Rattle.std.specs.FinMap as map
 use Rattle.dist_script_play.proofs.Printing.{next_row, all_rows, no_rows}
 use Rattle.dist_script_play.proofs.print.table.Goals as goal
+use Rattle.std.specs.FinMap as map
 
 abbrev rows_of : NodeState → List (Name × Entry)
 rows_of n = map.entries (table_of n.ends)

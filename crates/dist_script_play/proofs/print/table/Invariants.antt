@@ -1,6 +1,6 @@
 use Rattle.dist_script_play.proofs.Words.{drop, table_of, PutSoFar, rows_text}
-use Rattle.std.specs.FinMap as map
 use Rattle.dist_script_play.proofs.print.table.Given as goal
+use Rattle.std.specs.FinMap as map
 
 -- the lines of the rows that were looked at, and of those that are left, are all lines
 abbrev pub invariant-loop-place : goal.invariant-loop-place

@@ -1,5 +1,4 @@
-use Rattle.dist_script_play.proofs.Words.{length}
-use Rattle.dist_script_play.proofs.Stages.{HappenedSoFar}
+use Rattle.dist_script_play.proofs.{Words.length, Stages.HappenedSoFar}
 use Rattle.dist_script_play.proofs.stage.happen_all.Given as goal
 
 -- the lines of those so far were put on the page

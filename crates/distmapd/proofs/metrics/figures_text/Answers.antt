@@ -1,7 +1,5 @@
 use Rattle.std.proofs.Common.{◌≡◌, ℕ, ◌∷◌, codes, drop, subst}
-use Rattle.std.specs.Prelude.{IfOk}
-use Rattle.std.specs.List.{flat_map}
-use Rattle.std.specs.String.{string_bytes}
+use Rattle.std.specs.{Prelude.IfOk, List.flat_map, String.string_bytes}
 use Rattle.distmapd.specs.Metrics.{figure_text, figures}
 use Rattle.distmapd.proofs.metrics.figures_text.Goals as goal
 

@@ -1,7 +1,6 @@
 -- What is written and the text of the figures that are left are the text of all.
 use Rattle.std.proofs.Common.{◌≡◌, ◌++◌, drop, map}
-use Rattle.std.specs.List.{flat_map}
-use Rattle.std.specs.String.{string_bytes}
+use Rattle.std.specs.{List.flat_map, String.string_bytes}
 use Rattle.distmapd.specs.Metrics.{figure_text}
 use Rattle.distmapd.proofs.metrics.text_of.Given as goal
 

@@ -1,7 +1,5 @@
 use Rattle.std.proofs.Common.{◌≡◌, ℕ, ◌==◌, Bool, true, false, cond, List, take, codes, refl, sym, subst}
-use Rattle.std.specs.Prelude.{IfOk}
-use Rattle.std.specs.Cmp.Lexicographic.{pointwise, same_text, other_text}
-use Rattle.std.specs.String.{string_bytes}
+use Rattle.std.specs.{Prelude.IfOk, Cmp.Lexicographic.pointwise, Cmp.Lexicographic.same_text, Cmp.Lexicographic.other_text, String.string_bytes}
 use Rattle.distmapd.proofs.page.page_text.Goals as goal
 
 -- what a text does not equal does not equal the text

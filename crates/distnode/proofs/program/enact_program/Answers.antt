@@ -1,5 +1,4 @@
-use Rattle.std.proofs.Common.{◌∙◌, ap, ap₂}
-use Rattle.std.proofs.lemmas.Result.{IfOk-weaker}
+use Rattle.std.proofs.{Common.◌∙◌, Common.ap, Common.ap₂, lemmas.Result.IfOk-weaker}
 use Rattle.clap.specs.Words.{App, with_subcommand}
 use Rattle.distnode.proofs.program.enact_program.Goals as goal
 

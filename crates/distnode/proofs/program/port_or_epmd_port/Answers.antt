@@ -1,5 +1,4 @@
-use Rattle.std.proofs.Common.{◌∙◌}
-use Rattle.std.proofs.lemmas.Result.{IfOk-weaker}
+use Rattle.std.proofs.{Common.◌∙◌, lemmas.Result.IfOk-weaker}
 use Rattle.distnode.proofs.Aliases.{aliased, still_local}
 use Rattle.distnode.proofs.program.port_or_epmd_port.Goals as goal
 

@@ -1,5 +1,4 @@
-use Rattle.std.proofs.Common.{◌∙◌, ap, refl}
-use Rattle.std.proofs.lemmas.Result.{IfOk-at_ok, IfOk-weaker}
+use Rattle.std.proofs.{Common.◌∙◌, Common.ap, Common.refl, lemmas.Result.IfOk-at_ok, lemmas.Result.IfOk-weaker}
 use Rattle.clap.specs.Words.{App, with_subcommand}
 use Rattle.distnode.specs.CommandLine.{cookie_app, names_app, run_app}
 use Rattle.distnode.proofs.program.program.Goals as goal

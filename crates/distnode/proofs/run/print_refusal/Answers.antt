@@ -1,6 +1,5 @@
 use Rattle.std.specs.Io.KnownBytes.{Appends}
-use Rattle.std.proofs.KnownBytes.{Appends-trans}
-use Rattle.std.proofs.lemmas.Result.{on_ok_weaker}
+use Rattle.std.proofs.{KnownBytes.Appends-trans, lemmas.Result.on_ok_weaker}
 use Rattle.distnode.specs.RunPrinted.{closed_text, refused_line}
 use Rattle.distnode.proofs.run.print_refusal.Goals as goal
 

@@ -1,7 +1,6 @@
 use Rattle.std.proofs.Common.{◌∙◌, inl, inr, refl, sym, subst}
 use Rattle.dist_script.specs.Texts.{PutsFront}
-use Rattle.distnode.specs.Fault.{fault_line}
-use Rattle.distnode.specs.RunPrinted.{PrintsRun}
+use Rattle.distnode.specs.{Fault.fault_line, RunPrinted.PrintsRun}
 use Rattle.distnode.proofs.RunStopped.{is_bad, unprinted}
 use Rattle.distnode.proofs.run.run_nodes.Goals as goal
 

@@ -1,5 +1,4 @@
-use Rattle.dist_audit.proofs.Words.{◌∙◌}
-use Rattle.dist_audit.proofs.Linking.{all_unknown}
+use Rattle.dist_audit.proofs.{Words.◌∙◌, Linking.all_unknown}
 use Rattle.dist_audit.proofs.links.LinkTable.comes_unopened.Goals as goal
 
 pub returns : goal.returns

@@ -1,5 +1,4 @@
-use Rattle.dist_audit.proofs.Words.{ap, ◌∙◌, conn_of}
-use Rattle.dist_audit.proofs.Mentioning.{number_found, number_absent}
+use Rattle.dist_audit.proofs.{Words.ap, Words.◌∙◌, Words.conn_of, Mentioning.number_found, Mentioning.number_absent}
 use Rattle.dist_audit.proofs.mentions.Mentioned.conn_of.Goals as goal
 
 pub returns-in-Some : goal.returns-in-Some

@@ -1,5 +1,4 @@
-use Rattle.dist_audit.proofs.Words.{ap, ◌∙◌, is_among}
-use Rattle.dist_audit.proofs.Mentioning.{among}
+use Rattle.dist_audit.proofs.{Words.ap, Words.◌∙◌, Words.is_among, Mentioning.among}
 use Rattle.dist_audit.proofs.mentions.Mentioned.is_among.Goals as goal
 
 pub returns : goal.returns

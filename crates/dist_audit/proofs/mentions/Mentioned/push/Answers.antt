@@ -1,5 +1,4 @@
-use Rattle.dist_audit.proofs.Words.{ap, ◌∙◌, is_among}
-use Rattle.dist_audit.proofs.Mentioning.{pushed}
+use Rattle.dist_audit.proofs.{Words.ap, Words.◌∙◌, Words.is_among, Mentioning.pushed}
 use Rattle.dist_audit.proofs.mentions.Mentioned.push.Goals as goal
 
 pub invariant_of-self-in-Ok : goal.invariant_of-self-in-Ok

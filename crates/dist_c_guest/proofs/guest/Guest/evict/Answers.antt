@@ -1,5 +1,4 @@
-use Rattle.dist_c_guest.proofs.Common.{refl}
-use Rattle.dist_c_guest.proofs.Pending.{room-made}
+use Rattle.dist_c_guest.proofs.{Common.refl, Pending.room-made}
 use Rattle.dist_c_guest.proofs.guest.Guest.evict.Goals as goal
 
 pub returns-clause-room : goal.returns-clause-room

@@ -1,5 +1,4 @@
-use Rattle.dist_c_guest.proofs.Common.{refl}
-use Rattle.dist_c_guest.proofs.GivenBack.{foresaw}
+use Rattle.dist_c_guest.proofs.{Common.refl, GivenBack.foresaw}
 use Rattle.dist_c_guest.proofs.guest.Guest.foresee.Goals as goal
 
 pub returns-in_default-clause-reply : goal.returns-in_default-clause-reply

@@ -1,5 +1,4 @@
-use Rattle.dist_c_guest.proofs.Common.{refl}
-use Rattle.dist_c_guest.proofs.GivenBack.{took}
+use Rattle.dist_c_guest.proofs.{Common.refl, GivenBack.took}
 use Rattle.dist_c_guest.proofs.guest.Guest.take.Goals as goal
 
 pub returns-in_default : goal.returns-in_default

@@ -1,8 +1,7 @@
 use Rattle.std.proofs.Common.{rules, ◌≡◌, ℕ, ◌<◌, length, List, refl, ◌∙◌, subst}
-use Rattle.std.specs.List.Sorted.{IsPermutation}
 use Rattle.std.proofs.lemmas.Bool.{eqb-false}
-use Rattle.dist_cluster.specs.declared.latencies.LatencySummary.{LatencySummary}
-use Rattle.dist_cluster.specs.Latency.{Tally, Summarizes}
+use Rattle.std.specs.List.Sorted.{IsPermutation}
+use Rattle.dist_cluster.specs.{declared.latencies.LatencySummary.LatencySummary, Latency.Tally, Latency.Summarizes}
 use Rattle.dist_cluster.proofs.Tallies.{median-of}
 use Rattle.dist_cluster.proofs.latencies.Latencies.summary.Goals as goal
 

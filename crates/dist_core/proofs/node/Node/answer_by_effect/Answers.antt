@@ -1,6 +1,6 @@
 use Rattle.dist_core.proofs.Words.{sym, subst, GivesReply, step, Event}
-use Rattle.dist_core.specs.Step.{effect_of}
 use Rattle.dist_core.proofs.node.Node.answer_by_effect.Goals as goal
+use Rattle.dist_core.specs.Step.{effect_of}
 
 pub returns-in-Dial-clause-answer : goal.returns-in-Dial-clause-answer
 unfolding effect_of

@@ -1,8 +1,8 @@
 use Rattle.dist_core.proofs.Words.{◌≡◌, slice_get, Some, Ok, Option, sym, ap, ◌∙◌, End, NodeState, effect_by, at_end, framed_from, sender_to}
-use Rattle.dist_core_ends.specs.declared.known.End.TheVariants as ends
-use Rattle.dist_core.specs.declared.event.Event.TheVariants as event
 use Rattle.dist_core.proofs.Kept.{reported-so}
 use Rattle.dist_core.proofs.node.Node.answer_frame.Goals as goal
+use Rattle.dist_core_ends.specs.declared.known.End.TheVariants as ends
+use Rattle.dist_core.specs.declared.event.Event.TheVariants as event
 
 pub returns-in_ok-progress-in-Attempt : goal.returns-in_ok-progress-in-Attempt
 returns-in_ok-progress-in-Attempt c =

@@ -1,8 +1,8 @@
 use Rattle.dist_core.proofs.Words.{◌≡◌, slice_get, Some, Ok, Option, sym, ap, ◌∙◌, End, NodeState, effect_by, at_end, opening_effect}
-use Rattle.dist_core_ends.specs.declared.known.End.TheVariants as ends
-use Rattle.dist_core.specs.declared.event.Event.TheVariants as event
 use Rattle.dist_core.proofs.Kept.{reported-so}
 use Rattle.dist_core.proofs.node.Node.answer_opened.Goals as goal
+use Rattle.dist_core_ends.specs.declared.known.End.TheVariants as ends
+use Rattle.dist_core.specs.declared.event.Event.TheVariants as event
 
 pub returns : goal.returns
 returns c =

@@ -1,8 +1,8 @@
 use Rattle.dist_core.proofs.Words.{◌≡◌, ℕ, List, slice_get, sym, ap, ◌∙◌, rules, EndId, Verdict, Attempt, End, Setup, name_taken, superseded_end, supersedes}
 use Rattle.dist_core.proofs.Words.{Effect}
+use Rattle.dist_core.proofs.node.Node.effect_of_verdict.Goals as goal
 use Rattle.dist_peers.specs.declared.entry.Verdict.TheVariants as verdict
 use Rattle.dist_core.specs.Accepted.{verdict_text}
-use Rattle.dist_core.proofs.node.Node.effect_of_verdict.Goals as goal
 
 -- a name that crosses an attempt of this node, by what each call returned
 simultaneous : (s : Setup) (es : List End) (id : EndId) (a : Attempt) (v : Verdict) (x : EndId) (say : List ℕ) (crossed : End) (e : Effect)

@@ -1,7 +1,7 @@
 use Rattle.dist_core.proofs.Words.{sym, ◌∙◌, arith, at_drop_all, len-entries, list_any, table_of, has_usual}
-use Rattle.std.specs.FinMap as map
 use Rattle.dist_core.proofs.UsualCookies.{found-at, none-at}
 use Rattle.dist_core.proofs.node.Node.is_usual_in_use.Goals as goal
+use Rattle.std.specs.FinMap as map
 
 pub returns-then-is_usual_at : goal.returns-then-is_usual_at
 returns-then-is_usual_at c =

@@ -1,8 +1,8 @@
 use Rattle.dist_core.proofs.Words.{refl}
-use Rattle.dist_core.specs.Step.{effect_of}
-use Rattle.dist_core.specs.declared.event.Event.TheVariants as event
 use Rattle.dist_core.proofs.{Doing.can-do, Kept.kept-done}
 use Rattle.dist_core.proofs.node.Node.keep_dial.Goals as goal
+use Rattle.dist_core.specs.Step.{effect_of}
+use Rattle.dist_core.specs.declared.event.Event.TheVariants as event
 
 pub keep_effect-requires : goal.keep_effect-requires
 unfolding effect_of

@@ -1,9 +1,9 @@
 use Rattle.dist_core.proofs.Words.{◌≡◌, slice_get, Some, Option, sym, ap, ◌∙◌, End, NodeState, at_end, framed_from, sender_to}
+use Rattle.dist_core.proofs.InPlace.{can-be}
+use Rattle.dist_core.proofs.node.Node.keep_frame.Goals as goal
 use Rattle.dist_core_ends.specs.declared.known.End.TheVariants as ends
 use Rattle.dist_core.specs.Step.{effect_of}
 use Rattle.dist_core.specs.declared.event.Event.TheVariants as event
-use Rattle.dist_core.proofs.InPlace.{can-be}
-use Rattle.dist_core.proofs.node.Node.keep_frame.Goals as goal
 
 pub keep_progress-requires : goal.keep_progress-requires
 unfolding effect_of

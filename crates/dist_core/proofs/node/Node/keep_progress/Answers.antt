@@ -1,7 +1,7 @@
 use Rattle.dist_core.proofs.Words.{◌≡◌, ◌+◌, ◌≤◌, List, length, sym, ap, subst, arith, End, NodeState, ends_after, limits_of, CanProgress, effect_by}
-use Rattle.dist_core_ends.specs.declared.known.End.TheVariants as ends
 use Rattle.dist_core.proofs.{Counts.length-after, InPlace.end-by, Numbers.stays}
 use Rattle.dist_core.proofs.node.Node.keep_progress.Goals as goal
+use Rattle.dist_core_ends.specs.declared.known.End.TheVariants as ends
 
 pub invariant_of-self-2 : goal.invariant_of-self-2
 invariant_of-self-2 g c =

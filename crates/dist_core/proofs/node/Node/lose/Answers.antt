@@ -1,9 +1,9 @@
 use Rattle.dist_core.proofs.Words.{◌≡◌, true, length, slice_get, Some, Ok, Option, sym, refl, ap, ◌∙◌, arith, rules, slice_get_within, is_open, End, closes}
 use Rattle.dist_core.proofs.Words.{IsGone, NodeState, at_end, Effect}
-use Rattle.dist_core_ends.specs.declared.known.End.TheVariants as ends
-use Rattle.dist_core_ends.proofs.Fitting.{stays-closing}
 use Rattle.dist_core.proofs.{Counts.length-within, Losses.gone_at, Losses.open_found}
 use Rattle.dist_core.proofs.node.Node.lose.Goals as goal
+use Rattle.dist_core_ends.specs.declared.known.End.TheVariants as ends
+use Rattle.dist_core_ends.proofs.Fitting.{stays-closing}
 
 pub close-requires-clause-there : goal.close-requires-clause-there
 close-requires-clause-there c = slice_get_within c.self.inside.ends c.args.id.0 c.in_ok-_end._end.now c.in_ok-_end.ensures.0

@@ -1,7 +1,7 @@
 use Rattle.dist_core.proofs.Words.{Bool, cond, Ok, Err, Option, sym, ap, ◌∙◌, read, Side, framed_from, message_effect, Effect}
+use Rattle.dist_core.proofs.node.Node.progress_of_frame.Goals as goal
 use Rattle.dist_core_ends.specs.declared.known.End.TheVariants as ends
 use Rattle.dist_core.specs.declared.step_error.StepError.TheVariants as error
-use Rattle.dist_core.proofs.node.Node.progress_of_frame.Goals as goal
 
 pub returns-clause-effect : goal.returns-clause-effect
 returns-clause-effect c id =

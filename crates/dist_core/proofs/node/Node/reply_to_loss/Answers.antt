@@ -1,9 +1,9 @@
 use Rattle.dist_core.proofs.Words.{ℕ, List, slice_get, Some, None, Ok, sym, ap, ◌∙◌, closes, NodeState, at_end, Reply}
+use Rattle.dist_core.proofs.Kept.{reported-so}
+use Rattle.dist_core.proofs.node.Node.reply_to_loss.Goals as goal
 use Rattle.dist_core.specs.Step.{effect_of}
 use Rattle.dist_core.specs.declared.event.Event.TheVariants as event
 use Rattle.dist_core.specs.declared.reply.Note.TheVariants as note
-use Rattle.dist_core.proofs.Kept.{reported-so}
-use Rattle.dist_core.proofs.node.Node.reply_to_loss.Goals as goal
 
 pub returns-clause-answer : goal.returns-clause-answer
 unfolding effect_of

@@ -1,7 +1,6 @@
-use Rattle.dist_core.proofs.Words.{sym, subst, KeepsStep, step, Event}
-use Rattle.dist_core.specs.Step.{effect_of}
-use Rattle.dist_core.proofs.Kept.{same-loss}
+use Rattle.dist_core.proofs.{Words.sym, Words.subst, Words.KeepsStep, Words.step, Words.Event, Kept.same-loss}
 use Rattle.dist_core.proofs.node.Node.step_kept.Goals as goal
+use Rattle.dist_core.specs.Step.{effect_of}
 
 pub returns-in-Dial-clause-step : goal.returns-in-Dial-clause-step
 unfolding effect_of

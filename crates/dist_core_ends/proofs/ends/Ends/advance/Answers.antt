@@ -1,7 +1,7 @@
 use Rattle.dist_core_ends.proofs.Words.{[], None, at_stage}
-use Rattle.dist_core_ends.specs.declared.known.End.TheVariants as ends
 use Rattle.dist_core_ends.proofs.{Progress.put-there, Progress.advance-fits, Progress.advance-table, Settled.keeps-changed}
 use Rattle.dist_core_ends.proofs.ends.Ends.advance.Goals as goal
+use Rattle.dist_core_ends.specs.declared.known.End.TheVariants as ends
 
 pub advance-requires : goal.advance-requires
 advance-requires c = let h = rw (← c.self.view_is) at c.requires in (h.0, h.1)

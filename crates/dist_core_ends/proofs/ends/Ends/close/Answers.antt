@@ -1,7 +1,7 @@
 use Rattle.dist_core_ends.proofs.Words.{[], length, None, refl, ap, ◌∙◌, arith}
-use Rattle.dist_core_ends.specs.declared.known.End.TheVariants as ends
 use Rattle.dist_core_ends.proofs.{Fitting.fit-closes, Keeping.put-within, Progress.held-entry, Settled.keeps-changed}
 use Rattle.dist_core_ends.proofs.ends.Ends.close.Goals as goal
+use Rattle.dist_core_ends.specs.declared.known.End.TheVariants as ends
 
 pub leave-requires : goal.leave-requires
 leave-requires c = rw c.close-closed.ensures.was (held-entry c.self.inside.list.items c.self.inside.peers c.self.invariant.agree c.args.id)

@@ -1,5 +1,4 @@
-use Rattle.dist_core_ends.proofs.Words.{arith}
-use Rattle.dist_core_ends.proofs.Tables.{agree-empty}
+use Rattle.dist_core_ends.proofs.{Words.arith, Tables.agree-empty}
 use Rattle.dist_core_ends.proofs.ends.Ends.new.Goals as goal
 
 pub invariant_of-result : goal.invariant_of-result

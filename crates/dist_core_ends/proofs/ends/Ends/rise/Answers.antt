@@ -1,8 +1,8 @@
 use Rattle.dist_core_ends.proofs.Words.{slice_get, entry_of, replaced_by, replaced_end}
-use Rattle.std.specs.FinMap as map
-use Rattle.dist_core_ends.specs.declared.known.End.TheVariants as ends
 use Rattle.dist_core_ends.proofs.{Agreement.entry-agreed, Progress.rise-fits, Progress.rise-waits, Progress.rise-table, Settled.keeps-changed}
 use Rattle.dist_core_ends.proofs.ends.Ends.rise.Goals as goal
+use Rattle.std.specs.FinMap as map
+use Rattle.dist_core_ends.specs.declared.known.End.TheVariants as ends
 
 pub came_up-replaced-requires : goal.came_up-replaced-requires
 came_up-replaced-requires c =

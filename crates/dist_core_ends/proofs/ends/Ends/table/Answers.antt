@@ -1,7 +1,6 @@
-use Rattle.dist_core_ends.proofs.Words.{ap, ◌∙◌, table_of}
-use Rattle.std.specs.FinMap as map
-use Rattle.dist_core_ends.proofs.Tables.{get-table, table-agreed}
+use Rattle.dist_core_ends.proofs.{Words.ap, Words.◌∙◌, Words.table_of, Tables.get-table, Tables.table-agreed}
 use Rattle.dist_core_ends.proofs.ends.Ends.table.Goals as goal
+use Rattle.std.specs.FinMap as map
 
 pub returns-clause-table : goal.returns-clause-table
 returns-clause-table c = table-agreed c.self.inside.peers c.self.inside.list.items c.self.invariant.agree ∙ ap table_of c.self.view_is

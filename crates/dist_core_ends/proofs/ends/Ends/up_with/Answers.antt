@@ -1,5 +1,4 @@
-use Rattle.dist_core_ends.proofs.Words.{entry_in, Up}
-use Rattle.dist_core_ends.proofs.UpPeers.{up-only, up-found}
+use Rattle.dist_core_ends.proofs.{Words.entry_in, Words.Up, UpPeers.up-only, UpPeers.up-found}
 use Rattle.dist_core_ends.proofs.ends.Ends.up_with.Goals as goal
 
 pub returns-clause-found : goal.returns-clause-found

@@ -1,7 +1,7 @@
 use Rattle.dist_core_ends.proofs.Words.{length, set, nat_eq, slice_get, Some, sym, ap, ◌∙◌, subst, arith, Updates, get, IsSlot, RowList, all_causes, rows_from}
-use Rattle.dist_core_ends.specs.declared.slots.EndPlace.TheVariants as row
 use Rattle.dist_core_ends.proofs.Places.{rows-length, rows-shut, rows-placed, all-length, all-set, place-of-slot, slot-within, not-refused, done}
 use Rattle.dist_core_ends.proofs.past_rows.PastRows.close.Goals as goal
+use Rattle.dist_core_ends.specs.declared.slots.EndPlace.TheVariants as row
 
 pub unwrap-requires : goal.unwrap-requires
 unwrap-requires c =

@@ -1,8 +1,8 @@
 use Rattle.dist_core_ends.proofs.Words.{◌≡◌, ◌+◌, ◌^◌, ◌<◌, List, [], ◌∷◌, ◌++◌, length, nat_eq, Some, None, Option, sym, refl, ap, ◌∙◌, subst, arith, Updates}
 use Rattle.dist_core_ends.proofs.Words.{get, AreWithin, RowList, all_causes, row_by, rows_from, EndPlace, Why}
-use Rattle.dist_core_ends.specs.declared.why.Why.TheVariants as why
 use Rattle.dist_core_ends.proofs.Places.{rows-length, rows-more, all-length, all-more, within-more, done}
 use Rattle.dist_core_ends.proofs.past_rows.PastRows.push.Goals as goal
+use Rattle.dist_core_ends.specs.declared.why.Why.TheVariants as why
 
 pub invariant_of-self : goal.invariant_of-self
 invariant_of-self c =

@@ -1,7 +1,7 @@
 use Rattle.dist_core_ends.proofs.Words.{◌++◌, set, sym, ap, ◌∙◌, arith, RowList}
+use Rattle.dist_core_ends.proofs.rows.Rows.close.Goals as goal
 use Rattle.std.proofs.lemmas.List.{set-append_left, set-append_right}
 use Rattle.dist_core_ends.specs.declared.slots.EndPlace.TheVariants as row
-use Rattle.dist_core_ends.proofs.rows.Rows.close.Goals as goal
 
 pub returns-then-i-self : goal.returns-then-i-self
 returns-then-i-self c =

@@ -1,5 +1,4 @@
-use Rattle.dist_core_ends.proofs.Words.{arith, slice_get_past}
-use Rattle.dist_core_ends.proofs.Keeping.{long, has-slot, finds-slot, finds-closed}
+use Rattle.dist_core_ends.proofs.{Words.arith, Words.slice_get_past, Keeping.long, Keeping.has-slot, Keeping.finds-slot, Keeping.finds-closed}
 use Rattle.dist_core_ends.proofs.slots.EndList.at.Goals as goal
 
 pub returns-then-len-i : goal.returns-then-len-i

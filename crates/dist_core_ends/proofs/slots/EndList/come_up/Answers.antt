@@ -1,7 +1,7 @@
 use Rattle.dist_core_ends.proofs.Words.{Some, refl, ap, ◌∙◌, arith, slice_get_within}
-use Rattle.dist_core_ends.specs.declared.known.End.TheVariants as ends
 use Rattle.dist_core_ends.proofs.Keeping.{long, refilled-shown, refilled, slot-shown, not-closed}
 use Rattle.dist_core_ends.proofs.slots.EndList.come_up.Goals as goal
+use Rattle.dist_core_ends.specs.declared.known.End.TheVariants as ends
 
 pub at-requires : goal.at-requires
 at-requires c =

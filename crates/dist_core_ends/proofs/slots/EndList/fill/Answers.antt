@@ -1,7 +1,7 @@
 use Rattle.dist_core_ends.proofs.Words.{◌≡◌, ℕ, true, List, slice_get, Some, sym, ap, ◌∙◌, arith, false≢true, StaysClosed, is_open, End, Why}
-use Rattle.dist_core_ends.specs.declared.known.End.TheVariants as ends
 use Rattle.dist_core_ends.proofs.Keeping.{long, has-slot, refilled-shown, refilled, finds-closed, same-cause}
 use Rattle.dist_core_ends.proofs.slots.EndList.fill.Goals as goal
+use Rattle.dist_core_ends.specs.declared.known.End.TheVariants as ends
 
 pub at-requires : goal.at-requires
 at-requires c = omega (arith, c.requires.there, long c.self.inside.rows.items c.self.inside.slots.slots _ _ c.self.view_is)

@@ -1,5 +1,4 @@
-use Rattle.dist_core_ends.proofs.Words.{sym, arith}
-use Rattle.dist_core_ends.proofs.Oldest.{oldest-found, oldest-none}
+use Rattle.dist_core_ends.proofs.{Words.sym, Words.arith, Oldest.oldest-found, Oldest.oldest-none}
 use Rattle.dist_core_ends.proofs.slots.EndList.first.Goals as goal
 
 pub returns-then-from-len-clause-first : goal.returns-then-from-len-clause-first

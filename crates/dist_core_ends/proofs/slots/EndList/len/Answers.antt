@@ -1,5 +1,4 @@
-use Rattle.dist_core_ends.proofs.Words.{sym, ◌∙◌}
-use Rattle.dist_core_ends.proofs.Keeping.{long}
+use Rattle.dist_core_ends.proofs.{Words.sym, Words.◌∙◌, Keeping.long}
 use Rattle.dist_core_ends.proofs.slots.EndList.len.Goals as goal
 
 pub returns-clause-len : goal.returns-clause-len

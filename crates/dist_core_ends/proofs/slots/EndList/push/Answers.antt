@@ -1,5 +1,4 @@
-use Rattle.dist_core_ends.proofs.Words.{arith}
-use Rattle.dist_core_ends.proofs.Keeping.{long, pushed, pushed-shown}
+use Rattle.dist_core_ends.proofs.{Words.arith, Keeping.long, Keeping.pushed, Keeping.pushed-shown}
 use Rattle.dist_core_ends.proofs.slots.EndList.push.Goals as goal
 
 pub invariant_of-self : goal.invariant_of-self

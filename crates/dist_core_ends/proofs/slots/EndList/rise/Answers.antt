@@ -1,8 +1,7 @@
-use Rattle.dist_core_ends.proofs.Words.{set, ap, ◌∙◌}
+use Rattle.dist_core_ends.proofs.{Words.set, Words.ap, Words.◌∙◌, Progress.put-there}
+use Rattle.dist_core_ends.proofs.slots.EndList.rise.Goals as goal
 use Rattle.dist_core_ends.specs.declared.known.End.TheVariants as ends
 use Rattle.dist_core_ends.specs.declared.why.Why.TheVariants as why
-use Rattle.dist_core_ends.proofs.Progress.{put-there}
-use Rattle.dist_core_ends.proofs.slots.EndList.rise.Goals as goal
 
 pub returns-in-Some : goal.returns-in-Some
 returns-in-Some c =

@@ -1,7 +1,6 @@
-use Rattle.dist_core_ends.proofs.Words.{◌≡◌, IfSome, Option, sym, ◌∙◌, subst, Why}
-use Rattle.dist_core_ends.specs.Words.{why_word, why_of}
-use Rattle.dist_core_ends.proofs.Naming.{found, every}
+use Rattle.dist_core_ends.proofs.{Words.◌≡◌, Words.IfSome, Words.Option, Words.sym, Words.◌∙◌, Words.subst, Words.Why, Naming.found, Naming.every}
 use Rattle.dist_core_ends.proofs.why.Why.of_name.Goals as goal
+use Rattle.dist_core_ends.specs.Words.{why_word, why_of}
 
 pub returns-clause-found : goal.returns-clause-found
 unfolding why_of

@@ -1,5 +1,4 @@
-use Rattle.dist_epmd.proofs.Words.{sym, subst, IsLegal}
-use Rattle.dist_epmd.proofs.Legal.{closed_legal}
+use Rattle.dist_epmd.proofs.{Words.sym, Words.subst, Words.IsLegal, Legal.closed_legal}
 use Rattle.dist_epmd.proofs.registry.Registry.closed.Goals as goal
 
 pub invariant_of-self : goal.invariant_of-self

@@ -1,6 +1,5 @@
-use Rattle.std.proofs.Common.{rules, not}
+use Rattle.std.proofs.{Common.rules, Common.not, lemmas.Map.Made.filter_same_pairs}
 use Rattle.std.specs.Prelude.{nat_le, ◌-◌}
-use Rattle.std.proofs.lemmas.Map.Made.{filter_same_pairs}
 use Rattle.dist_epmd_server.specs.Owed.{since_of}
 use Rattle.dist_epmd_server.proofs.owing.Owing.drop_late.Goals as goal
 

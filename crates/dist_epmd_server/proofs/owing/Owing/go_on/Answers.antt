@@ -1,7 +1,5 @@
-use Rattle.std.proofs.Common.{◌≡◌, true, None, rules, arith}
-use Rattle.std.specs.Ordering.{nat_cmp}
-use Rattle.std.specs.BTreeMap.{get}
-use Rattle.std.proofs.lemmas.Grind.{common_steps}
+use Rattle.std.proofs.{Common.◌≡◌, Common.true, Common.None, Common.rules, Common.arith, lemmas.Grind.common_steps}
+use Rattle.std.specs.{Ordering.nat_cmp, BTreeMap.get}
 use Rattle.dist_epmd_server.proofs.Owings.{is_over}
 use Rattle.dist_epmd_server.proofs.owing.Owing.go_on.Goals as goal
 

@@ -1,8 +1,6 @@
 use Rattle.std.proofs.Common.{Bool, true, false, List, ℕ, refl, subst, ap, ◌∙◌}
-use Rattle.std.specs.Ordering.{nat_cmp}
-use Rattle.std.specs.BTreeMap.{insert_entry}
-use Rattle.dist_epmd_server.specs.declared.owed.Owed.{Owed}
-use Rattle.dist_epmd_server.specs.Owing.{FirstTry}
+use Rattle.std.specs.{Ordering.nat_cmp, BTreeMap.insert_entry}
+use Rattle.dist_epmd_server.specs.{declared.owed.Owed.Owed, Owing.FirstTry}
 use Rattle.dist_epmd_server.proofs.owing.Owing.leave.Goals as goal
 
 pub returns-then-is_over : goal.returns-then-is_over

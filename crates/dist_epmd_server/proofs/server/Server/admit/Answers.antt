@@ -1,8 +1,7 @@
 use Rattle.std.proofs.Common.{ℕ, Bool, Option, Some, refl, inl, inr}
 use Rattle.dist_stream.specs.declared.socket.SocketStream.{SocketStream}
 use Rattle.dist_epmd_clients.specs.declared.holding.Clients.{Clients}
-use Rattle.dist_epmd_server.specs.declared.owing.Owing.{Owing}
-use Rattle.dist_epmd_server.specs.Serving.{ComesTo, TakesIn}
+use Rattle.dist_epmd_server.specs.{declared.owing.Owing.Owing, Serving.ComesTo, Serving.TakesIn}
 use Rattle.dist_epmd_server.proofs.server.Server.admit.Goals as goal
 
 -- whom the system watches, or who is waited for by itself, stays

@@ -1,5 +1,4 @@
-use Rattle.dist_script_play.proofs.Words.{◌∙◌, arith}
-use Rattle.dist_script_play.proofs.Reading.{one_more_reader}
+use Rattle.dist_script_play.proofs.{Words.◌∙◌, Words.arith, Reading.one_more_reader}
 use Rattle.dist_script_play.proofs.readers.Readers.make_room.Goals as goal
 
 pub room-preserved : goal.room-preserved

@@ -1,5 +1,4 @@
-use Rattle.dist_script_play.proofs.Words.{refl}
-use Rattle.dist_script_play.proofs.Receiving.{one_more, one_less, no_frame_left}
+use Rattle.dist_script_play.proofs.{Words.refl, Receiving.one_more, Receiving.one_less, Receiving.no_frame_left}
 use Rattle.dist_script_play.proofs.scene.NodeScene.receive_frames.Goals as goal
 
 pub loop-body-preserved : goal.loop-body-preserved

@@ -1,5 +1,4 @@
-use Rattle.dist_script_play.proofs.Words.{length, to_come, reader_of, received_frames}
-use Rattle.dist_script_play.proofs.Receiving.{SoFar}
+use Rattle.dist_script_play.proofs.{Words.length, Words.to_come, Words.reader_of, Words.received_frames, Receiving.SoFar}
 use Rattle.dist_script_play.proofs.scene.NodeScene.receive_frames.Given as goal
 
 -- the lines of the frames so far stand there

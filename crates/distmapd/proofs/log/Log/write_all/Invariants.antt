@@ -1,7 +1,6 @@
 -- How the events that are left are logged from here on is how all of them are logged from the start.
 use Rattle.std.proofs.Common.{◌≡◌, ℕ, List, Option, drop}
-use Rattle.distmapd.specs.declared.rates.Rates.{Rates}
-use Rattle.distmapd.specs.Logging.{LogsEvents}
+use Rattle.distmapd.specs.{declared.rates.Rates.Rates, Logging.LogsEvents}
 use Rattle.distmapd.proofs.log.Log.write_all.Given as goal
 
 abbrev pub invariant-loop-event : goal.invariant-loop-event

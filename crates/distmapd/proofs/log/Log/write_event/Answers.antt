@@ -1,6 +1,5 @@
 use Rattle.std.proofs.Common.{sym, ◌∙◌}
-use Rattle.distmapd.specs.Lines.{event_line}
-use Rattle.distmapd.specs.Rates.{after_admitting, leaving_out}
+use Rattle.distmapd.specs.{Lines.event_line, Rates.after_admitting, Rates.leaving_out}
 use Rattle.distmapd.proofs.Logged.{puts_if}
 use Rattle.distmapd.proofs.log.Log.write_event.Goals as goal
 

@@ -1,9 +1,6 @@
-use Rattle.std.proofs.Common.{ℕ, subst}
+use Rattle.std.proofs.{Common.ℕ, Common.subst, lemmas.Bool.lt-ltb}
 use Rattle.std.specs.Prelude.{nat_lt}
-use Rattle.std.proofs.lemmas.Bool.{lt-ltb}
-use Rattle.distmapd.specs.Lines.{left_out_line}
-use Rattle.distmapd.specs.Logging.{PutsIf}
-use Rattle.distmapd.specs.Rates.{with_none_left_out}
+use Rattle.distmapd.specs.{Lines.left_out_line, Logging.PutsIf, Rates.with_none_left_out}
 use Rattle.distmapd.proofs.Logged.{puts_if}
 use Rattle.distmapd.proofs.log.Log.write_left_out.Goals as goal
 

@@ -1,7 +1,5 @@
 use Rattle.std.proofs.Common.{◌≡◌, Ok, ◌∙◌, ap, subst}
-use Rattle.dist_core.specs.Node.{NodeState}
-use Rattle.dist_core.specs.Runs.{opening}
-use Rattle.dist_core.specs.Step.{step}
+use Rattle.dist_core.specs.{Node.NodeState, Runs.opening, Step.step}
 use Rattle.dist_core.specs.declared.event.Event.TheVariants as event
 use Rattle.distping.proofs.OneEnd.{opens}
 use Rattle.distping.proofs.links.accepting.open_node.Goals as goal

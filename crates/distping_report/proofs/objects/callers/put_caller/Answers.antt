@@ -1,6 +1,5 @@
 use Rattle.std.proofs.Common.{OnOk, ap, ◌∙◌, subst}
-use Rattle.distping_report.specs.Layouts.{taken_layout}
-use Rattle.distping_report.specs.Objects.{PutsMembers}
+use Rattle.distping_report.specs.{Layouts.taken_layout, Objects.PutsMembers}
 use Rattle.distping_report.proofs.Members.{puts_both, puts_same, writes_last}
 use Rattle.distping_report.proofs.objects.callers.put_caller.Goals as goal
 

@@ -1,6 +1,5 @@
 use Rattle.std.proofs.Common.{◌≡◌, ◌+◌, take, refl, sym, subst, arith}
-use Rattle.distping_report.specs.Layouts.{counts_layout}
-use Rattle.distping_report.specs.Objects.{layout_of}
+use Rattle.distping_report.specs.{Layouts.counts_layout, Objects.layout_of}
 use Rattle.distping_report.proofs.Members.{counts_pushed}
 use Rattle.distping_report.proofs.objects.many.count_members.Goals as goal
 

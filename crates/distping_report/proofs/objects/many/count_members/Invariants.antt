@@ -1,7 +1,6 @@
 -- The members so far are those of the words so far.
 use Rattle.std.proofs.Common.{◌≡◌, take}
-use Rattle.distping_report.specs.Layouts.{counts_layout}
-use Rattle.distping_report.specs.Objects.{layout_of}
+use Rattle.distping_report.specs.{Layouts.counts_layout, Objects.layout_of}
 use Rattle.distping_report.proofs.objects.many.count_members.Given as goal
 
 abbrev pub invariant-loop-count : goal.invariant-loop-count

@@ -1,6 +1,5 @@
 use Rattle.std.proofs.Common.{OnOk, codes, subst}
-use Rattle.distping_report.specs.Layouts.{counts_layout}
-use Rattle.distping_report.specs.Objects.{PutsMembers, member, no_member, number, object}
+use Rattle.distping_report.specs.{Layouts.counts_layout, Objects.PutsMembers, Objects.member, Objects.no_member, Objects.number, Objects.object}
 use Rattle.distping_report.proofs.Members.{puts_both, writes_last}
 use Rattle.distping_report.proofs.objects.many.put_summary.Goals as goal
 

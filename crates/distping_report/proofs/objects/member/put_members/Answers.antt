@@ -1,5 +1,4 @@
-use Rattle.std.proofs.Common.{take, sym, ap, ◌∙◌, subst, arith}
-use Rattle.std.proofs.lemmas.List.{take_more}
+use Rattle.std.proofs.{Common.take, Common.sym, Common.ap, Common.◌∙◌, Common.subst, Common.arith, lemmas.List.take_more}
 use Rattle.distping_report.specs.Objects.{PutsMembers, layout_of}
 use Rattle.distping_report.proofs.Members.{puts_nothing, puts_one, puts_both, layout_of-push}
 use Rattle.distping_report.proofs.objects.member.put_members.Goals as goal

@@ -1,6 +1,5 @@
 use Rattle.std.proofs.lemmas.Result.{IfOk-weaker}
-use Rattle.distping_report.specs.Layouts.{node_layout}
-use Rattle.distping_report.specs.Objects.{shape_of}
+use Rattle.distping_report.specs.{Layouts.node_layout, Objects.shape_of}
 use Rattle.distping_report.proofs.Shallow.{node_shallow}
 use Rattle.distping_report.proofs.objects.nodes.node_line.Goals as goal
 

@@ -1,6 +1,5 @@
 use Rattle.std.proofs.Common.{OnOk, codes, subst, ap, sym, ◌∙◌}
-use Rattle.distping_report.specs.Layouts.{peer_shape}
-use Rattle.distping_report.specs.Objects.{PutsMembers, member, no_member, object}
+use Rattle.distping_report.specs.{Layouts.peer_shape, Objects.PutsMembers, Objects.member, Objects.no_member, Objects.object}
 use Rattle.distping_report.proofs.objects.parts.put_peer.Goals as goal
 
 pub returns-in-Some : goal.returns-in-Some

@@ -1,6 +1,5 @@
 use Rattle.std.proofs.Common.{codes, subst}
-use Rattle.distping_report.specs.Layouts.{tries_in}
-use Rattle.distping_report.specs.Objects.{PutsObjects}
+use Rattle.distping_report.specs.{Layouts.tries_in, Objects.PutsObjects}
 use Rattle.distping_report.proofs.Members.{writes_list}
 use Rattle.distping_report.proofs.objects.parts.put_tries.Goals as goal
 

@@ -1,7 +1,6 @@
 use Rattle.std.proofs.Common.{◌≡◌, refl, sym, ap, ◌∙◌, option_map}
 use Rattle.dist_names.specs.Escaped.{escapes_of}
-use Rattle.dist_messages.specs.Spelling.{text_of}
-use Rattle.dist_messages.specs.declared.message.Status.{Status}
+use Rattle.dist_messages.specs.{Spelling.text_of, declared.message.Status.Status}
 use Rattle.dist_messages.specs.declared.message.Status.TheVariants as status
 use Rattle.distping_report.specs.Objects.{text, text_or_null}
 use Rattle.distping_report.proofs.objects.values.status_or_null.Goals as goal

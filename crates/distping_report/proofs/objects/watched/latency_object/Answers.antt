@@ -1,7 +1,6 @@
 use Rattle.std.proofs.Common.{ℕ, List, Option, IfOk, string_bytes, subst, sym}
 use Rattle.dist_cluster.specs.declared.latencies.LatencySummary.{LatencySummary}
-use Rattle.distping_report.specs.Layouts.{latency_layout}
-use Rattle.distping_report.specs.Objects.{IsObjectLine}
+use Rattle.distping_report.specs.{Layouts.latency_layout, Objects.IsObjectLine}
 use Rattle.distping_report.proofs.objects.watched.latency_object.Goals as goal
 
 pub returns-in-Some : goal.returns-in-Some

@@ -1,5 +1,4 @@
-use Rattle.std.proofs.Common.{rules, string_bytes, subst}
-use Rattle.std.proofs.lemmas.Result.{IfOk-weaker}
+use Rattle.std.proofs.{Common.rules, Common.string_bytes, Common.subst, lemmas.Result.IfOk-weaker}
 use Rattle.distping_report.specs.Objects.{IsObjectLine}
 use Rattle.distping_report.proofs.objects.watched.object_of_change.Goals as goal
 
