@@ -35,9 +35,10 @@ typedef struct {
     ErlNifUInt64 changes;
 } kept;
 
-/* Goes up with each change of `kept`, of `shared`, or of what the library has behind a dn_node, that comes without a new version. */
+/* Goes up with each change of `kept`, of `shared`, of a function, or of what the library has behind a dn_node, that comes without a new
+ * version. */
 #ifndef DISTNODE_LAYOUT
-#define DISTNODE_LAYOUT 1
+#define DISTNODE_LAYOUT 2
 #endif
 #define VERSION (DN_VERSION_MAJOR * 1000000 + DN_VERSION_MINOR * 1000 + DN_VERSION_PATCH)
 
@@ -59,8 +60,11 @@ static void kept_drop(ErlNifEnv *env, void *it) {
     if (k->lock) enif_mutex_destroy(k->lock);
 }
 
-static int kept_of(ErlNifEnv *env, ERL_NIF_TERM term, kept **k) {
-    return enif_get_resource(env, term, kept_type, (void **)k);
+/* The node of a term, and its lock: the last of what a call reads of its arguments. */
+static int locked(ErlNifEnv *env, ERL_NIF_TERM term, kept **k) {
+    if (!enif_get_resource(env, term, kept_type, (void **)k)) return 0;
+    enif_mutex_lock((*k)->lock);
+    return 1;
 }
 
 /* Erlang may answer a null pointer for an empty binary. */
@@ -78,33 +82,23 @@ static ERL_NIF_TERM binary_of(ErlNifEnv *env, const uint8_t *bytes, size_t len) 
     return term;
 }
 
-static ERL_NIF_TERM code_word(ErlNifEnv *env, uint32_t code) {
+/* The name of a code or of a cause. */
+static ERL_NIF_TERM word(ErlNifEnv *env, uint32_t (*name)(uint32_t, uint8_t *, size_t, size_t *), uint32_t number) {
     uint8_t room[16];
     size_t len = 0;
-    if (dn_code_name(code, room, sizeof room, &len)) return a_unknown;
+    if (name(number, room, sizeof room, &len)) return a_unknown;
     return enif_make_atom_len(env, (const char *)room, len);
-}
-
-static ERL_NIF_TERM why_word(ErlNifEnv *env, uint32_t why) {
-    uint8_t room[16];
-    size_t len = 0;
-    if (dn_why_name(why, room, sizeof room, &len)) return a_unknown;
-    return enif_make_atom_len(env, (const char *)room, len);
-}
-
-static ERL_NIF_TERM fault(ErlNifEnv *env, uint32_t code) {
-    return enif_make_tuple2(env, a_error, code_word(env, code));
 }
 
 static ERL_NIF_TERM code_term(ErlNifEnv *env, uint32_t code) {
-    return code ? fault(env, code) : a_ok;
+    return code ? enif_make_tuple2(env, a_error, word(env, dn_code_name, code)) : a_ok;
 }
 
 /* ---- what a step did */
 
 static ERL_NIF_TERM closed_term(ErlNifEnv *env, const dn_reply *reply) {
     if (!reply->closed) return a_none;
-    return enif_make_tuple2(env, enif_make_uint(env, reply->closed_id), why_word(env, reply->closed));
+    return enif_make_tuple2(env, enif_make_uint(env, reply->closed_id), word(env, dn_why_name, reply->closed));
 }
 
 static ERL_NIF_TERM status_word(ErlNifEnv *env, uint32_t status) {
@@ -137,31 +131,25 @@ static ERL_NIF_TERM up_term(ErlNifEnv *env, kept *k, const dn_reply *reply) {
                             reply->has_creation ? enif_make_uint(env, reply->creation) : a_unknown);
 }
 
-/* {step, Id, Bodies, Peer, Closed, Received, Up}, or {error, Code, Closed}: an end that made room is reported beside any code. */
+/* {step, Id, Bodies, Closed, Received, Up}, or {error, Code, Closed}: an end that made room is reported beside any code. */
 static ERL_NIF_TERM step_term(ErlNifEnv *env, kept *k, uint32_t code, const dn_reply *reply) {
     uint32_t said = 0, received = 0;
-    if (code) return enif_make_tuple3(env, a_error, code_word(env, code), closed_term(env, reply));
+    if (code) return enif_make_tuple3(env, a_error, word(env, dn_code_name, code), closed_term(env, reply));
     (void)dn_node_status(&k->node, &said, &received);
-    return enif_make_tuple7(env, a_step, enif_make_uint(env, reply->id),
-                            reply->say ? bodies_term(env, k) : enif_make_list(env, 0), peer_term(env, k, reply->id),
+    return enif_make_tuple6(env, a_step, enif_make_uint(env, reply->id), reply->say ? bodies_term(env, k) : enif_make_list(env, 0),
                             closed_term(env, reply), status_word(env, received), up_term(env, k, reply));
 }
 
-static ERL_NIF_TERM fault_step(ErlNifEnv *env, uint32_t code) {
-    return enif_make_tuple3(env, a_error, code_word(env, code), a_none);
-}
-
-/* The owner gets {distnode_made, Node, Pid, What, Step} of a step that Pid has made. */
-static void report(ErlNifEnv *env, kept *k, ERL_NIF_TERM node, ERL_NIF_TERM what, ERL_NIF_TERM step) {
-    ErlNifPid self;
-    if (!enif_self(env, &self)) return;
-    (void)enif_send(env, &k->owner, NULL, enif_make_tuple5(env, a_made, node, enif_make_pid(env, &self), what, step));
+/* The owner gets {distnode_made, Node, Pid, What, Step} of a step of Pid's end. */
+static void report(ErlNifEnv *env, kept *k, ERL_NIF_TERM node, ERL_NIF_TERM pid, ERL_NIF_TERM what, ERL_NIF_TERM step) {
+    (void)enif_send(env, &k->owner, NULL, enif_make_tuple5(env, a_made, node, pid, what, step));
 }
 
 /* What a step of an end's own process did; `what` is the controller of the end's socket, where the step may bring it up. */
 static ERL_NIF_TERM own_step_term(ErlNifEnv *env, kept *k, ERL_NIF_TERM node, uint32_t code, const dn_reply *reply, ERL_NIF_TERM what) {
     ERL_NIF_TERM term = step_term(env, k, code, reply);
-    if (reply->closed || (!code && reply->up)) report(env, k, node, what, term);
+    ErlNifPid self;
+    if ((reply->closed || (!code && reply->up)) && enif_self(env, &self)) report(env, k, node, enif_make_pid(env, &self), what, term);
     return term;
 }
 
@@ -233,7 +221,7 @@ static ERL_NIF_TERM nif_new(ErlNifEnv *env, int argc, const ERL_NIF_TERM argv[])
         !enif_get_uint(env, argv[5], &most_ends))
         return enif_make_badarg(env);
     kept *k = kept_new();
-    if (!k) return fault(env, DN_NO_MEMORY);
+    if (!k) return code_term(env, DN_NO_MEMORY);
     (void)enif_self(env, &k->owner);
     dn_setup setup = {.flags = flags, .required = required, .creation = creation, .version = 6, .most_ends = most_ends,
                       .mandatory_25 = DN_MANDATORY_25};
@@ -241,14 +229,13 @@ static ERL_NIF_TERM nif_new(ErlNifEnv *env, int argc, const ERL_NIF_TERM argv[])
     ERL_NIF_TERM node = enif_make_resource(env, k);
     enif_release_resource(k);
     record(env, "new", argc, argv, code_term(env, code));
-    return code ? fault(env, code) : enif_make_tuple2(env, a_ok, node);
+    return code ? code_term(env, code) : enif_make_tuple2(env, a_ok, node);
 }
 
 /* drop(Node): no step is made any more */
 static ERL_NIF_TERM nif_drop(ErlNifEnv *env, int argc, const ERL_NIF_TERM argv[]) {
     kept *k;
-    if (!kept_of(env, argv[0], &k)) return enif_make_badarg(env);
-    enif_mutex_lock(k->lock);
+    if (!locked(env, argv[0], &k)) return enif_make_badarg(env);
     uint32_t code = dn_node_free(&k->node);
     return done(env, k, "drop", argc, argv, code_term(env, code));
 }
@@ -257,9 +244,7 @@ static ERL_NIF_TERM nif_drop(ErlNifEnv *env, int argc, const ERL_NIF_TERM argv[]
 static ERL_NIF_TERM nif_cookie(ErlNifEnv *env, int argc, const ERL_NIF_TERM argv[]) {
     kept *k;
     ErlNifBinary peer, cookie;
-    if (!kept_of(env, argv[0], &k) || !bytes_of(env, argv[1], &peer) || !bytes_of(env, argv[2], &cookie))
-        return enif_make_badarg(env);
-    enif_mutex_lock(k->lock);
+    if (!bytes_of(env, argv[1], &peer) || !bytes_of(env, argv[2], &cookie) || !locked(env, argv[0], &k)) return enif_make_badarg(env);
     uint32_t code = dn_node_cookie(&k->node, peer.data, peer.size, cookie.data, cookie.size);
     k->changes++;
     return done(env, k, "cookie", argc, argv, code_term(env, code));
@@ -269,8 +254,7 @@ static ERL_NIF_TERM nif_cookie(ErlNifEnv *env, int argc, const ERL_NIF_TERM argv
 static ERL_NIF_TERM nif_usual_cookie(ErlNifEnv *env, int argc, const ERL_NIF_TERM argv[]) {
     kept *k;
     ErlNifBinary cookie;
-    if (!kept_of(env, argv[0], &k) || !bytes_of(env, argv[1], &cookie)) return enif_make_badarg(env);
-    enif_mutex_lock(k->lock);
+    if (!bytes_of(env, argv[1], &cookie) || !locked(env, argv[0], &k)) return enif_make_badarg(env);
     uint32_t code = dn_node_usual_cookie(&k->node, cookie.data, cookie.size);
     k->changes++;
     return done(env, k, "usual_cookie", argc, argv, code_term(env, code));
@@ -280,8 +264,7 @@ static ERL_NIF_TERM listed(ErlNifEnv *env, const char *name, int argc, const ERL
                            uint32_t (*call)(dn_node *, const uint8_t *, size_t)) {
     kept *k;
     ErlNifBinary peer;
-    if (!kept_of(env, argv[0], &k) || !bytes_of(env, argv[1], &peer)) return enif_make_badarg(env);
-    enif_mutex_lock(k->lock);
+    if (!bytes_of(env, argv[1], &peer) || !locked(env, argv[0], &k)) return enif_make_badarg(env);
     uint32_t code = call(&k->node, peer.data, peer.size);
     k->changes++;
     return done(env, k, name, argc, argv, code_term(env, code));
@@ -299,8 +282,7 @@ static ERL_NIF_TERM nif_disallow(ErlNifEnv *env, int argc, const ERL_NIF_TERM ar
 
 /* a node and a peer are given: takes the node's lock and the peer's entry */
 static int entry_of(ErlNifEnv *env, const ERL_NIF_TERM argv[], kept **k, ErlNifBinary *peer, dn_entry *entry, uint32_t *code) {
-    if (!kept_of(env, argv[0], k) || !bytes_of(env, argv[1], peer)) return 0;
-    enif_mutex_lock((*k)->lock);
+    if (!bytes_of(env, argv[1], peer) || !locked(env, argv[0], k)) return 0;
     *code = dn_node_entry(&(*k)->node, peer->data, peer->size, entry);
     return 1;
 }
@@ -321,8 +303,7 @@ static ERL_NIF_TERM nif_no_cookie(ErlNifEnv *env, int argc, const ERL_NIF_TERM a
 static ERL_NIF_TERM nif_changes(ErlNifEnv *env, int argc, const ERL_NIF_TERM argv[]) {
     kept *k;
     (void)argc;
-    if (!kept_of(env, argv[0], &k)) return enif_make_badarg(env);
-    enif_mutex_lock(k->lock);
+    if (!locked(env, argv[0], &k)) return enif_make_badarg(env);
     ErlNifUInt64 changes = k->changes;
     enif_mutex_unlock(k->lock);
     return enif_make_uint64(env, changes);
@@ -333,8 +314,7 @@ static ERL_NIF_TERM nif_forget(ErlNifEnv *env, int argc, const ERL_NIF_TERM argv
     kept *k;
     unsigned below;
     (void)argc;
-    if (!kept_of(env, argv[0], &k) || !enif_get_uint(env, argv[1], &below)) return enif_make_badarg(env);
-    enif_mutex_lock(k->lock);
+    if (!enif_get_uint(env, argv[1], &below) || !locked(env, argv[0], &k)) return enif_make_badarg(env);
     uint32_t code = dn_node_forget(&k->node, below);
     enif_mutex_unlock(k->lock);
     return code_term(env, code);
@@ -347,22 +327,10 @@ static ERL_NIF_TERM nif_dial(ErlNifEnv *env, int argc, const ERL_NIF_TERM argv[]
     kept *k;
     ErlNifBinary peer;
     dn_reply reply = {0};
-    if (!kept_of(env, argv[0], &k) || !bytes_of(env, argv[1], &peer)) return enif_make_badarg(env);
-    enif_mutex_lock(k->lock);
+    if (!bytes_of(env, argv[1], &peer) || !locked(env, argv[0], &k)) return enif_make_badarg(env);
     uint32_t code = dn_node_dial(&k->node, peer.data, peer.size, 1, &reply);
     ERL_NIF_TERM term = step_term(env, k, code, &reply);
     return done(env, k, "dial", argc, argv, term);
-}
-
-/* incoming(Node, Pid): this process has the connection */
-static ERL_NIF_TERM nif_incoming(ErlNifEnv *env, int argc, const ERL_NIF_TERM argv[]) {
-    kept *k;
-    dn_reply reply = {0};
-    if (!kept_of(env, argv[0], &k)) return enif_make_badarg(env);
-    enif_mutex_lock(k->lock);
-    uint32_t code = dn_node_incoming(&k->node, &reply);
-    ERL_NIF_TERM term = step_term(env, k, code, &reply);
-    return done(env, k, "incoming", argc, argv, term);
 }
 
 /* opened(Node, Id), by the process that dials */
@@ -370,8 +338,7 @@ static ERL_NIF_TERM nif_opened(ErlNifEnv *env, int argc, const ERL_NIF_TERM argv
     kept *k;
     unsigned id;
     dn_reply reply = {0};
-    if (!kept_of(env, argv[0], &k) || !enif_get_uint(env, argv[1], &id)) return enif_make_badarg(env);
-    enif_mutex_lock(k->lock);
+    if (!enif_get_uint(env, argv[1], &id) || !locked(env, argv[0], &k)) return enif_make_badarg(env);
     uint32_t code = dn_node_opened(&k->node, id, &reply);
     ERL_NIF_TERM term = own_step_term(env, k, argv[0], code, &reply, a_step);
     return done(env, k, "opened", argc, argv, term);
@@ -384,8 +351,8 @@ typedef struct {
 } frame;
 
 static int frame_of(ErlNifEnv *env, const ERL_NIF_TERM argv[], frame *f) {
-    return kept_of(env, argv[0], &f->k) && enif_get_uint(env, argv[1], &f->id) && bytes_of(env, argv[2], &f->body) &&
-           enif_get_uint(env, argv[3], &f->challenge);
+    return enif_get_uint(env, argv[1], &f->id) && bytes_of(env, argv[2], &f->body) && enif_get_uint(env, argv[3], &f->challenge) &&
+           locked(env, argv[0], &f->k);
 }
 
 /* A frame that would close an end that is up is held: that end is in closed_id then, and nothing is closed. */
@@ -393,17 +360,6 @@ static uint32_t take(frame *f, dn_reply *reply) {
     uint32_t code = dn_node_guarded_body(&f->k->node, f->id, f->body.data, f->body.size, f->challenge, reply);
     if (code == DN_SHOWN_END) reply->closed = 0;
     return code;
-}
-
-/* body(Node, Id, Body, Challenge), by the owner */
-static ERL_NIF_TERM nif_body(ErlNifEnv *env, int argc, const ERL_NIF_TERM argv[]) {
-    frame f;
-    dn_reply reply = {0};
-    if (!frame_of(env, argv, &f)) return enif_make_badarg(env);
-    enif_mutex_lock(f.k->lock);
-    uint32_t code = take(&f, &reply);
-    ERL_NIF_TERM term = step_term(env, f.k, code, &reply);
-    return done(env, f.k, "body", argc, argv, term);
 }
 
 static ERL_NIF_TERM own_body(ErlNifEnv *env, frame *f, ERL_NIF_TERM node, ERL_NIF_TERM what) {
@@ -418,62 +374,58 @@ static uint32_t foresee(frame *f, dn_reply *reply) {
     return dn_node_ready_body(&f->k->node, f->id, f->body.data, f->body.size, f->challenge, reply);
 }
 
-/* early_body(Node, Id, Body, Challenge): as body/4, by the end's process; but {ready, Up}, and nothing done, where that would bring
- * the end up */
+/* early_body(Node, Id, Body, Challenge), by the end's process; but {ready, Up}, and nothing done, where that would bring the end up */
 static ERL_NIF_TERM nif_early_body(ErlNifEnv *env, int argc, const ERL_NIF_TERM argv[]) {
     frame f;
     dn_reply reply = {0};
     if (!frame_of(env, argv, &f)) return enif_make_badarg(env);
-    enif_mutex_lock(f.k->lock);
     uint32_t code = foresee(&f, &reply);
-    ERL_NIF_TERM term = code       ? fault_step(env, code)
+    ERL_NIF_TERM term = code       ? step_term(env, f.k, code, &reply)
                         : reply.up ? enif_make_tuple2(env, a_ready, up_term(env, f.k, &reply))
                                    : own_body(env, &f, argv[0], a_step);
     return done(env, f.k, "early_body", argc, argv, term);
 }
 
-/* come_up(Node, Id, Body, Challenge, Common, Creation, Controller): as body/4, by the end's process; but `other`, and nothing done, where
- * that would bring the end up with other flags or another creation, 0 where the peer has none; and {held, Shown}, and nothing done,
- * where that would close this end, which is up and is to be gone first */
+/* come_up(Node, Id, Body, Challenge, Common, Creation, Controller), by the end's process; but `other`, and nothing done, where that would
+ * bring the end up with other flags or another creation, 0 where the peer has none; and {held, Shown}, and nothing done, where that
+ * would close this end, which is up and is to be gone first */
 static ERL_NIF_TERM nif_come_up(ErlNifEnv *env, int argc, const ERL_NIF_TERM argv[]) {
     frame f;
     ErlNifUInt64 common;
     unsigned creation;
     dn_reply reply = {0};
-    if (!frame_of(env, argv, &f) || !enif_get_uint64(env, argv[4], &common) || !enif_get_uint(env, argv[5], &creation))
+    if (!enif_get_uint64(env, argv[4], &common) || !enif_get_uint(env, argv[5], &creation) || !frame_of(env, argv, &f))
         return enif_make_badarg(env);
-    enif_mutex_lock(f.k->lock);
     uint32_t code = foresee(&f, &reply);
     int is_other = reply.up && (reply.common != common || reply.creation != creation);
-    ERL_NIF_TERM term = code ? fault_step(env, code) : is_other ? a_other : own_body(env, &f, argv[0], argv[6]);
+    ERL_NIF_TERM term = code ? step_term(env, f.k, code, &reply) : is_other ? a_other : own_body(env, &f, argv[0], argv[6]);
     return done(env, f.k, "come_up", argc, argv, term);
 }
 
 /* The end is there, so its owner has to know of it whatever becomes of the frame. */
-static ERL_NIF_TERM first_frame(ErlNifEnv *env, frame *f, ERL_NIF_TERM node, const dn_reply *newcomer) {
+static ERL_NIF_TERM first_frame(ErlNifEnv *env, frame *f, ERL_NIF_TERM node, ERL_NIF_TERM pid, const dn_reply *newcomer) {
     dn_reply reply = {0};
     ERL_NIF_TERM id = enif_make_uint(env, newcomer->id);
     f->id = newcomer->id;
     uint32_t code = take(f, &reply);
     ERL_NIF_TERM step = step_term(env, f->k, code, &reply);
-    report(env, f->k, node, enif_make_tuple3(env, a_arrived, id, closed_term(env, newcomer)), step);
+    report(env, f->k, node, pid, enif_make_tuple4(env, a_arrived, id, peer_term(env, f->k, f->id), closed_term(env, newcomer)), step);
     return enif_make_tuple3(env, a_arrived, id, step);
 }
 
-/* arrive(Node, Changes, Body, Challenge): a connection was accepted, and this is its first frame: {arrived, Id, Step}; or `changed`,
- * and nothing done, where cookies or the allow list were changed since; or {error, Code, Closed}, and there is no end */
+/* arrive(Node, Changes, Body, Challenge, Pid): this process has accepted a connection, and this is its first frame: {arrived, Id, Step};
+ * or `changed`, and nothing done, where cookies or the allow list were changed since; or {error, Code, Closed}, and there is no end */
 static ERL_NIF_TERM nif_arrive(ErlNifEnv *env, int argc, const ERL_NIF_TERM argv[]) {
     frame f;
     ErlNifUInt64 changes;
     dn_reply reply = {0};
     ERL_NIF_TERM term = a_changed;
-    if (!kept_of(env, argv[0], &f.k) || !enif_get_uint64(env, argv[1], &changes) || !bytes_of(env, argv[2], &f.body) ||
-        !enif_get_uint(env, argv[3], &f.challenge))
+    if (!enif_get_uint64(env, argv[1], &changes) || !bytes_of(env, argv[2], &f.body) || !enif_get_uint(env, argv[3], &f.challenge) ||
+        !locked(env, argv[0], &f.k))
         return enif_make_badarg(env);
-    enif_mutex_lock(f.k->lock);
     if (changes == f.k->changes) {
         uint32_t code = dn_node_incoming(&f.k->node, &reply);
-        term = code ? own_step_term(env, f.k, argv[0], code, &reply, a_step) : first_frame(env, &f, argv[0], &reply);
+        term = code ? own_step_term(env, f.k, argv[0], code, &reply, a_step) : first_frame(env, &f, argv[0], argv[4], &reply);
     }
     return done(env, f.k, "arrive", argc, argv, term);
 }
@@ -491,8 +443,7 @@ static ERL_NIF_TERM lost(ErlNifEnv *env, int argc, const ERL_NIF_TERM argv[], un
     kept *k;
     unsigned id, known;
     dn_reply reply = {0};
-    if (!kept_of(env, argv[0], &k) || !enif_get_uint(env, argv[1], &id)) return enif_make_badarg(env);
-    enif_mutex_lock(k->lock);
+    if (!enif_get_uint(env, argv[1], &id) || !locked(env, argv[0], &k)) return enif_make_badarg(env);
     int is_shown = !is_gone && phase_of(k, id, &known) == DN_PHASE_UP;
     uint32_t code = is_shown ? DN_SHOWN_END : dn_node_lost(&k->node, id, why, &reply);
     ERL_NIF_TERM term = step_term(env, k, code, &reply);
@@ -517,11 +468,10 @@ static ERL_NIF_TERM nif_give_up(ErlNifEnv *env, int argc, const ERL_NIF_TERM arg
     dn_entry entry = {0, 0, 0};
     dn_reply reply = {0};
     ERL_NIF_TERM term = a_none;
-    if (!kept_of(env, argv[0], &k) || !bytes_of(env, argv[1], &peer)) return enif_make_badarg(env);
-    enif_mutex_lock(k->lock);
-    if (!dn_node_entry(&k->node, peer.data, peer.size, &entry) &&
-        (entry.state == DN_STATE_OUT || entry.state == DN_STATE_IN)) {
-        uint32_t code = dn_node_lost(&k->node, entry.pending, DN_WHY_GAVE_UP, &reply);
+    uint32_t code;
+    if (!entry_of(env, argv, &k, &peer, &entry, &code)) return enif_make_badarg(env);
+    if (!code && (entry.state == DN_STATE_OUT || entry.state == DN_STATE_IN)) {
+        code = dn_node_lost(&k->node, entry.pending, DN_WHY_GAVE_UP, &reply);
         term = step_term(env, k, code, &reply);
     }
     return done(env, k, "give_up", argc, argv, term);
@@ -534,11 +484,10 @@ static ERL_NIF_TERM nif_cause(ErlNifEnv *env, int argc, const ERL_NIF_TERM argv[
     kept *k;
     unsigned id, why;
     (void)argc;
-    if (!kept_of(env, argv[0], &k) || !enif_get_uint(env, argv[1], &id)) return enif_make_badarg(env);
-    enif_mutex_lock(k->lock);
+    if (!enif_get_uint(env, argv[1], &id) || !locked(env, argv[0], &k)) return enif_make_badarg(env);
     uint32_t phase = phase_of(k, id, &why);
     enif_mutex_unlock(k->lock);
-    return phase == DN_PHASE_CLOSED ? why_word(env, why) : a_none;
+    return phase == DN_PHASE_CLOSED ? word(env, dn_why_name, why) : a_none;
 }
 
 /* up_end(Node, Peer): the end that is up with this peer, or none */
@@ -560,9 +509,8 @@ static ERL_NIF_TERM nif_peers(ErlNifEnv *env, int argc, const ERL_NIF_TERM argv[
     uint8_t name[255], last[255];
     dn_peer peer;
     (void)argc;
-    if (!kept_of(env, argv[0], &k)) return enif_make_badarg(env);
+    if (!locked(env, argv[0], &k)) return enif_make_badarg(env);
     ERL_NIF_TERM list = enif_make_list(env, 0);
-    enif_mutex_lock(k->lock);
     for (size_t len = 0; !dn_node_next_peer(&k->node, last, len, &peer, name, sizeof name); len = peer.name) {
         memcpy(last, name, peer.name);
         ERL_NIF_TERM row =
@@ -644,13 +592,12 @@ static void unload(ErlNifEnv *env, void *priv) {
 static ErlNifFunc functions[] = {
     {"new", 6, nif_new, 0},           {"cookie", 3, nif_cookie, 0},   {"usual_cookie", 2, nif_usual_cookie, 0},
     {"allow", 2, nif_allow, 0},       {"disallow", 2, nif_disallow, 0}, {"changes", 1, nif_changes, 0},
-    {"forget", 2, nif_forget, 0},     {"dial", 2, nif_dial, 0},       {"incoming", 2, nif_incoming, 0},
-    {"opened", 2, nif_opened, 0},     {"body", 4, nif_body, 0},       {"early_body", 4, nif_early_body, 0},
-    {"come_up", 7, nif_come_up, 0},   {"arrive", 4, nif_arrive, 0},   {"lost", 3, nif_lost, 0},
-    {"cause", 2, nif_cause, 0},       {"up_end", 2, nif_up_end, 0},   {"peers", 1, nif_peers, 0},
-    {"challenge", 0, nif_challenge, 0}, {"no_cookie", 2, nif_no_cookie, 0}, {"give_up", 2, nif_give_up, 0},
-    {"gone", 2, nif_gone, 0},         {"drop", 1, nif_drop, 0},       {"recording", 1, nif_recording, 0},
-    {"connection", 2, nif_connection, 0},
+    {"forget", 2, nif_forget, 0},     {"dial", 2, nif_dial, 0},       {"opened", 2, nif_opened, 0},
+    {"early_body", 4, nif_early_body, 0}, {"come_up", 7, nif_come_up, 0}, {"arrive", 5, nif_arrive, 0},
+    {"lost", 3, nif_lost, 0},         {"cause", 2, nif_cause, 0},     {"up_end", 2, nif_up_end, 0},
+    {"peers", 1, nif_peers, 0},       {"challenge", 0, nif_challenge, 0}, {"no_cookie", 2, nif_no_cookie, 0},
+    {"give_up", 2, nif_give_up, 0},   {"gone", 2, nif_gone, 0},       {"drop", 1, nif_drop, 0},
+    {"recording", 1, nif_recording, 0}, {"connection", 2, nif_connection, 0},
 };
 
 ERL_NIF_INIT(distnode_nif, functions, load, NULL, upgrade, unload)

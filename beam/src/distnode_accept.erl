@@ -21,7 +21,9 @@ accept(Transport, Kernel, Acceptor, {Accepted, Begun}, MyNode, Allowed, SetupTim
             _ = process_flag(min_heap_size, distnode_carrier:heap_words()),
             bring_up(Transport, Kernel, Socket, Info, {MyNode, Allowed}, Timer);
         {nameless, Body} -> nameless(Transport, Kernel, Socket, Body, MyNode, Allowed, SetupTime);
-        {refused, Peer, Code} -> refused(Peer, Code);
+        {refused, Peer, Code} ->
+            distnode_access:report(Peer, Code),
+            exit(shutdown);
         {closed, Why, Peer} -> closed(Why, Peer)
     end.
 
@@ -63,12 +65,6 @@ receive_first(Transport, Socket, Length, Wait) ->
         {distnode, {first, Body}} -> {ok, Body}
     after 0 -> Transport:recv(Socket, Length, Wait)
     end.
-
--spec refused(binary() | none, atom()) -> no_return().
-refused(_, 'Gone') -> exit(shutdown);
-refused(Peer, Code) ->
-    distnode_access:report(Peer, Code),
-    exit(shutdown).
 
 -spec closed(term(), binary() | none) -> no_return().
 closed(Why, Peer) ->

@@ -52,13 +52,17 @@ want(Access) -> gen_server:call(?MODULE, {want, Access}, infinity).
 arrived(Body, Access, Begun) ->
     case {node_as(Access), begun_anew()} of
         {{Node, Changes, Flags}, Begun} ->
-            case distnode_nif:arrive(Node, Changes, Body, distnode_nif:challenge()) of
-                {arrived, Id, Step} ->
-                    End = #{id => Id, node => Node, flags => Flags},
-                    {ok, End, outcome(Step, End)};
+            case arrive(Node, Changes, Flags, Body, self()) of
+                {ok, _, _} = Arrived -> Arrived;
                 _ -> ask_arrived(Body, Access, Begun)
             end;
         _ -> ask_arrived(Body, Access, Begun)
+    end.
+
+arrive(Node, Changes, Flags, Body, Pid) ->
+    case distnode_nif:arrive(Node, Changes, Body, distnode_nif:challenge(), Pid) of
+        {arrived, Id, Step} -> {ok, #{id => Id, node => Node, flags => Flags}, outcome(Step)};
+        Other -> Other
     end.
 
 ask_arrived(Body, Access, Begun) -> gen_server:call(?MODULE, {arrived, Body, Access, Begun}, infinity).
@@ -75,7 +79,7 @@ node_as(_) -> none.
 %% The connection of an end that was dialled is there, and the caller says the name on it. Where this end is over, the setup whose
 %% dial it was gets a message.
 -spec opened(own_end()) -> received().
-opened(#{id := Id, node := Node} = End) -> outcome(distnode_nif:opened(Node, Id), End).
+opened(#{id := Id, node := Node}) -> outcome(distnode_nif:opened(Node, Id)).
 
 %% A frame came on the caller's end, which isn't up.
 %% `ready`: it would bring the end up, and nothing was done yet; whoever keeps or gets the end asks net_kernel.
@@ -85,7 +89,7 @@ early(Body, #{id := Id, node := Node} = End) ->
     case distnode_nif:early_body(Node, Id, Body, Challenge) of
         {ready, {Peer, Common, Creation}} ->
             {ready, End#{peer => Peer, common => Common, creation => Creation, frame => {Body, Challenge}}};
-        Step -> outcome(Step, End)
+        Step -> outcome(Step)
     end.
 
 %% net_kernel has agreed: the end comes up with the very peer, flags and creation for which it has, or not at all. Where an old
@@ -95,18 +99,18 @@ early(Body, #{id := Id, node := Node} = End) ->
 -spec come_up(port() | pid(), info()) -> {ok, [binary()]} | received().
 come_up(Controller, #{id := Id, node := Node, frame := {Body, Challenge}, common := Common, creation := Creation} = Info) ->
     case distnode_nif:come_up(Node, Id, Body, Challenge, Common, distnode_script:number(Creation), Controller) of
-        {step, Id, Bodies, _, _, _, {_, Common, Creation}} -> {ok, Bodies};
+        {step, Id, Bodies, _, _, {_, Common, Creation}} -> {ok, Bodies};
         {held, Shown} ->
             ok = gen_server:call(?MODULE, {end_shown, Shown}, infinity),
             come_up(Controller, Info);
         other -> {error, 'OtherFlags'};
-        Step -> outcome(Step, Info)
+        Step -> outcome(Step)
     end.
 
 %% What a step that brought nobody up did.
-outcome({step, Id, Bodies, _, {Id, Why}, Received, none}, _) -> {closed, Bodies, Why, Received};
-outcome({step, _, Bodies, _, _, _, none}, _) -> {more, Bodies};
-outcome({error, Code, _}, _) -> {error, Code}.
+outcome({step, Id, Bodies, {Id, Why}, Received, none}) -> {closed, Bodies, Why, Received};
+outcome({step, _, Bodies, _, _, none}) -> {more, Bodies};
+outcome({error, Code, _}) -> {error, Code}.
 
 %% The next step brings the caller's end up, and net_kernel would not take the peer from it, since it has a setup of its own for it.
 -spec refused(id()) -> {give, pid()} | retry | gone.
@@ -144,8 +148,7 @@ init([]) ->
 handle_call({want, #{peer := Peer} = Access}, {Pid, _}, St0) ->
     case with_node(St0) of
         {ok, St} ->
-            {_, St1} = report({want, Peer, Pid}, watch(Pid, St#st{dials = (St#st.dials)#{Peer => Access}})),
-            {reply, ok, publish(St1)};
+            {reply, ok, publish(reported({want, Peer, Pid}, watch(Pid, St#st{dials = (St#st.dials)#{Peer => Access}})))};
         {error, Code} ->
             Pid ! {distnode, {failed, Code}},
             {reply, ok, St0}
@@ -173,12 +176,7 @@ handle_call(table, _, St) -> {reply, table(St), St};
 handle_call(counts, _, St) -> {reply, St#st.counts, St};
 handle_call(_, _, St) -> {reply, {error, unknown_call}, St}.
 
-handle_cast({handed, Id, Giver}, St) ->
-    {_, St1} = report({handed, Id, Giver}, St),
-    {noreply, St1};
-handle_cast({done, Id, Pid}, St) ->
-    {_, St1} = report({done, Id, Pid}, note(done, St)),
-    {noreply, St1};
+handle_cast({What, _, _} = Event, St) when What =:= handed; What =:= done -> {noreply, reported(Event, note(What, St))};
 handle_cast(_, St) -> {noreply, St}.
 
 handle_info({distnode_made, Node, Pid, What, Step}, #st{node = Node} = St) -> {noreply, follow(What, Pid, Step, St)};
@@ -191,9 +189,7 @@ handle_info({'DOWN', Ref, _, _, _}, #st{shown = Shown} = St) when is_map_key(Ref
     {noreply, gone(Id, Peer, St#st{shown = Left})};
 handle_info({'DOWN', Ref, process, Pid, _}, #st{watched = Watched} = St) ->
     case Watched of
-        #{Pid := Ref} ->
-            {_, St1} = report({down, Pid}, St#st{watched = maps:remove(Pid, Watched)}),
-            {noreply, St1};
+        #{Pid := Ref} -> {noreply, reported({down, Pid}, St#st{watched = maps:remove(Pid, Watched)})};
         #{} -> {noreply, St}
     end;
 handle_info(_, St) -> {noreply, St}.
@@ -203,40 +199,25 @@ handle_info(_, St) -> {noreply, St}.
 %% A connection for which the node gets a cookie or a name of the list first.
 accept(Body, Access, Pid, St0) ->
     case prepare(Access, St0) of
-        {ok, St1} ->
-            {Answer, St} = incoming(Body, Pid, St1),
-            {Answer, came(Access, St)};
+        {ok, #st{node = Node, flags = Flags} = St} ->
+            case arrive(Node, distnode_nif:changes(Node), Flags, Body, Pid) of
+                {error, 'Spent', _} -> {{error, 'Spent'}, begin_anew(St)};
+                {error, Code, _} -> {{error, Code}, came(Access, note({incoming, Code}, St))};
+                Arrived -> {Arrived, came(Access, St)}
+            end;
         {{error, Code}, St} -> {{error, Code}, note({prepare, Code}, St)}
     end.
 
-incoming(Body, Pid, #st{node = Node, flags = Flags} = St) ->
-    case distnode_nif:incoming(Node, Pid) of
-        {step, Id, [], none, Room, none, none} ->
-            End = #{id => Id, node => Node, flags => Flags},
-            Step = distnode_nif:body(Node, Id, Body, distnode_nif:challenge()),
-            {{ok, End, answer(Id, Step)}, follow({arrived, Id, Room}, Pid, Step, St)};
-        {error, 'Spent', _} -> {{error, 'Spent'}, begin_anew(St)};
-        {error, Code, Closed} -> {{error, Code}, closed(Closed, none, note({incoming, Code}, St))}
-    end.
-
-%% A first frame brings nobody up.
-answer(Id, {step, Id, Bodies, _, {Id, Why}, Received, none}) -> {closed, Bodies, Why, Received};
-answer(Id, {step, Id, Bodies, _, _, _, none}) -> {more, Bodies};
-answer(_, {error, Code, _}) -> {error, Code}.
-
 %% What a process did with its own end.
-follow({arrived, Id, Room}, Pid, Step, St0) ->
-    {_, St} = report({accepted, Id, Pid}, watch(Pid, note(incoming, St0))),
-    closed(Room, none, settle(Id, none, follow_name(Step, follow_step(Pid, Step, forget(Id, St)))));
-follow(Controller, Pid, {step, Id, _, _, _, _, {Peer, _, _}}, #st{shown = Shown} = St) ->
+follow({arrived, Id, Peer, Room}, Pid, Step, St0) ->
+    St = reported({accepted, Id, Pid, Peer}, watch(Pid, note(incoming, St0))),
+    closed(Room, none, settle(Id, none, follow_step(Pid, Step, forget(Id, St))));
+follow(Controller, Pid, {step, Id, _, _, _, {Peer, _, _}}, #st{shown = Shown} = St) ->
     Kind = case is_port(Controller) of true -> port; false -> process end,
-    ignored(report({came_up, Id, Pid}, note(came_up, St#st{shown = Shown#{monitor(Kind, Controller) => {Id, Peer}}})));
+    reported({came_up, Id, Pid}, note(came_up, St#st{shown = Shown#{monitor(Kind, Controller) => {Id, Peer}}}));
 follow(_, Pid, Step, St) -> follow_step(Pid, Step, St).
 
-follow_name({step, Id, _, Peer, _, _, _}, St) when Peer =/= none -> ignored(report({named, Id, Peer}, St));
-follow_name(_, St) -> St.
-
-follow_step(Pid, {step, _, _, _, Closed, _, none}, St) -> closed(Closed, Pid, St);
+follow_step(Pid, {step, _, _, Closed, _, none}, St) -> closed(Closed, Pid, St);
 follow_step(Pid, {error, Code, Closed}, St) -> closed(Closed, Pid, note({refused, Code}, St)).
 
 %% Another step may have closed an end, and that isn't reported to the machine yet, or was before the end had arrived.
@@ -248,20 +229,22 @@ settle(Id, By, #st{node = Node, links = Links} = St) ->
 
 closed(none, _, St) -> St;
 closed({Id, Why}, Pid, #st{links = Links} = St) ->
-    take_back(distnode_links:peer(Id, Links), ignored(report({closed, Id, Why, Pid}, note({closed, Why}, St)))).
+    take_back(distnode_links:peer(Id, Links), reported({closed, Id, Why, Pid}, note({closed, Why}, St))).
 
 %% The socket of an end that came up is gone: only now the node has it closed, and a frame that was held for it goes on.
 gone(Id, Peer, #st{node = Node, held = Held} = St) ->
     _ = distnode_nif:gone(Node, Id),
     {Waiting, Left} = lists:partition(fun({Shown, _}) -> Shown =:= Id end, Held),
     _ = [gen_server:reply(From, ok) || {_, From} <- Waiting],
-    take_back(Peer, ignored(report({gone, Id, Peer}, note({lost, ended}, St#st{held = Left})))).
+    take_back(Peer, reported({gone, Id, Peer}, note({lost, ended}, St#st{held = Left}))).
 
 %% ---- an event is reported to the machine, and its actions are done
 
 report(Event, #st{links = Links} = St) ->
     {Answer, Actions, Next} = distnode_links:event(Event, Links),
     {Answer, lists:foldl(fun act/2, St#st{links = Next}, Actions)}.
+
+reported(Event, St) -> element(2, report(Event, St)).
 
 act({send, Pid, {dial, Id}}, St) ->
     Pid ! {distnode, {dial, #{id => Id, node => St#st.node, flags => St#st.flags}}},
@@ -291,19 +274,17 @@ dial(Peer, #st{dials = Dials} = St0) ->
     #{Peer := Access} = Dials,
     case suit(Access, St0) of
         {ok, St} -> take_back(Peer, dialled(Peer, distnode_nif:dial(St#st.node, Peer), St));
-        {{error, Code}, St} -> ignored(report({refused, Peer, Code}, St))
+        {{error, Code}, St} -> reported({refused, Peer, Code}, St)
     end.
 
-dialled(Peer, {step, Id, [], _, Closed, _, none}, St) ->
-    forget(Id, closed(Closed, none, ignored(report({dialled, Peer, Id}, note(dial, St)))));
+dialled(Peer, {step, Id, [], Closed, _, none}, St) ->
+    forget(Id, closed(Closed, none, reported({dialled, Peer, Id}, note(dial, St))));
 dialled(Peer, {error, 'Busy', Closed}, St) ->
     Up = distnode_nif:up_end(St#st.node, Peer),
-    ignored(report({busy, Peer, Up}, closed(Closed, none, note(busy, St))));
+    reported({busy, Peer, Up}, closed(Closed, none, note(busy, St)));
 dialled(_, {error, 'Spent', _}, St) -> begin_anew(St);
 dialled(Peer, {error, Code, Closed}, St) ->
-    ignored(report({refused, Peer, Code}, closed(Closed, none, note({dial, Code}, St)))).
-
-ignored({_, St}) -> St.
+    reported({refused, Peer, Code}, closed(Closed, none, note({dial, Code}, St))).
 
 watch(Pid, #st{watched = Watched} = St) when is_map_key(Pid, Watched) -> St;
 watch(Pid, #st{watched = Watched} = St) -> St#st{watched = Watched#{Pid => monitor(process, Pid)}}.
@@ -339,7 +320,7 @@ most_ends() -> application:get_env(kernel, distnode_most_ends, 0).
 begin_anew(#st{node = Node} = St0) ->
     error_logger:warning_msg("** distnode: all numbers of connections were given out; all are closed, and numbered anew **~n"),
     ok = distnode_nif:drop(Node),
-    {_, #st{shown = Shown} = St} = report(spent, came_up_last(note(spent, St0))),
+    #st{shown = Shown} = St = reported(spent, came_up_last(note(spent, St0))),
     _ = [receive {'DOWN', Ref, _, _, _} -> ok end || Ref <- maps:keys(Shown)],
     _ = ets:update_counter(?TABLE, begun_anew, 1),
     true = ets:delete(?TABLE, node),
@@ -409,7 +390,7 @@ lend(Peer, Cookie, #st{node = Node, own = Own} = St) ->
 lend_after([], _, _, St) -> {{error, 'Full'}, St};
 lend_after([{_, Other} | More], Peer, Cookie, #st{node = Node} = St) ->
     case distnode_nif:give_up(Node, Other) of
-        {step, _, _, _, Closed, _, _} -> lend(Peer, Cookie, take_back(Other, closed(Closed, none, St)));
+        {step, _, _, Closed, _, _} -> lend(Peer, Cookie, take_back(Other, closed(Closed, none, St)));
         none -> lend_after(More, Peer, Cookie, St)
     end.
 
@@ -427,7 +408,7 @@ take_back(_, St) -> St.
 %% keeps cookies, it does not until some of them have gone; whoever comes meanwhile is lent the new one.
 suit_usual({ok, Usual}, #st{node = Node, usual = Old, own = Own} = St0) when Usual =/= Old ->
     St = case [Peer || {Peer, _, _, _} <- distnode_nif:peers(Node), not is_map_key(Peer, Own)] of
-             Up when length(Up) + map_size(Own) =< ?MOST_OWN -> lists:foldl(fun(Peer, Now) -> ignored(lend(Peer, Old, Now)) end, St0, Up);
+             Up when length(Up) + map_size(Own) =< ?MOST_OWN -> lists:foldl(fun(Peer, Now) -> element(2, lend(Peer, Old, Now)) end, St0, Up);
              _ -> St0
          end,
     case distnode_nif:usual_cookie(Node, Usual) of

@@ -1,34 +1,8 @@
 %% SPDX-License-Identifier: Apache-2.0
-%% A carrier of Erlang's distribution whose handshakes the proved core decides: erl -proto_dist distnode. On the wire it is
-%% what inet_tcp_dist is.
+%% A carrier of Erlang's distribution whose handshakes the proved core decides: erl -proto_dist distnode.
 -module(distnode_dist).
--export([childspecs/0, listen/1, listen/2, accept/1, accept_connection/5, setup/5, close/1, select/1, address/0,
-         is_node_name/1, setopts/2, getopts/2]).
-
-childspecs() -> distnode_carrier:childspecs(distnode_tcp).
-
-listen(Name) ->
-    {ok, Host} = inet:gethostname(),
-    listen(Name, Host).
-
-listen(Name, Host) -> distnode_carrier:renamed(distnode_tcp, inet_tcp_dist:listen(Name, Host)).
-
-accept(Listen) -> distnode_carrier:accept(distnode_tcp, inet_tcp, Listen).
-
-accept_connection(Acceptor, Socket, MyNode, Allowed, SetupTime) ->
-    distnode_accept:start(distnode_tcp, Acceptor, Socket, MyNode, Allowed, SetupTime).
-
-setup(Node, Type, MyNode, LongOrShort, SetupTime) ->
-    distnode_carrier:setup(inet_tcp_dist, distnode_tcp, inet_tcp, [Node, Type, MyNode, LongOrShort, SetupTime]).
-
-close(Socket) -> inet_tcp:close(Socket).
-
-select(Node) -> inet_tcp_dist:select(Node).
-
-address() -> distnode_carrier:renamed(distnode_tcp, inet_tcp_dist:address()).
-
-is_node_name(Node) -> inet_tcp_dist:is_node_name(Node).
-
-setopts(Listen, Options) -> distnode_carrier:setopts(distnode_tcp, Listen, Options).
-
-getopts(Listen, Options) -> distnode_tcp:getopts(Listen, Options).
+-define(TRANSPORT, distnode_tcp).
+-define(DRIVER, inet_tcp).
+-define(OVER_TCP, inet_tcp_dist).
+-define(STANDARD, inet_tcp_dist).
+-include("distnode_dist.hrl").

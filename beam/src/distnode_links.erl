@@ -35,8 +35,7 @@
     {dialled, peer(), id()} |                 % what became of the action {dial, Peer}: a new end,
     {busy, peer(), Up :: id() | none} |       % no end, since the peer has one, and which one is up,
     {refused, peer(), Code :: atom()} |       % or no end, for another reason
-    {accepted, id(), pid()} |                 % a connection came, and got this end
-    {named, id(), peer()} |                   % the end holds this peer now
+    {accepted, id(), pid(), peer() | none} |  % a connection came, and got this end, which holds this peer
     {vetoed, id(), pid()} |                   % the next step brings this end up, and net_kernel wouldn't take it from its owner: it
                                               % has a setup of its own
     {handed, id(), pid()} |                   % the giver of this end has handed its socket to the owner
@@ -62,8 +61,7 @@ event({want, Peer, Setup}, L) -> want(Peer, Setup, L);
 event({dialled, Peer, Id}, L) -> dialled(Peer, Id, L);
 event({busy, Peer, Up}, L) -> busy(Peer, Up, L);
 event({refused, Peer, Code}, L) -> refused(Peer, Code, L);
-event({accepted, Id, Pid}, L) -> {ok, [], put_link(Id, #link{owner = Pid}, L)};
-event({named, Id, Peer}, L) -> named(Id, Peer, L);
+event({accepted, Id, Pid, Peer}, L) -> {ok, [], put_link(Id, #link{owner = Pid, peer = Peer}, L)};
 event({vetoed, Id, Pid}, L) -> vetoed(Id, Pid, L);
 event({handed, Id, Giver}, L) -> handed(Id, Giver, L);
 event({came_up, Id, Pid}, L) -> came_up(Id, Pid, L);
@@ -123,12 +121,6 @@ refused(Peer, Code, L) ->
     end.
 
 %% ---- a handshake goes on
-
-named(Id, Peer, L) ->
-    case link_of(Id, L) of
-        #link{} = Link -> {ok, [], change(Id, Link#link{peer = Peer}, L)};
-        none -> {ok, [], L}
-    end.
 
 %% The setup may have been killed since, and then its end is reported before long, or net_kernel may not have started it yet.
 vetoed(Id, Pid, L) ->

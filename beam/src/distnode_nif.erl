@@ -2,8 +2,8 @@
 %% A node of the C library as functions of Erlang: c_src/distnode_nif.c.
 -module(distnode_nif).
 -export([load/0, new/6, drop/1, cookie/3, no_cookie/2, usual_cookie/2, allow/2, disallow/2, changes/1, forget/2]).
--export([dial/2, incoming/2, body/4, lost/3, gone/2, give_up/2]).
--export([arrive/4, opened/2, early_body/4, come_up/7]).
+-export([dial/2, lost/3, gone/2, give_up/2]).
+-export([arrive/5, opened/2, early_body/4, come_up/7]).
 -export([cause/2, up_end/2, peers/1, challenge/0, recording/1, connection/2]).
 -export_type([id/0, peer/0, closed/0, step/0, up/0, made/0]).
 
@@ -13,14 +13,14 @@
 -type closed() :: none | {id(), why()}.
 -type status() :: none | ok | ok_simultaneous | nok | not_allowed | alive | true | false.
 -type up() :: none | {peer(), Common :: non_neg_integer(), Creation :: non_neg_integer() | unknown}.
-%% What a step did: the frames that it says, the peer that its end holds, the end that it closed, the status that it received,
-%% and who came up. An end that made room for a newcomer is reported beside an error, too.
+%% What a step did: the frames that it says, the end that it closed, the status that it received, and who came up. An end that made
+%% room for a newcomer is reported beside an error, too.
 -type step() ::
-    {step, id(), Bodies :: [binary()], peer() | none, closed(), Received :: status(), up()} | {error, atom(), closed()}.
-%% The process that made the node gets such a message of each step of another process that gave out an end, closed one or brought
-%% one up. The messages come in the order of the steps. Closed is the end that made room for the one that arrived; a step that was to
-%% bring an end up comes with its controller.
--type made() :: {distnode_made, reference(), pid(), step | port() | pid() | {arrived, id(), Closed :: closed()}, step()}.
+    {step, id(), Bodies :: [binary()], closed(), Received :: status(), up()} | {error, atom(), closed()}.
+%% The process that made the node gets such a message of each step of a connection's process that gave out an end, closed one or brought
+%% one up. The messages come in the order of the steps. One that arrived holds this peer, and Closed is the end that made room for it; a
+%% step that was to bring an end up comes with its controller.
+-type made() :: {distnode_made, reference(), pid(), step | port() | pid() | {arrived, id(), peer() | none, Closed :: closed()}, step()}.
 
 %% Loads the library: from beside ebin, else from where the code server knows this application to be. It is called where the
 %% distribution starts. That is before the server of files is there, and in a release before init runs what -on_load names, so
@@ -103,13 +103,6 @@ forget(Node, Below) -> ?LATE([Node, Below]).
 -spec dial(reference(), peer()) -> step().
 dial(Node, Peer) -> ?LATE([Node, Peer]).
 
-%% This process has the connection.
--spec incoming(reference(), pid()) -> step().
-incoming(Node, Pid) -> ?LATE([Node, Pid]).
-
--spec body(reference(), id(), binary(), Challenge :: non_neg_integer()) -> step().
-body(Node, Id, Body, Challenge) -> ?LATE([Node, Id, Body, Challenge]).
-
 %% Why is a number of dn_why. An end that is up stays so, and the error is ShownEnd.
 -spec lost(reference(), id(), Why :: 1..15) -> step().
 lost(Node, Id, Why) -> ?LATE([Node, Id, Why]).
@@ -124,11 +117,11 @@ give_up(Node, Peer) -> ?LATE([Node, Peer]).
 
 %% ---- steps of the process that has the end
 
-%% A connection came, and this is its first frame. `changed`: nothing is done, since cookies or the allow list were changed since.
-%% An error is one for which there is no end.
--spec arrive(reference(), Changes :: non_neg_integer(), binary(), Challenge :: non_neg_integer()) ->
+%% A connection came, which this process has, and this is its first frame. `changed`: nothing is done, since cookies or the allow list
+%% were changed since. An error is one for which there is no end.
+-spec arrive(reference(), Changes :: non_neg_integer(), binary(), Challenge :: non_neg_integer(), pid()) ->
     {arrived, id(), step()} | changed | {error, atom(), closed()}.
-arrive(Node, Changes, Body, Challenge) -> ?LATE([Node, Changes, Body, Challenge]).
+arrive(Node, Changes, Body, Challenge, Pid) -> ?LATE([Node, Changes, Body, Challenge, Pid]).
 
 -spec opened(reference(), id()) -> step().
 opened(Node, Id) -> ?LATE([Node, Id]).

@@ -23,12 +23,12 @@
 %%
 %% Both end with the connection, or throw {distnode, nok}: net_kernel has a setup for that peer; {distnode, already}: it is
 %% about to let another connection of that peer in, for which dist_util ends before it has said a word; {distnode, gone}: the
-%% node has closed the end meanwhile. An own dial throws {distnode, {message, What, Kept}} where a message came to this process
-%% instead of a frame, with what to begin with again; {distnode, {closed, Why, Status}} or {distnode, {failed, Why}}.
+%% node has closed the end meanwhile. An own dial throws {distnode, {message, What}} where a message came to this process
+%% instead of a frame, with which the dial is over; {distnode, {closed, Why, Status}} or {distnode, {failed, Why}}.
 -spec other_started(module(), pid(), term(), map(), {node(), [term()]}, pid()) -> no_return().
-other_started(Transport, Kernel, Socket, #{cookie := {ok, Cookie}} = Info, {MyNode, Allowed}, Timer) ->
+other_started(Transport, Kernel, Socket, Info, {MyNode, Allowed}, Timer) ->
     Data = data(Transport, Kernel, Socket, MyNode, Timer, Info),
-    start(accepted, Transport, Socket, Info#{cookie := Cookie}),
+    start(accepted, Transport, Socket, Info),
     try dist_util:handshake_other_started(Data#hs_data{allowed = Allowed})
     catch
         exit:shutdown ->
@@ -62,7 +62,8 @@ data(Transport, Kernel, Socket, MyNode, Timer, #{id := Id}) ->
 
 %% ---- the script: what was sent and received so far decides what comes next
 
-start(Side, Transport, Socket, Info) -> put(?KEY, Info#{side => Side, transport => Transport, socket => Socket, said => []}).
+start(Side, Transport, Socket, #{cookie := {ok, Cookie}} = Info) ->
+    put(?KEY, Info#{side => Side, transport => Transport, socket => Socket, said => [], cookie := Cookie}).
 
 send(Words) ->
     #{side := Side, said := Said} = Before = get(?KEY),
@@ -95,7 +96,7 @@ recv(dialled, [<<$N, _/binary>>], Script) ->
     {ok, "sok"};
 recv(dialled, [status], #{common := _} = Script) -> challenge(Script);
 recv(dialled, [status], Script) -> challenge(await_challenge(Script));
-recv(dialled, [<<$r, _/binary>> | _], #{received := _} = Script) ->
+recv(dialled, [<<$r, _/binary>> | _], #{active := _} = Script) ->
     Digest = digest(Script),
     await_acknowledgement(Script),
     {ok, [$a | Digest]};
@@ -109,43 +110,34 @@ recv(dialled, [<<$r, _/binary>> | _], Script) ->
 
 %% Until the node says the reply to the peer's challenge.
 await_challenge(Script) ->
-    Body = next(Script),
+    Body = next(activate(Script), Script),
     Bodies = go_on(distnode_core:early(Body, Script), Script),
     case {say(Bodies, Script), [reply || <<$r, _/binary>> <- Bodies]} of
-        {ok, []} -> await_challenge(Script#{is_active => false});
+        {ok, []} -> await_challenge(Script);
         {ok, _} ->
-            Foreseen = foreseen(Script#{received => Body, is_active => true}),
-            _ = activate(Foreseen),
-            keep(Foreseen),
+            Foreseen = foreseen(Body, Script),
+            keep(Foreseen#{active => activate(Script)}),
             Foreseen;
         _ -> throw({distnode, {failed, write_failed}})
     end.
 
-await_acknowledgement(Script) ->
-    Body = next(Script),
+await_acknowledgement(#{active := Active} = Script) ->
+    Body = next(Active, Script),
     case come_up(Script#{frame => {Body, distnode_nif:challenge()}}) of
         {ok, Bodies} -> say(Bodies, Script);
         Other ->
             _ = say(go_on(Other, Script), Script),
-            await_acknowledgement(Script#{is_active => false})
+            await_acknowledgement(Script#{active := activate(Script)})
     end.
 
-%% A message may come first, while the socket is active: then that is kept.
-next(#{timer := Timer, transport := Transport} = Script) ->
+next({error, _}, _) -> throw({distnode, {failed, ended}});
+next(ok, #{id := Id, timer := Timer, wait := Wait, transport := Transport, socket := Socket} = Script) ->
     ok = dist_util:reset_timer(Timer),
-    case maps:get(is_active, Script, false) orelse activate(Script) of
-        {error, _} -> throw({distnode, {failed, ended}});
-        _ -> await(Transport:messages(), Script)
-    end.
-
-await({Data, Closed, Error}, #{wait := Wait, socket := Socket} = Script) ->
-    receive
-        {Data, Socket, Body} -> Body;
-        {Closed, Socket} -> throw({distnode, {failed, ended}});
-        {Error, Socket, _} -> throw({distnode, {failed, read_failed}});
-        {distnode, Message} ->
-            throw({distnode, {message, Message, maps:with([received, common, creation, is_active], Script#{is_active => true})}})
-    after Wait -> throw({distnode, {failed, gave_up}})
+    case distnode_shake:frame(Transport, Socket, Wait) of
+        {frame, Body} -> Body;
+        {distnode, {closed, Other, _}} when Other =/= Id -> next(ok, Script);
+        {distnode, Message} -> throw({distnode, {message, Message}});
+        Why -> throw({distnode, {failed, Why}})
     end.
 
 activate(#{transport := Transport, socket := Socket}) -> Transport:setopts(Socket, [{active, once}]).
@@ -162,12 +154,12 @@ go_on({error, 'Gone'}, _) -> throw({distnode, gone});
 go_on({error, Code}, _) -> throw({distnode, {failed, Code}}).
 
 %% What the end will be up with, if the peer acknowledges: the node says so itself before it comes up (distnode_core:come_up/2).
-foreseen(#{received := <<$N, Flags:64, _Challenge:32, Creation:32, _/binary>>} = Info) -> foreseen(Flags, Creation, Info);
-foreseen(#{received := <<$n, _Version:16, Flags:32, _/binary>>} = Info) -> foreseen(Flags, unknown, Info).
+foreseen(<<$N, Flags:64, _Challenge:32, Creation:32, _/binary>>, Script) -> foreseen(Flags, Creation, Script);
+foreseen(<<$n, _Version:16, Flags:32, _/binary>>, Script) -> foreseen(Flags, unknown, Script).
 
-foreseen(Flags, Creation, #{flags := Own} = Info) when Flags band ?DFLAG_MANDATORY_25_DIGEST =/= 0 ->
-    Info#{common => Own band (Flags bor ?MANDATORY_DFLAGS_25), creation => Creation};
-foreseen(Flags, Creation, #{flags := Own} = Info) -> Info#{common => Own band Flags, creation => Creation}.
+foreseen(Flags, Creation, #{flags := Own} = Script) when Flags band ?DFLAG_MANDATORY_25_DIGEST =/= 0 ->
+    Script#{common => Own band (Flags bor ?MANDATORY_DFLAGS_25), creation => Creation};
+foreseen(Flags, Creation, #{flags := Own} = Script) -> Script#{common => Own band Flags, creation => Creation}.
 
 %% dist_util announces what the node has announced. It would do otherwise of a hidden dial or of another global group.
 challenged(Flags, Challenge, #{flags := Flags} = Script) -> keep(Script#{challenge => Challenge});
@@ -188,7 +180,6 @@ name(#{peer := Peer, common := Common} = Script) ->
     binary_to_list(<<$N, Common:64, (creation(Script)):32, (byte_size(Peer)):16, Peer/binary>>).
 
 challenge(#{peer := Peer, common := Common} = Script) ->
-    ask_cookie(Script),
     {ok, binary_to_list(<<$N, Common:64, 0:32, (creation(Script)):32, (byte_size(Peer)):16, Peer/binary>>)}.
 
 %% A peer of version 5 sends no creation, and OTP puts 0 in its place.
@@ -202,16 +193,12 @@ digest(#{cookie := Cookie, challenge := Challenge}) -> binary_to_list(digest(Coo
 
 digest(Cookie, Challenge) -> erlang:md5([Cookie | integer_to_list(Challenge)]).
 
-%% dist_util asks for the cookie next. An accepted peer has the cookie that was asked for at its name: where that is changed before
-%% dist_util asks, the peer is refused before its acknowledgement.
-ask_cookie(#{peer := Peer} = Script) -> keep(Script#{cookie => cookie(Peer)}).
-
-cookie(Peer) -> atom_to_list(erlang:get_cookie(binary_to_atom(Peer, latin1))).
-
-%% A dialled peer may have said its acknowledgement by now. The digest of the challenge 0 shows which cookie dist_util was given.
+%% The cookie is the one that was asked for at the name of an accepted peer, or before the dial. Where it was changed before dist_util asks,
+%% an accepted peer is refused before its acknowledgement. A dialled peer may have said that by now: the digest of the challenge 0 shows
+%% which cookie dist_util was given.
 replied(Challenge, Shown, #{peer := Peer, cookie := Asked} = Script) ->
     Cookie = case digest(Asked, 0) of
                  Shown -> Asked;
-                 _ -> cookie(Peer)
+                 _ -> atom_to_list(erlang:get_cookie(binary_to_atom(Peer, latin1)))
              end,
     keep(Script#{challenge => Challenge, cookie => Cookie}).

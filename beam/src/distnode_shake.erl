@@ -3,7 +3,7 @@
 %% until the node is ready to bring the end up, or it is closed. A socket puts lengths on and takes them off itself, by
 %% {packet, 2} over TCP and {packet, 4} over TLS, and is active for one frame at a time, so that what follows the handshake stays in it.
 -module(distnode_shake).
--export([accepted/4, say/3, give/4]).
+-export([accepted/4, frame/3, say/3, give/4]).
 -export_type([outcome/0]).
 
 %% An end's process makes the steps of its end by itself (distnode_core:arrived/3, early/2).
@@ -63,15 +63,23 @@ go_on(S0) ->
 activate(Options, #shake{transport = Transport, socket = Socket}) -> Transport:setopts(Socket, Options ++ [{active, once}]).
 
 await({error, _}, S) -> given_up(ended, S);
-await(ok, #shake{transport = Transport, socket = Socket, own_end = End, wait = Wait} = S) ->
+await(ok, #shake{transport = Transport, socket = Socket, wait = Wait} = S) ->
+    case frame(Transport, Socket, Wait) of
+        {frame, Body} -> {frame, Body};
+        {distnode, {closed, _, Why}} -> shut(Why, S);
+        Why -> given_up(Why, S)
+    end.
+
+%% The next frame of a socket that is active, or what came in its place: a message to this process, or why there is none.
+-spec frame(module(), term(), timeout()) -> {frame, binary()} | {distnode, term()} | ended | read_failed | gave_up.
+frame(Transport, Socket, Wait) ->
     {Data, Closed, Error} = Transport:messages(),
-    Id = case End of #{id := Own} -> Own; none -> none end,
     receive
         {Data, Socket, Body} -> {frame, Body};
-        {Closed, Socket} -> given_up(ended, S);
-        {Error, Socket, _} -> given_up(read_failed, S);
-        {distnode, {closed, Id, Why}} -> shut(Why, S)
-    after Wait -> given_up(gave_up, S)
+        {Closed, Socket} -> ended;
+        {Error, Socket, _} -> read_failed;
+        {distnode, _} = Message -> Message
+    after Wait -> gave_up
     end.
 
 taken({more, Bodies}, #shake{transport = Transport, socket = Socket} = S) ->
@@ -83,7 +91,8 @@ taken({closed, Bodies, Why, _}, #shake{transport = Transport, socket = Socket} =
     _ = say(Transport, Socket, Bodies),
     shut(Why, S);
 taken({ready, Info}, #shake{timer = Timer}) -> {ready, Info, Timer};
-taken({error, 'Gone'}, S) -> gone(S);
+%% The node has closed the end in another's step.
+taken({error, 'Gone'}, S) -> shut('Gone', S);
 taken({error, Code}, #shake{peer = Peer} = S) ->
     _ = given_up(Code, S),
     {refused, Peer, Code}.
@@ -94,17 +103,8 @@ with_timer(#shake{timer = Timer} = S) ->
     ok = dist_util:reset_timer(Timer),
     S.
 
-%% The node has closed the end in another's step.
-gone(#shake{own_end = none} = S) -> shut('Gone', S);
-gone(#shake{own_end = #{id := Id}} = S) ->
-    receive
-        {distnode, {closed, Id, Why}} -> shut(Why, S)
-    after 0 -> shut('Gone', S)
-    end.
-
-given_up(Why, #shake{own_end = none} = S) -> shut(Why, S);
-given_up(Why, #shake{own_end = #{id := Id}} = S) ->
-    _ = distnode_core:lost(Id),
+given_up(Why, #shake{own_end = End} = S) ->
+    _ = [distnode_core:lost(Id) || #{id := Id} <- [End]],
     shut(Why, S).
 
 shut(Why, #shake{transport = Transport, socket = Socket, peer = Peer}) ->

@@ -197,19 +197,18 @@ line({_, Node, {_, Pid, connection, Addresses, ok}}, #world{connections = Connec
 line({_, Node, {_, _, new, [Name, Cookie, Flags, Required, Creation, _], ok}}, W) ->
     begins(Node, Creation, Cookie, {Name, Flags, Required}, W);
 line({_, _, {_, _, drop, [], ok}}, W) -> W;
-line({_, Node, {_, _, dial, [Peer], {step, Id, _, _, _, _, _} = Step}}, #world{dialled = Dialled} = W0) ->
+line({_, Node, {_, _, dial, [Peer], {step, Id, _, _, _, _} = Step}}, #world{dialled = Dialled} = W0) ->
     W = happen("dial ~b ~s new", [Node, Peer], W0),
     step(Node, Step, W#world{dialled = Dialled#{own_end(Node, Id, W) => Peer}});
-line({_, Node, {_, Pid, opened, [Id], {step, Id, _, _, _, _, _} = Step}}, W) ->
+line({_, Node, {_, Pid, opened, [Id], {step, Id, _, _, _, _} = Step}}, W) ->
     step(Node, Step, happen("opened ~b ~b", [Node, Id], reach(Node, Id, Pid, W)));
-line({_, Node, {_, _, incoming, [Pid], {step, Id, _, _, _, _, _} = Step}}, W) -> step(Node, Step, accept(Node, Id, Pid, W));
-line({_, Node, {_, Pid, arrive, [_, Body, Fresh], {arrived, Id, Step}}}, W) -> frame(Node, Body, Fresh, Step, accept(Node, Id, Pid, W));
-line({_, Node, {_, _, Call, [Id, Body, Fresh | _], {step, Id, _, _, _, _, _} = Step}}, W)
-  when Call =:= body; Call =:= early_body; Call =:= come_up ->
+line({_, Node, {_, _, arrive, [_, Body, Fresh, Pid], {arrived, Id, Step}}}, W) -> frame(Node, Body, Fresh, Step, accept(Node, Id, Pid, W));
+line({_, Node, {_, _, Call, [Id, Body, Fresh | _], {step, Id, _, _, _, _} = Step}}, W)
+  when Call =:= early_body; Call =:= come_up ->
     frame(Node, Body, Fresh, Step, W);
-line({_, Node, {_, _, gone, [Id], {step, Id, _, _, {Id, Why}, _, _} = Step}}, W) ->
+line({_, Node, {_, _, gone, [Id], {step, Id, _, {Id, Why}, _, _} = Step}}, W) ->
     step(Node, Step, happen("lose ~b ~b ~s", [Node, Id, Why], is_up(Node, Id, W)));
-line({_, Node, {_, _, Call, _, {step, Id, _, _, {Id, Why}, _, _} = Step}}, W) when Call =:= lost; Call =:= give_up ->
+line({_, Node, {_, _, Call, _, {step, Id, _, {Id, Why}, _, _} = Step}}, W) when Call =:= lost; Call =:= give_up ->
     step(Node, Step, happen("lose ~b ~b ~s", [Node, Id, Why], W));
 line({_, Node, {_, _, cookie, [Peer, Cookie], ok}}, W) -> happen("cookie ~b ~s ~s", [Node, Peer, Cookie], W);
 line({_, Node, {_, _, no_cookie, [Peer], ok}}, W) -> happen("no_cookie ~b ~s", [Node, Peer], W);
@@ -253,13 +252,13 @@ accept(Node, Id, Pid, #world{connections = Connections, reached = Reached, other
     happen("accept ~b", [Number], W#world{reached = Left, other = Other#{End => Dial, Dial => End}, on = On#{End => {Number, Addresses}}}).
 
 %% The next frame that was said at the other side.
-frame(Node, Body, Fresh, {step, Id, _, _, _, _, _} = Step, #world{other = Other, said = Said} = W0) ->
+frame(Node, Body, Fresh, {step, Id, _, _, _, _} = Step, #world{other = Other, said = Said} = W0) ->
     Sayer = map_get(own_end(Node, Id, W0), Other),
     [Body | Left] = map_get(Sayer, Said),
     W = happen("take ~b ~b ~b", [Node, Id, Fresh], happen("deliver ~b ~b ~b", [Node, Id, 2 + byte_size(Body)], W0)),
     step(Node, Step, W#world{said = Said#{Sayer := Left}}).
 
-step(Node, {step, Id, Bodies, _, Closed, _, Up}, #world{said = Said, closed = Lines} = W0) ->
+step(Node, {step, Id, Bodies, Closed, _, Up}, #world{said = Said, closed = Lines} = W0) ->
     End = own_end(Node, Id, W0),
     Closing = [io_lib:format("closed ~b ~b ~s~n", [Node, Gone, Why]) || {Gone, Why} <- [Closed]],
     W = W0#world{said = Said#{End => maps:get(End, Said, []) ++ Bodies}, closed = Closing ++ Lines},
@@ -316,7 +315,7 @@ changed(swapped, _, _, [{_, _, gone, _, _} | _]) -> false;
 changed(swapped, Line, Between, [Other | Rest]) ->
     [setelement(1, Other, element(1, Line)) | Between] ++ [setelement(1, Line, element(1, Other)) | Rest].
 
-is_frame({_, _, Call, [Id | _], {step, Id, _, _, _, _, _}}) -> Call =:= body orelse Call =:= early_body orelse Call =:= come_up;
+is_frame({_, _, Call, [Id | _], {step, Id, _, _, _, _}}) -> Call =:= early_body orelse Call =:= come_up;
 is_frame(_) -> false.
 
 is_next({_, _, new, _, _}, _) -> true;

@@ -121,14 +121,14 @@ start_accept(W0) ->
 
 arrive(Id, Pid, Peer, W) ->
     case {rand:uniform(10), pending(Peer, W), Peer} of
-        {1, _, _} -> {[{accepted, Id, Pid}, {closed, Id, 'Why', Pid}], W};
-        {_, {out, _}, <<"lesser">>} -> {[{accepted, Id, Pid}, {closed, Id, 'Why', Pid}], W};
+        {1, _, _} -> {[{accepted, Id, Pid, none}, {closed, Id, 'Why', Pid}], W};
+        {_, {out, _}, <<"lesser">>} -> {[{accepted, Id, Pid, none}, {closed, Id, 'Why', Pid}], W};
         {_, none, _} -> {come(Id, Pid, Peer, []), set(Id, {in, Peer}, W)};
         {_, {in, Other}, _} -> {come(Id, Pid, Peer, [{closed, Other, 'Why', Pid}]), set(Id, {in, Peer}, close(Other, W))};
         {_, {out, Other}, <<"greater">>} -> {come(Id, Pid, Peer, []), set(Id, {in, Peer}, set(Other, {doomed, Peer}, W))}
     end.
 
-come(Id, Pid, Peer, Closed) -> [{accepted, Id, Pid}] ++ Closed ++ [{named, Id, Peer}, {check, Id}].
+come(Id, Pid, Peer, Closed) -> [{accepted, Id, Pid, Peer}] ++ Closed ++ [{check, Id}].
 
 act(Pid, #w{procs = Procs} = W) when not is_map_key(Pid, Procs) -> W;
 act(Pid, #w{procs = Procs} = W) -> act(maps:get(Pid, Procs), Pid, W).

@@ -3,6 +3,7 @@
 %% and strangers by the thousand, ten hours' worth of reconnects, and connect times and messages beside OTP's own carrier.
 -module(long_runs).
 -export([main/1]).
+-import(cases, [with/2]).
 
 -define(FLAGS, 16#d07df7fbd).
 -define(QUIET, ["-connect_all", "false", "-kernel", "prevent_overlapping_partitions", "false"]).
@@ -33,12 +34,6 @@ passes(Name, Run) ->
 n(Node) -> test_nodes:name(Node).
 c(Node, M, F, A) -> test_nodes:call(Node, M, F, A).
 
-with(Specs, Body) ->
-    Nodes = test_nodes:start(Specs),
-    try Body(Nodes)
-    after [test_nodes:stop(Node) || Node <- Nodes]
-    end.
-
 both_up(A, B) -> true = test_nodes:wait(fun() -> c(A, test_agent, row, [n(B)]) =/= none andalso c(B, test_agent, row, [n(A)]) =/= none end, 20000).
 agreed(Node) -> true = test_nodes:wait(fun() -> c(Node, test_agent, is_agreed, []) end, 20000).
 
@@ -49,7 +44,9 @@ random(Seconds) ->
                  Names = [n(X) || X <- Three] ++ ['d@127.0.0.1'],
                  Until = erlang:system_time(millisecond) + 1000 * Seconds,
                  Self = self(),
-                 [spawn_link(fun() -> Self ! {X, test_nodes:call(X, test_agent, traffic_observed, [Names -- [n(X)], Until], 1000 * Seconds + 60000)} end) || X <- Three],
+                 Wait = 1000 * Seconds + 60000,
+                 [spawn_link(fun() -> Self ! {X, test_nodes:call(X, test_agent, traffic_observed, [Names -- [n(X)], Until], Wait)} end)
+                  || X <- Three],
                  {D, Kills} = killed([n(X) || X <- Three], Until, 0),
                  try
                      Seen = [receive {X, Counts} -> Counts after 60000 -> error({busy, n(X)}) end || X <- Three],

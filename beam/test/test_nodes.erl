@@ -2,7 +2,8 @@
 %% Starts emulators as processes of the system, for a test that has no distribution of its own, and asks their agents. It ends
 %% what it has started and nothing else.
 -module(test_nodes).
--export([port_mapper/0, start/1, start/3, start_bare/3, is_tls/0, call/4, call/5, name/1, stop/1, kill/1, signal/2, is_alive/1, log/1, has_logged/2, ended/2, wait/2]).
+-export([port_mapper/0, start/1, start/3, start_bare/3, is_tls/0, call/4, call/5, name/1, stop/1, kill/1, signal/2, is_alive/1, log/1]).
+-export([has_logged/2, ended/2, wait/2]).
 
 -record(node, {name, port, os_pid, socket = none, log}).
 

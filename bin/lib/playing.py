@@ -27,11 +27,10 @@ def free_ports(count):
     ports = []
     with contextlib.ExitStack() as held:
         while len(ports) < count:
+            port = random.randrange(10000, 32768)
             with contextlib.suppress(OSError):
-                ports.append(random.randrange(10000, 32768))
-                held.enter_context(socket.create_server((HOST, ports[-1])))
-                continue
-            ports.pop()
+                held.enter_context(socket.create_server((HOST, port)))
+                ports.append(port)
     return ports
 
 

@@ -2,6 +2,7 @@
 use Rattle.dist_c_guest.proofs.Common.{◌≡◌, ℕ, Bool, true, false, List, [], ◌∷◌, ◌++◌, map, if◌then◌else◌, ◌==◌, Ok, Err, count_by, Option, Result, sym, refl}
 use Rattle.dist_c_guest.proofs.Common.{ap, ◌∙◌, subst, ne_eqb, Name, is_open, Act, act, changed_or, run_acts, NodeState, node_after, opening, step, Allow}
 use Rattle.dist_c_guest.proofs.Common.{Event, Reply, StepError, IsCall, answer_after, node_letting, Guest}
+use Rattle.dist_c_guest.proofs.GivenBack.{node-back}
 use Rattle.dist_core.specs.{Changing.IsChange, Changing.change, Runs.run, declared.changing.Change.Change, declared.changing.ChangeError.ChangeError}
 use Rattle.dist_core.specs.Acts as acts
 use Rattle.dist_core.specs.declared.changing.ChangeError.TheVariants as change_error
@@ -45,12 +46,8 @@ module _ (xs : List Act) (first after last : Guest) (ih : last.node ≡ run_acts
     abbrev three : Option (List Name) → List Act → List Act
     three back ys = acts.Changes (Allow names) ∷ acts.Steps v fresh ∷ acts.Changes (Allow back) ∷ ys
 
-    back_where : (s : Result (Reply × NodeState) StepError) → node_letting (node_after (node_letting first.node names) s) first.node.setup.allow ≡ node_after first.node (answer_after first.node s)
-    back_where (Ok x) = refl
-    back_where (Err e) = refl
-
     wide : node_after first.node (answer_after first.node made_wide) ≡ after.node → last.node ≡ run_acts (three first.node.setup.allow xs) first.node
-    wide e = ih ∙ ap (run_acts xs) (sym (back_where made_wide ∙ e))
+    wide e = ih ∙ ap (run_acts xs) (sym (node-back first.node names made_wide ∙ e))
 
     refused_wide : (e : StepError) → answer_after first.node made_wide ≡ Err e → after ≡ first → last.node ≡ run_acts (three first.node.setup.allow xs) first.node
     refused_wide e is same = wide (ap (node_after first.node) is ∙ ap node_of (sym same))

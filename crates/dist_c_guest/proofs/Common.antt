@@ -6,7 +6,7 @@ pub use Rattle.dist_names.proofs.{Fields.IsWide, Fields.number_again, Fields.wid
 pub use Rattle.dist_frames.specs.Stream.{bodies}
 pub use Rattle.dist_messages.proofs.Words.{◌-◌, ◌==◌, w32, w64, Width, bytes_at, number_at, canonical, written_version, Fits}
 pub use Rattle.dist_core_ends.specs.Ends.{is_pending, oldest_pending, oldest_unnamed}
-pub use Rattle.dist_core.specs.declared.changing.Change.TheVariants.{Allow, Cookie, UsualCookie}
+pub use Rattle.dist_core.specs.declared.changing.Change.TheVariants.{Allow}
 pub use Rattle.dist_core.proofs.{Closings.heard-end, Counts.of_ok, Replies.other-of, Rows.row_of}
 pub use Rattle.dist_core.proofs.Words.{IsTrue, cond_both, MessageError, IsOk, count_by, rules, same_name, end_id, first_of, is_open, is_unnamed, Act, Changes}
 pub use Rattle.dist_core.proofs.Words.{Forgets, Renews, Steps, act, run_acts, GivesReply, Refuses, reply_of, is_spent, at_end, framed_from}
@@ -22,5 +22,5 @@ pub use Rattle.dist_world_model.proofs.Words.{AreSetups, Counts, IsReached, IsUp
 pub use Rattle.dist_world_model.proofs.Words.{end_at, end_of_life, row_at, running}
 pub use Rattle.dist_c_guest.specs.{Calls.IsCall, Calls.answer_after, Calls.answer_to, Calls.frame_to, Calls.node_letting, Forms.allowed_names}
 pub use Rattle.dist_c_guest.specs.{Reading.digest_25, Reading.expansion, Reading.plain, Reading.with_field, Statuses.status_in, Statuses.status_of}
-pub use Rattle.dist_c_guest.specs.{Room.MakesRoom, Room.first_to_go, Room.gives_way, Room.room_for, declared.guest.Guest.Guest}
+pub use Rattle.dist_c_guest.specs.{Newcomers.MakesRoom, Newcomers.first_to_go, Newcomers.gives_way, Newcomers.room_for, declared.guest.Guest.Guest}
 pub use Rattle.dist_c_guest.specs.{Whole.HasWhole, Whole.Hold, Whole.are_whole, Whole.is_whole, Whole.mandatory_25, declared.reading.Reading.Reading}

@@ -7,7 +7,8 @@ use Rattle.dist_core.specs.Step.{effect_of}
 use Rattle.dist_core.specs.declared.event.Event.TheVariants as event
 use Rattle.dist_core.specs.declared.step_error.StepError.TheVariants as error
 
-abbrev Answer : Type 0
+-- how the definition answers an event
+abbrev pub Answer : Type 0
 Answer = Result (Reply × NodeState) StepError
 
 -- both are made, or both are refused for one reason
@@ -57,7 +58,7 @@ ok-back : (n : NodeState) (s : Answer) → IsOk s → IsOk (answer_after n s)
 ok-back n (Ok x) o = o
 ok-back n (Err e) o = absurd (false≢true o)
 
-refuses-back : (n : NodeState) (e : StepError) (s : Answer) → Refuses e s → Refuses e (answer_after n s)
+pub refuses-back : (n : NodeState) (e : StepError) (s : Answer) → Refuses e s → Refuses e (answer_after n s)
 refuses-back n error.NoMemory s h = ok-back n s h
 refuses-back n e s h = ap (answer_after n) h
 

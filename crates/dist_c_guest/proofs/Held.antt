@@ -2,6 +2,7 @@
 use Rattle.dist_c_guest.proofs.Common.{◌≡◌, ℕ, Bool, true, false, ◌≢◌, List, [], ◌∷◌, is_some, IsErrAnd, if◌then◌else◌, Some, None, Ok, Err, Option, Result}
 use Rattle.dist_c_guest.proofs.Common.{sym, refl, ap, ◌∙◌, subst, Name, EndId, Steps, run_acts, reply_of, NodeState, node_after, step, Event, Reply, StepError}
 use Rattle.dist_c_guest.proofs.Common.{IsCall, answer_after, answer_to, frame_to, node_letting, allowed_names, expansion, Guest}
+use Rattle.dist_c_guest.proofs.{Frames.Answer, GivenBack.node-back}
 use Rattle.dist_core.specs.declared.event.Event.TheVariants as event
 use Rattle.dist_core.specs.declared.step_error.StepError.TheVariants as error
 use Rattle.dist_c_guest.specs.Guard.{IsGuarded, acts_asked, closes_up_end, held_reply, run_guard, told_of_frame}
@@ -37,9 +38,6 @@ module _ (id : EndId) (body : List ℕ) (fresh : ℕ) (old mid new : Guest) wher
 
 -- ---- a guarded call, and what a guard is told
 
-abbrev Answer : Type 0
-Answer = Result (Reply × NodeState) StepError
-
 module _ (n : NodeState) (names : Option (List Name)) (v : Event) (fresh : ℕ) where
   abbrev asked : NodeState
   asked = node_letting n names
@@ -55,16 +53,12 @@ module _ (n : NodeState) (names : Option (List Name)) (v : Event) (fresh : ℕ) 
   same-held (Ok x) = refl
   same-held (Err e) = refl
 
-  back : (s : Answer) → restored (node_after asked s) ≡ node_after n (answer_after n s)
-  back (Ok x) = refl
-  back (Err e) = refl
-
   by-rule : (o : Option Reply) → held_reply n (answer_after n answer) ≡ o → restored (run_acts (acts_asked asked (Steps v fresh)) asked) ≡ (if is_some o then n else node_after n (answer_after n answer))
   by-rule o is = ap (λ (q : Option Reply). restored (run_acts (if is_some q then [] else Steps v fresh ∷ []) asked)) (same-held answer ∙ is) ∙ by (is_some o)
     where
       by : (b : Bool) → restored (run_acts (if b then [] else Steps v fresh ∷ []) asked) ≡ (if b then n else node_after n (answer_after n answer))
       by true = refl
-      by false = back answer
+      by false = node-back n names answer
 
   refused : (e : StepError) → answer_after n answer ≡ Err e → restored (run_acts (acts_asked asked (Steps v fresh)) asked) ≡ n
   refused e is = by-rule None (ap (held_reply n) is) ∙ ap (node_after n) is

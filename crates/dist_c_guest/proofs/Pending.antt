@@ -1,16 +1,14 @@
 -- The end that is given up first is open, so that it can always be lost.
 use Rattle.dist_c_guest.proofs.Common.{◌≡◌, ℕ, suc, Bool, true, false, cond, ◌≢◌, List, [], ◌∷◌, IsOk, slice_get, Some, None, Ok, Err, Option, Result}
 use Rattle.dist_c_guest.proofs.Common.{option_map, sym, refl, ap, ◌∙◌, subst, option_or, EndId, end_id, first_of, is_open, is_pending, is_unnamed}
-use Rattle.dist_c_guest.proofs.Common.{oldest_pending, oldest_unnamed, End, Why, Refuses, NodeState, at_end, step, step_result, Event, Reply, StepError, IsCall}
+use Rattle.dist_c_guest.proofs.Common.{oldest_pending, oldest_unnamed, End, Why, Refuses, NodeState, at_end, step, step_result, Event, StepError, IsCall}
 use Rattle.dist_c_guest.proofs.Common.{MakesRoom, first_to_go, gives_way, room_for, Guest}
+use Rattle.dist_c_guest.proofs.Frames.{Answer}
 use Rattle.dist_core_ends.specs.declared.known.End.TheVariants as ends
 use Rattle.dist_core_ends.specs.declared.why.Why.TheVariants as why
 use Rattle.dist_core.specs.{Effects.closes, Step.effect_of}
 use Rattle.dist_core.specs.declared.event.Event.TheVariants as event
 use Rattle.dist_core.specs.declared.step_error.StepError.TheVariants as error
-
-abbrev Answer : Type 0
-Answer = Result (Reply × NodeState) StepError
 
 -- ---- the first of a kind
 

@@ -1,9 +1,9 @@
 -- What is reported to C of an end and of the oldest pending one, and the calls that forget causes and renew a node. The numbers
 -- in brackets are return codes (src/codes.rt); a guest is a node with its newest reply.
-use Rattle.std.specs.Prelude.{◌≡◌, ℕ, zero, suc, List, [], length, nat_le, Option, Some, None, slice_get, count_by}
+use Rattle.std.specs.Prelude.{◌≡◌, ℕ, zero, suc, List, [], length, nat_le, Option, Some, None, count_by}
 use Rattle.dist_names.specs.Order.{Name}
 use Rattle.dist_peers.specs.declared.entry.EndId.{EndId}
-use Rattle.dist_core_ends.specs.{declared.phase.Phase.Phase, declared.known.End.End, Ends.is_open, Ends.oldest_pending, Forgetting.without_causes_below}
+use Rattle.dist_core_ends.specs.{declared.phase.Phase.Phase, declared.known.End.End, Ends.is_open, Forgetting.without_causes_below}
 use Rattle.dist_core_ends.specs.declared.phase.Phase.TheVariants as phase
 use Rattle.dist_core_ends.specs.declared.known.End.TheVariants as ends
 use Rattle.dist_c_guest.specs.{Calls.restarted_guest, declared.guest.Guest.Guest, declared.ends.DnEnd.DnEnd, Codes.why_number, Steps.CopiesIf, Steps.Silent}
@@ -47,20 +47,10 @@ end_report o = record { peer = length (end_peer o); phase = end_number o; why = 
 abbrev pub ReportsEnd : Option End → ℕ → DnEnd → DnEnd → List ℕ → List ℕ → Type 0
 ReportsEnd o code was is old new = (is ≡ end_report o) × CopiesIf (nat_le (length (end_peer o)) (length old)) (end_peer o) code old new
 
--- the same at a node that may hold no guest (1)
-abbrev pub ReportsEndAt : ℕ → Option Guest → ℕ → DnEnd → DnEnd → List ℕ → List ℕ → Type 0
-ReportsEndAt id None code was is old new = (code ≡ 1) × (is ≡ was) × (new ≡ old)
-ReportsEndAt id (Some s) code was is old new = ReportsEnd (slice_get s.node.ends id) code was is old new
-
 -- the number of an end is reported, or there is none (6)
 abbrev pub ReportsId : Option EndId → ℕ → ℕ → ℕ → Type 0
 ReportsId None code was is = Silent 6 code was is
 ReportsId (Some x) code was is = (code ≡ 0) × (is ≡ x.0)
-
--- the oldest pending end is reported, where there is a guest (1)
-abbrev pub ReportsOldest : Option Guest → ℕ → ℕ → ℕ → Type 0
-ReportsOldest None code was is = Silent 1 code was is
-ReportsOldest (Some s) code was is = ReportsId (oldest_pending s.node.ends) code was is
 
 -- the guest, once its node has forgotten why the ends below a number were closed
 abbrev pub forgetful : ℕ → Guest → Guest

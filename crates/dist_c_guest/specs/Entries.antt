@@ -17,9 +17,7 @@ entry_report (Some (In x)) = row 2 0 x.0
 entry_report (Some (Up x)) = row 3 x.0 0
 entry_report (Some (Challenged x y)) = row 4 x.0 y.0
 
--- the entry of the peer of this name is reported, where there is a guest (1), or why the bytes are no name; memory may run out
--- for the name (3)
-abbrev pub ReportsEntry : Result (List ℕ) NameError → ℕ → Option Guest → DnEntry → DnEntry → Type 0
-ReportsEntry name code None was is = Silent 1 code was is
-ReportsEntry (Ok p) code (Some s) was is = ((code ≡ 0) × (is ≡ entry_report (entry_in s.node.ends p))) ⊎ Silent 3 code was is
-ReportsEntry (Err e) code (Some s) was is = Silent (name_code e) code was is
+-- the entry of the peer of this name is reported, or why the bytes are no name; memory may run out for the name (3)
+abbrev pub ReportsEntry : Result (List ℕ) NameError → ℕ → Guest → DnEntry → DnEntry → Type 0
+ReportsEntry (Ok p) code s was is = ((code ≡ 0) × (is ≡ entry_report (entry_in s.node.ends p))) ⊎ Silent 3 code was is
+ReportsEntry (Err e) code s was is = Silent (name_code e) code was is

@@ -7,7 +7,7 @@ use Rattle.dist_core.specs.declared.step_error.StepError.TheVariants as error
 use Rattle.dist_core.specs.declared.changing.ChangeError.TheVariants as change_error
 use Rattle.dist_core.specs.Acts as acts
 use Rattle.dist_names.specs.Order.{Name}
-use Rattle.dist_c_guest.specs.{declared.guest.Guest.Guest, Calls.IsCall, Calls.answer_after, Calls.node_letting, Calls.restarted_guest, Planning.Changes}
+use Rattle.dist_c_guest.specs.{declared.guest.Guest.Guest, Calls.IsCall, Calls.answer_after, Calls.node_letting, Calls.restarted_guest, Changes.Changes}
 
 -- a call: its event, the challenge that was drawn for it, what it answered, and the guest after it
 pub record Call : Type 0 where

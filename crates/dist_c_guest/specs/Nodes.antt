@@ -7,7 +7,7 @@ use Rattle.dist_peers.specs.{declared.entry.EndId.EndId, Table.up_behind}
 use Rattle.dist_core_ends.specs.{Ends.table_of, Ends.up_from, declared.known.UpRecord.UpRecord}
 use Rattle.dist_core_setup.specs.declared.version.Version.TheVariants.{Five, Six}
 use Rattle.dist_core_setup.specs.{declared.setup.Setup.Setup, declared.limits.Limits.Limits, Limits.long_running_limits, declared.version.Version.Version}
-use Rattle.dist_c_guest.specs.Steps.{Copies, CopiesIf, sent_bytes}
+use Rattle.dist_c_guest.specs.Steps.{CopiesIf}
 use Rattle.dist_c_guest.specs.{Calls.first_guest, Reading.plain, Whole.is_whole, declared.guest.Guest.Guest, declared.making.DnSetup.DnSetup}
 use Rattle.dist_c_guest.specs.{declared.making.DnPeer.DnPeer, Codes.name_code, Codes.cookie_code, Replies.creation_number, Replies.is_known}
 
@@ -78,11 +78,6 @@ abbrev pub Frees : {X : Type 0} → ℕ → Option X → Option X → Type 0
 Frees code None new = (code ≡ 1) × (new ≡ None)
 Frees code (Some s) new = (code ≡ 0) × (new ≡ None)
 
--- what the newest reply sends is copied, where there is a guest
-abbrev pub Says : Option Guest → ℕ → ℕ → ℕ → List ℕ → List ℕ → Type 0
-Says None code had len old new = (code ≡ 1) × (len ≡ had) × (new ≡ old)
-Says (Some s) code had len old new = Copies (sent_bytes s.last) code len old new
-
 -- what is reported of a record
 abbrev pub peer_of : EndId → UpRecord → DnPeer
 peer_of id r = record { name = length r.peer; common = r.common.0; id = id.0; creation = creation_number r.creation; has_creation = is_known r.creation }
@@ -91,11 +86,6 @@ peer_of id r = record { name = length r.peer; common = r.common.0; id = id.0; cr
 abbrev pub Returns : Option (EndId × UpRecord) → ℕ → DnPeer → DnPeer → List ℕ → List ℕ → Type 0
 Returns None code was is old new = (code ≡ 6) × (is ≡ was) × (new ≡ old)
 Returns (Some x) code was is old new = (is ≡ peer_of x.0 x.1) × CopiesIf (nat_le (length x.1.peer) (length old)) x.1.peer code old new
-
--- the same at a node that may hold no guest (1)
-abbrev pub ReportsAt : (Guest → Option (EndId × UpRecord)) → Option Guest → ℕ → DnPeer → DnPeer → List ℕ → List ℕ → Type 0
-ReportsAt find None code was is old new = (code ≡ 1) × (is ≡ was) × (new ≡ old)
-ReportsAt find (Some s) code was is old new = Returns (find s) code was is old new
 
 -- the peer that is up and comes first behind this name, or first of all, in the order of names
 abbrev pub next_of : Option (List ℕ) → Guest → Option (EndId × UpRecord)
@@ -106,8 +96,7 @@ abbrev pub ReportsBehind : Result (List ℕ) NameError → ℕ → Guest → DnP
 ReportsBehind (Ok p) code s was is old new = Returns (next_of (Some p) s) code was is old new ⊎ ((code ≡ 3) × (is ≡ was) × (new ≡ old))
 ReportsBehind (Err e) code s was is old new = (code ≡ name_code e) × (is ≡ was) × (new ≡ old)
 
--- THE NEXT PEER behind the name of these bytes, or the first where there are none, at a node that may hold no guest (1)
-abbrev pub ReportsNext : List ℕ → ℕ → Option Guest → DnPeer → DnPeer → List ℕ → List ℕ → Type 0
-ReportsNext name code None was is old new = (code ≡ 1) × (is ≡ was) × (new ≡ old)
-ReportsNext name code (Some s) was is old new = MatchBool (length name == 0)
+-- THE NEXT PEER behind the name of these bytes, or the first where there are none
+abbrev pub ReportsNext : List ℕ → ℕ → Guest → DnPeer → DnPeer → List ℕ → List ℕ → Type 0
+ReportsNext name code s was is old new = MatchBool (length name == 0)
     (Returns (next_of None s) code was is old new) (ReportsBehind (name_of_bytes name) code s was is old new)

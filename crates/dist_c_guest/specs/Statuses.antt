@@ -39,7 +39,6 @@ status_number (Some status.Alive) = 5
 status_number (Some status.True) = 6
 status_number (Some status.False) = 7
 
--- the status that the newest step sent and the one that it received are reported, where there is a guest (1)
-abbrev pub ReportsStatuses : Option Guest → ℕ → ℕ → ℕ → ℕ → ℕ → Type 0
-ReportsStatuses None code was is had has = (code ≡ 1) × (is ≡ was) × (has ≡ had)
-ReportsStatuses (Some s) code was is had has = (code ≡ 0) × (is ≡ status_number (option_and_then status_sent s.last)) × (has ≡ status_number s.received_status)
+-- the status that the newest step sent and the one that it received are reported
+abbrev pub ReportsStatuses : Guest → ℕ → ℕ → ℕ → Type 0
+ReportsStatuses s code is has = (code ≡ 0) × (is ≡ status_number (option_and_then status_sent s.last)) × (has ≡ status_number s.received_status)

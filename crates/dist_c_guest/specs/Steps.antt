@@ -17,6 +17,11 @@ Keeps wanted code old new was is = (code ≡ wanted) × (new ≡ old) × (is ≡
 abbrev pub Silent : {X : Type 0} → ℕ → ℕ → X → X → Type 0
 Silent wanted code was is = (code ≡ wanted) × (is ≡ was)
 
+-- WHAT IS SAID OF THE GUEST THAT A NODE HOLDS; or it holds none (1), and neither of two things changed
+abbrev pub IfHeld : {X Y : Type 0} → Option Guest → (Guest → Type 0) → ℕ → X → X → Y → Y → Type 0
+IfHeld None says code old new was is = Keeps 1 code old new was is
+IfHeld (Some s) says code old new was is = says s
+
 -- THE STEP OF AN EVENT, as C has it: the node and the reply are the definition's, and the status that was received is kept; or
 -- its refusal is returned; where it refuses nothing memory may run out (3)
 abbrev pub Makes : Event → Result (Reply × NodeState) StepError → ℕ → ℕ → Guest → Option Guest → DnReply → DnReply → Type 0
@@ -34,10 +39,6 @@ Steps v fresh code (Some s) new was is = Makes v (step s.node v fresh) 0 code s 
 abbrev pub Takes : Option (List ℕ) → EndId → ℕ → ℕ → Guest → Option Guest → DnReply → DnReply → Type 0
 Takes None id fresh code s new was is = Keeps 5 code (Some s) new was is
 Takes (Some body) id fresh code s new was is = Makes (frame_to s id body) (answer_to s id body fresh) (2 + length body) code s new was is
-
-abbrev pub Receives : Option (List ℕ) → EndId → ℕ → ℕ → Option Guest → Option Guest → DnReply → DnReply → Type 0
-Receives front id fresh code None new was is = Keeps 1 code None new was is
-Receives front id fresh code (Some s) new was is = Takes front id fresh code s new was is
 
 -- whether there is room (4 where there is too little), and what stands in it then
 abbrev pub CopiesIf : Bool → List ℕ → ℕ → List ℕ → List ℕ → Type 0

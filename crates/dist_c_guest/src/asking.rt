@@ -1,11 +1,9 @@
-//! How a node is asked of a name for which a form stands: with that name in its list, which is given back afterwards.
+//! With which names a node is asked of a body: with the one in it beside those in its list, where a form stands for it.
 ghost use Rattle.std.specs.{Prelude.◌≡◌, Prelude.IfOk, Option.option_or};
-ghost use Rattle.dist_core.specs.{Answers.GivesReply, Step.step};
-ghost use Rattle.dist_c_guest.specs.{Calls.IsCall, Calls.node_letting, Calls.answer_after, Forms.name_in, Forms.sent_name, Forms.allowed_names};
+ghost use Rattle.dist_c_guest.specs.Forms.{allowed_names, name_in, sent_name};
 
 use crate::forms::Forms;
-use crate::guest::Guest;
-use dist_core::{Event, NameList, Reply, StepError};
+use dist_core::NameList;
 use dist_messages::{Message, MessageError, Side, decode};
 use dist_names::{ByteString, NameError, NodeName};
 use std::alloc::{AllocError, Global};
@@ -68,53 +66,4 @@ pub fn wider(
     let mut wider = names.try_clone(alloc)?;
     wider.add(name)?;
     Ok(Some(wider))
-}
-
-impl Guest {
-    /// Makes the step of an event while these names, where there are any, may connect in place of those that may otherwise,
-    /// which may again afterwards.
-    pub fn step_with(
-        &mut self,
-        alloc: Global,
-        names: Option<NameList>,
-        event: &Event,
-        fresh: u32,
-    ) -> Result<(), StepError>
-        ensures { IsCall event.now result
-            (answer_after self.old.node (step (node_letting self.old.node (option_or names self.old.node.setup.allow)) event.now fresh))
-            self.old self.new }
-    {
-        match names {
-            None => self.step(alloc, event, fresh),
-            Some(names) => {
-                let before = self.node.set_allow(Some(names));
-                let result = self.step(alloc, event, fresh);
-                let _ = self.node.set_allow(before);
-                result
-            }
-        }
-    }
-
-    /// What `step_with` would return, which changes nothing.
-    pub fn answer_with(
-        &mut self,
-        alloc: Global,
-        names: Option<NameList>,
-        event: &Event,
-        fresh: u32,
-    ) -> Result<Reply, StepError>
-        ensures reply { GivesReply result
-            (answer_after self.old.node (step (node_letting self.old.node (option_or names self.old.node.setup.allow)) event.now fresh)) }
-        ensures same { self.new ≡ self.old }
-    {
-        match names {
-            None => self.node.answer(alloc, event, fresh),
-            Some(names) => {
-                let before = self.node.set_allow(Some(names));
-                let result = self.node.answer(alloc, event, fresh);
-                let _ = self.node.set_allow(before);
-                result
-            }
-        }
-    }
 }

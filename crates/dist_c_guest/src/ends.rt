@@ -56,29 +56,20 @@ fn write_end(phase: u32, why: u32, peer: &[u8], end: &mut DnEnd, room: &mut [u8]
     code
 }
 
-// An end that is open.
-fn report_open_end(open: &End, end: &mut DnEnd, room: &mut [u8]) -> u32
-    ensures { ReportsEnd (Some open.now) result end.old end.new room.old room.new }
+pub fn report_end(guest: &Guest, id: u32, end: &mut DnEnd, room: &mut [u8]) -> u32
+    ensures { ReportsEnd (slice_get guest.now.node.ends id) result end.old end.new room.old room.new }
 {
-    match open {
-        End::Unnamed => write_end(3, 0, &[], end, room),
-        End::Attempt(attempt) => write_end(
+    match guest.node.open_end(EndId(id)) {
+        Ok(End::Unnamed) => write_end(3, 0, &[], end, room),
+        Ok(End::Attempt(attempt)) => write_end(
             phase_number(attempt.phase),
             0,
             attempt.peer.bytes(),
             end,
             room,
         ),
-        End::Up(kept) => write_end(12, 0, kept.peer.bytes(), end, room),
-        End::Closed(why) => write_end(1, why_number(*why), &[], end, room),
-    }
-}
-
-pub fn report_end(guest: &Guest, id: u32, end: &mut DnEnd, room: &mut [u8]) -> u32
-    ensures { ReportsEnd (slice_get guest.now.node.ends id) result end.old end.new room.old room.new }
-{
-    match guest.node.open_end(EndId(id)) {
-        Ok(open) => report_open_end(open, end, room),
+        Ok(End::Up(kept)) => write_end(12, 0, kept.peer.bytes(), end, room),
+        Ok(End::Closed(why)) => write_end(1, why_number(*why), &[], end, room),
         Err(Absent::NoSuchEnd) => write_end(0, 0, &[], end, room),
         Err(Absent::Gone(why)) => write_end(1, why_number(why), &[], end, room),
     }
@@ -97,8 +88,15 @@ pub fn report_oldest(guest: &mut Guest, id: &mut u32) -> u32
     }
 }
 
+/// Begins anew with the setup that the node has, and with the reading, where no end is open: the numbers of ends are given out from 0
+/// again, and nothing is left of what was. It takes no memory.
 pub fn renew(guest: &mut Guest, alloc: Global) -> u32
     ensures { RenewsWith (count_by is_open guest.old.node.ends) result guest.old (Some guest.new) }
 {
-    if guest.renew(alloc) { OK } else { OPEN_ENDS }
+    if !guest.node.renew(alloc) {
+        return OPEN_ENDS;
+    }
+    guest.last = None;
+    guest.received_status = None;
+    OK
 }

@@ -1,7 +1,7 @@
 //! A peer's entry, as C sees it.
-ghost use Rattle.std.specs.Prelude.{◌≡◌, Some};
+ghost use Rattle.std.specs.Prelude.{◌≡◌};
 ghost use Rattle.dist_names.specs.NodeName.{name_of_bytes};
-ghost use Rattle.dist_c_guest.specs.Entries.{ReportsEntry, entry_report, row};
+ghost use Rattle.dist_c_guest.specs.Entries.{ReportsEntry, entry_report};
 
 use crate::codes::{OK, name_code};
 use crate::guest::Guest;
@@ -24,26 +24,21 @@ pub struct DnEntry {
     pub pending: u32,
 }
 
-fn row(state: u32, up: u32, pending: u32) -> DnEntry
-    ensures { result ≡ row state up pending }
-{
-    DnEntry { state, up, pending }
-}
-
 fn entry_report(entry: Option<Entry>) -> DnEntry
     ensures { result ≡ entry_report entry }
 {
-    match entry {
-        None => row(0, 0, 0),
-        Some(Entry::Out(id)) => row(1, 0, id.0),
-        Some(Entry::In(id)) => row(2, 0, id.0),
-        Some(Entry::Up(id)) => row(3, id.0, 0),
-        Some(Entry::Challenged { up, by_ }) => row(4, up.0, by_.0),
-    }
+    let (state, up, pending) = match entry {
+        None => (0, 0, 0),
+        Some(Entry::Out(id)) => (1, 0, id.0),
+        Some(Entry::In(id)) => (2, 0, id.0),
+        Some(Entry::Up(id)) => (3, id.0, 0),
+        Some(Entry::Challenged { up, by_ }) => (4, up.0, by_.0),
+    };
+    DnEntry { state, up, pending }
 }
 
 pub fn report_entry(guest: &Guest, alloc: Global, peer: &[u8], entry: &mut DnEntry) -> u32
-    ensures { ReportsEntry (name_of_bytes peer.now) result (Some guest.now) entry.old entry.new }
+    ensures { ReportsEntry (name_of_bytes peer.now) result guest.now entry.old entry.new }
 {
     match NodeName::new(alloc, peer) {
         Ok(peer) => {

@@ -1,6 +1,6 @@
 //! Forms of names: a host alone, and a name without its host.
 ghost use Rattle.std.specs.Prelude.{◌≡◌, ◌==◌, [], length, OnOk, OnErr};
-ghost use Rattle.dist_names.specs.{Answer.AnswersName, Order.is_listed, Order.same_name};
+ghost use Rattle.dist_names.specs.{Answer.AnswersName, Order.is_listed};
 ghost use Rattle.dist_core_setup.specs.Changing.{with_name, without_name};
 ghost use Rattle.dist_c_guest.specs.Forms.{form_of_text, has_form, stand_for};
 
@@ -41,12 +41,6 @@ pub fn form_of(alloc: Global, text: &[u8]) -> Result<ByteString, NameError>
     }
 }
 
-fn is_one(text: &[u8], one: &ByteString) -> bool
-    ensures { result ≡ same_name text.now one.now }
-{
-    is_same_text(text, one.as_slice())
-}
-
 /// Forms that are kept beside a node: each stands for all names that have it.
 #[derive(Drop)]
 pub struct Forms {
@@ -82,7 +76,9 @@ impl Forms {
     pub fn lists(&self, text: &[u8]) -> bool
         ensures { result ≡ is_listed self.now text.now }
     {
-        self.texts.iter().any(|one| is_one(text, one))
+        self.texts
+            .iter()
+            .any(|one| is_same_text(text, one.as_slice()))
     }
 
     /// Adds a form, where it isn't among them yet. Where memory runs out they stay as they were.
@@ -101,7 +97,7 @@ impl Forms {
     pub fn remove(&mut self, form: &[u8])
         ensures { self.new ≡ without_name self.old form.now }
     {
-        self.texts.retain(|one| !is_one(form, one));
+        self.texts.retain(|one| !is_same_text(form, one.as_slice()));
     }
 
     /// Whether one of them stands for this name: its host is one, or it itself up to its `@`.

@@ -4,11 +4,12 @@ ghost use Rattle.dist_core.specs.{Answers.GivesReply, Answers.Refuses, Losses.is
 ghost use Rattle.dist_c_guest.specs.{Forms.allowed_names, Reading.expansion, Calls.IsCall, Calls.answer_to, Calls.first_guest, Calls.frame_to};
 
 use crate::asking::wider;
+use crate::forms::Forms;
 use crate::reading::{Reading, expand};
 use crate::statuses::status_received;
 use dist_core::{Event, NameList, Node, Reply, Setup, StepError};
 use dist_messages::Status;
-use dist_names::ByteString;
+use dist_names::{ByteString, Flags};
 use dist_peers::EndId;
 use std::alloc::{AllocError, Global};
 
@@ -26,7 +27,7 @@ pub struct Guest {
 }
 
 impl Guest {
-    /// A guest of a node without ends, which reads bodies as they come. It takes no memory.
+    /// A guest of a node without ends, which reads bodies as they come and keeps no forms. It takes no memory.
     pub fn new(alloc: Global, setup: Setup) -> Guest
         ensures { result ≡ first_guest setup }
     {
@@ -34,7 +35,10 @@ impl Guest {
             node: Node::new(alloc, setup),
             last: None,
             received_status: None,
-            reading: Reading::plain(alloc),
+            reading: Reading {
+                mandatory: Flags(0),
+                forms: Forms::none(alloc),
+            },
         }
     }
 
@@ -75,7 +79,8 @@ impl Guest {
         Ok((body, names))
     }
 
-    /// Makes the step of a frame with this body, as the guest reads it. A refusal changes nothing.
+    /// Makes the step of a frame with this body, as the guest reads it; where a form stands for the name in it, that name may connect
+    /// meanwhile, and the node's own list is given back afterwards. A refusal changes nothing.
     pub fn take(
         &mut self,
         alloc: Global,
@@ -88,7 +93,14 @@ impl Guest {
         let Ok((body, names)) = self.read(alloc, body) else {
             return Err(self.refusal(alloc, id));
         };
-        self.step_with(alloc, names, &Event::Frame { end_: id, body }, fresh)
+        let event = Event::Frame { end_: id, body };
+        let Some(widened) = names else {
+            return self.step(alloc, &event, fresh);
+        };
+        let before = self.node.set_allow(Some(widened));
+        let result = self.step(alloc, &event, fresh);
+        let _ = self.node.set_allow(before);
+        result
     }
 
     /// What `take` would return, which changes nothing.
@@ -105,6 +117,13 @@ impl Guest {
         let Ok((body, names)) = self.read(alloc, body) else {
             return Err(self.refusal(alloc, id));
         };
-        self.answer_with(alloc, names, &Event::Frame { end_: id, body }, fresh)
+        let event = Event::Frame { end_: id, body };
+        let Some(widened) = names else {
+            return self.node.answer(alloc, &event, fresh);
+        };
+        let before = self.node.set_allow(Some(widened));
+        let result = self.node.answer(alloc, &event, fresh);
+        let _ = self.node.set_allow(before);
+        result
     }
 }

@@ -13,63 +13,48 @@
 #![tactic(auto)]
 
 mod asking;
-mod bodies;
 mod changes;
 mod codes;
 mod copies;
 mod ends;
 mod entries;
-mod foreseeing;
 mod forms;
 mod guard;
-mod guard_laws;
-mod guarding;
 mod guest;
 mod laws;
 mod making;
 mod newcomers;
-mod node;
 mod parts;
-mod planning;
 mod reading;
-mod renewing;
 mod replies;
-mod room;
 mod slot;
 mod statuses;
 mod stepping;
 mod words;
 
-pub use bodies::copy_body;
 pub use changes::{allow_text, disallow_text, set_cookie, set_usual_cookie, take_cookie};
 pub use codes::{
     AWAITS, IN_USE, NO_MEMORY, NO_SUCH, NOT_A_NODE, OK, TOO_LONG, cookie_code, name_code,
     step_code, why_of,
 };
-pub use copies::copy_out;
+pub use copies::{copy_body, copy_out, sent_bytes};
 pub use ends::{DnEnd, renew, report_end, report_oldest};
 pub use entries::{DnEntry, report_entry};
-pub use foreseeing::{foresee_body, foresee_front};
 pub use forms::{Forms, form_of, has_form};
-pub use guard::take_guarded;
-pub use guard_laws::{
-    clusters_agree, clusters_are_worlds, gone_ends_are_closed, guarded_frames_are_told,
-    guards_are_runs, one_end_of_a_peer_is_up, shown_ends_are_up, shown_peers_agree,
-};
-pub use guarding::guard_body;
+pub use guard::{guard_body, take_guarded};
 pub use guest::Guest;
 pub use laws::{
-    a_history_is_a_run, any_history_is_a_run, guests_agree, guests_are_nodes,
-    plain_guests_read_what_came, whole_bodies_are_read_as_they_came,
+    a_history_is_a_run, any_history_is_a_run, clusters_agree, clusters_are_worlds,
+    gone_ends_are_closed, guarded_frames_are_told, guards_are_runs, guests_agree, guests_are_nodes,
+    one_end_of_a_peer_is_up, plain_guests_read_what_came, shown_ends_are_up, shown_peers_agree,
+    whole_bodies_are_read_as_they_came,
 };
-pub use making::{
-    DnPeer, DnSetup, copy_say, let_go, new_guest, report_found, report_next, report_peer,
-};
+pub use making::{DnPeer, DnSetup, new_guest, report_found, report_next, report_peer};
 pub use newcomers::{opening_of, report_room, step_newcomer};
-pub use node::{DnNode, MARK};
 pub use parts::Parts;
 pub use reading::{Reading, is_whole};
 pub use replies::{DnReply, reply_of};
+pub use slot::{DnNode, MARK};
 pub use statuses::{newest_status, status_number};
-pub use stepping::{step_guest, take_body, take_front};
+pub use stepping::{foresee_body, foresee_front, step_guest, take_body, take_front};
 pub use words::code_word;

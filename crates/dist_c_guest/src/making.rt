@@ -1,10 +1,9 @@
-//! A node is made, let go, and asked.
+//! A node is made, and asked for its peers.
 ghost use Rattle.std.specs.{Prelude.◌≡◌, Prelude.Some, Prelude.None, Prelude.Ok, Prelude.IfOk, Prelude.IfErr, Prelude.slice_get, Option.option_map};
 ghost use Rattle.dist_core_ends.specs.Ends.{record_in};
 ghost use Rattle.dist_names.specs.NodeName.{name_of_bytes};
 ghost use Rattle.dist_secret.specs.Cookie.{cookie_of};
-ghost use Rattle.dist_c_guest.specs.Steps.{Copies, sent_bytes};
-ghost use Rattle.dist_c_guest.specs.Nodes.{MakesGuest, News, ReadsBoth, version_of, limit_of, limits_in, number_or, Returns, ReportsNext};
+ghost use Rattle.dist_c_guest.specs.Nodes.{News, ReadsBoth, version_of, limit_of, limits_in, number_or, Returns, ReportsNext};
 
 use crate::codes::{HALF_FLAGS, NO_MEMORY, NO_SUCH, cookie_code, name_code};
 use crate::copies::copy_out;
@@ -84,13 +83,6 @@ fn limit_of(alloc: Global, number: u32) -> Option<NameList>
 }
 
 // The number that was given, where 0 stands for another one.
-fn steps_or(other: u64, given: u64) -> u64
-    ensures { result ≡ number_or other given }
-{
-    if given == 0 { other } else { given }
-}
-
-// The number that was given, where 0 stands for another one.
 fn count_or(other: u32, given: u32) -> u32
     ensures { result ≡ number_or other given }
 {
@@ -102,10 +94,14 @@ fn limits_in(setup: &DnSetup) -> Limits
 {
     let most = Limits::long_running();
     Limits {
-        steps: steps_or(most.steps, setup.most_steps),
         ends: count_or(most.ends, setup.most_ends),
         entries: count_or(most.entries, setup.most_entries),
         open_ends: count_or(most.open_ends, setup.most_open_ends),
+        steps: if setup.most_steps == 0 {
+            most.steps
+        } else {
+            setup.most_steps
+        },
     }
 }
 
@@ -124,22 +120,6 @@ pub fn read_both(alloc: Global, name: &[u8], cookie: &[u8]) -> Result<(NodeName,
             None => Err(NO_MEMORY),
         },
         Err(error) => Err(cookie_code(error)),
-    }
-}
-
-// A guest in its box, where it is whole.
-fn boxed_guest(alloc: Global, setup: Setup, mandatory: Flags) -> Result<Box<Guest>, u32>
-    ensures ok { IfOk result (λ b. MakesGuest setup mandatory.0 0 (Some b.value)) }
-    ensures err { IfErr result (λ code. MakesGuest setup mandatory.0 code None) }
-{
-    if !is_whole(&setup, mandatory) {
-        return Err(HALF_FLAGS);
-    }
-    let mut guest = Guest::new(alloc, setup);
-    guest.reading.mandatory = mandatory;
-    match Box::new(alloc, guest) {
-        Ok(guest) => Ok(guest),
-        Err(_) => Err(NO_MEMORY),
     }
 }
 
@@ -168,20 +148,14 @@ pub fn new_guest(
         allow: limit_of(alloc, setup.limited),
         limits: limits_in(setup),
     };
-    boxed_guest(alloc, setup, mandatory)
-}
-
-/// Lets a guest go, with all its memory.
-pub fn let_go(guest: Box<Guest>) {
-    drop(guest);
-}
-
-pub fn copy_say(guest: &Guest, room: &mut [u8], len: &mut usize) -> u32
-    ensures { Copies (sent_bytes guest.now.last) result len.new room.old room.new }
-{
-    match &guest.last {
-        Some(reply) => copy_out(reply.say.as_slice(), room, len),
-        None => copy_out(&[], room, len),
+    if !is_whole(&setup, mandatory) {
+        return Err(HALF_FLAGS);
+    }
+    let mut guest = Guest::new(alloc, setup);
+    guest.reading.mandatory = mandatory;
+    match Box::new(alloc, guest) {
+        Ok(guest) => Ok(guest),
+        Err(_) => Err(NO_MEMORY),
     }
 }
 
@@ -213,7 +187,7 @@ pub fn report_next(
     peer: &mut DnPeer,
     room: &mut [u8],
 ) -> u32
-    ensures { ReportsNext name.now result (Some guest.now) peer.old peer.new room.old room.new }
+    ensures { ReportsNext name.now result guest.now peer.old peer.new room.old room.new }
 {
     if name.is_empty() {
         return report_found(guest.node.up_behind(None), room, peer);

@@ -1,6 +1,6 @@
 //! How a guest reads the bodies of the frames that come.
-ghost use Rattle.std.specs.{Prelude.◌≡◌, Prelude.◌++◌, Prelude.IfOk, Prelude.slice_index, Prelude.take, Prelude.drop, Int.w32, Int.w64};
-ghost use Rattle.dist_c_guest.specs.{Reading.expansion, Reading.in_place, Reading.plain, Whole.is_whole};
+ghost use Rattle.std.specs.{Prelude.◌≡◌, Prelude.◌++◌, Prelude.IfOk, Prelude.take, Prelude.drop, Int.w32, Int.w64};
+ghost use Rattle.dist_c_guest.specs.{Reading.expansion, Reading.in_place, Whole.is_whole};
 
 use crate::forms::Forms;
 use dist_core_setup::{Setup, announced_by};
@@ -23,18 +23,6 @@ pub struct Reading {
     pub forms: Forms,
 }
 
-impl Reading {
-    /// Bodies are read as they came, and no forms are kept. It takes no memory.
-    pub fn plain(alloc: Global) -> Reading
-        ensures { result ≡ plain }
-    {
-        Reading {
-            mandatory: Flags(0),
-            forms: Forms::none(alloc),
-        }
-    }
-}
-
 /// Whether a node of this setup, to which the digest stands for these flags, is whole: where it announces the digest it
 /// announces what that stands for, and to itself the digest stands for just that, or for nothing. In a world of such nodes
 /// reading by the digest changes nothing, so that they agree as others do.
@@ -44,16 +32,6 @@ pub fn is_whole(setup: &Setup, mandatory: Flags) -> bool
     let announced = announced_by(setup);
     (mandatory.0 == 0 || mandatory.0 == MANDATORY_25.0)
         && (!announced.has(DIGEST_25) || announced.has(MANDATORY_25))
-}
-
-// The first byte, and 0 where there is none.
-fn tag_of(body: &[u8]) -> u8
-    ensures { result ≡ slice_index body.now 0 }
-{
-    match body {
-        [tag, ..] => *tag,
-        [] => 0,
-    }
 }
 
 // Three rows of bytes, one behind another.
@@ -119,9 +97,9 @@ pub fn expand(alloc: Global, mask: Flags, body: &[u8]) -> Result<ByteString, All
     if mask.0 == 0 {
         return ByteString::from_slice(alloc, body);
     }
-    match tag_of(body) {
-        b'N' => expand_new(alloc, mask.0, body),
-        b'n' => expand_old(alloc, mask.low(), body),
+    match body {
+        [b'N', ..] => expand_new(alloc, mask.0, body),
+        [b'n', ..] => expand_old(alloc, mask.low(), body),
         _ => ByteString::from_slice(alloc, body),
     }
 }

@@ -1,11 +1,14 @@
-//! The pointer to a guest that C holds.
-ghost use Rattle.std.specs.{Prelude.◌≡◌, Prelude.Option, Prelude.Some, Prelude.None, Borrow.sem};
-ghost use Rattle.dist_c_guest.specs.{declared.guest.Guest.Guest, Kept.owns_guest};
+//! The node that C holds, and the pointer to its guest.
+ghost use Rattle.std.specs.{Prelude.◌≡◌, Prelude.◌==◌, Prelude.Option, Prelude.Some, Prelude.None, Borrow.sem};
+ghost use Rattle.dist_c_guest.specs.{declared.guest.Guest.Guest, Kept.is_held, Kept.owns_guest};
 
 use crate::guest::Guest;
 use crate::parts::Parts;
 use std::alloc::Global;
 use std::marker::Model;
+use std::mem::size_of;
+
+const _: () = prove!(size_of::<DnNode>() == 16);
 
 /// A place for a boxed guest. Its pointer means something only where the place holds one.
 #[repr(C)]
@@ -55,12 +58,12 @@ impl Slot {
         self.at = ptr as *mut u8;
     }
 
-    /// Takes the guest out.
-    pub fn take(&mut self, alloc: Global) -> Box<Guest>
+    /// Lets the guest go, with all its memory.
+    pub fn let_go(&mut self, alloc: Global)
         requires { (s : Guest) × (self.old.guest ≡ Some s) }
-        ensures { (self.old.guest ≡ Some result.value) × (self.new.guest ≡ None) }
+        ensures { self.new.guest ≡ None }
     {
-        self.take_parts(alloc).into_box()
+        drop(self.take_parts(alloc).into_box());
     }
 
     /// Puts a guest in.
@@ -71,3 +74,22 @@ impl Slot {
         self.put_parts(Parts::of(guest));
     }
 }
+
+/// What stands in a node that holds a guest: `distnode` in ASCII.
+pub const MARK: u64 = 0x646973746e6f6465;
+
+/// A node in C's memory.
+#[repr(C)]
+#[derive(Drop)]
+pub struct DnNode {
+    /// The guest.
+    pub slot: Slot,
+    /// Whether there is one.
+    pub mark: u64,
+    pub ghost marked: { is_held slot.guest ≡ (mark == 7235441220253607013) },
+}
+
+// What may move to another thread: the check finds it of a node, since it holds of each of its fields.
+trait Moves: Send {}
+
+impl Moves for DnNode {}

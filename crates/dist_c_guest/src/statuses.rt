@@ -4,7 +4,7 @@ ghost use Rattle.dist_messages.specs.Reading.{read};
 ghost use Rattle.dist_c_guest.specs.Statuses.{status_in, status_number, status_of, status_received, status_sent};
 
 use crate::guest::Guest;
-use dist_core::{Event, Reply};
+use dist_core::Event;
 use dist_frames::first_body;
 use dist_messages::{Message, Side, Status, decode};
 use std::alloc::Global;
@@ -47,13 +47,6 @@ pub fn status_received(alloc: Global, event: &Event) -> Option<Status>
     }
 }
 
-/// The status that a reply sends.
-pub fn status_sent(alloc: Global, reply: &Reply) -> Option<Status>
-    ensures { result ≡ status_sent reply.now }
-{
-    status_of(alloc, first_body(reply.say.as_slice())?)
-}
-
 /// The number by which C knows a status, and 0 where there is none.
 pub fn status_number(status: Option<Status>) -> u32
     ensures { result ≡ status_number status }
@@ -75,7 +68,7 @@ pub fn newest_status(guest: &Guest, alloc: Global) -> Option<Status>
     ensures { result ≡ option_and_then status_sent guest.now.last }
 {
     match &guest.last {
-        Some(reply) => status_sent(alloc, reply),
+        Some(reply) => status_of(alloc, first_body(reply.say.as_slice())?),
         None => None,
     }
 }

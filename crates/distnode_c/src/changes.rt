@@ -2,7 +2,7 @@
 ghost use Rattle.dist_names.specs.NodeName.{name_of_bytes};
 ghost use Rattle.dist_secret.specs.Cookie.{cookie_of};
 ghost use Rattle.dist_c_guest.specs.Changes.{AllowsText, AtGuest, DisallowsText, Keys, KeysUsually, Unkeys};
-ghost use Rattle.dist_c_guest.specs.{Forms.has_form, Planning.Changes};
+ghost use Rattle.dist_c_guest.specs.Forms.{has_form};
 
 use dist_c_guest::{
     DnNode, MARK, NOT_A_NODE, allow_text, disallow_text, has_form, set_cookie, set_usual_cookie,

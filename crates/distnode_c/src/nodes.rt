@@ -4,7 +4,7 @@ ghost use Rattle.dist_names.specs.NodeName.{name_of_bytes};
 ghost use Rattle.dist_secret.specs.Cookie.{cookie_of};
 ghost use Rattle.dist_c_guest.specs.{Nodes.News, Nodes.version_of, Nodes.Frees, Ends.Forgets, Ends.Renews};
 
-use dist_c_guest::{DnNode, DnSetup, IN_USE, MARK, NOT_A_NODE, OK, let_go, new_guest, renew};
+use dist_c_guest::{DnNode, DnSetup, IN_USE, MARK, NOT_A_NODE, OK, new_guest, renew};
 use dist_peers::EndId;
 use std::alloc::Global;
 
@@ -42,7 +42,7 @@ pub extern "C" fn dn_node_free(node: &mut DnNode, alloc: Global) -> u32
         return NOT_A_NODE;
     }
     node.mark = 0;
-    let_go(node.slot.take(alloc));
+    node.slot.let_go(alloc);
     OK
 }
 

@@ -2,16 +2,16 @@
 ghost use Rattle.std.specs.{Prelude.◌≡◌, Prelude.slice_get, Int.w16};
 ghost use Rattle.std.specs.FinMap as map;
 ghost use Rattle.dist_names.specs.NodeName.{name_of_bytes};
-ghost use Rattle.dist_core_ends.specs.Ends.{up_from, up_ids, table_of, record_in};
-ghost use Rattle.dist_c_guest.specs.Nodes.{Says, ReportsAt, ReportsNext};
-ghost use Rattle.dist_c_guest.specs.{Steps.Copies, Bodies.SaysBody, Statuses.ReportsStatuses, Statuses.status_number, Foreseeing.IsReady};
-ghost use Rattle.dist_c_guest.specs.{Foreseeing.IsReadyBody, Entries.ReportsEntry, Ends.ReportsEndAt, Ends.ReportsOldest};
-ghost use Rattle.dist_frames.specs.Stream.{first_body};
+ghost use Rattle.dist_frames.specs.Stream.{bodies, first_body};
+ghost use Rattle.dist_core_ends.specs.Ends.{oldest_pending, record_in, table_of, up_from, up_ids};
+ghost use Rattle.dist_c_guest.specs.{Bodies.CopiesAt, Bodies.ForeseesBody, Bodies.ForeseesFront, Bodies.is_short, Ends.ReportsEnd, Ends.ReportsId};
+ghost use Rattle.dist_c_guest.specs.{Entries.ReportsEntry, Nodes.ReportsNext, Nodes.Returns, Statuses.ReportsStatuses, Statuses.status_number};
+ghost use Rattle.dist_c_guest.specs.Steps.{Copies, IfHeld, sent_bytes};
 
 use dist_c_guest::{
-    DnEnd, DnEntry, DnNode, DnPeer, DnReply, MARK, NOT_A_NODE, OK, copy_body, copy_say,
+    DnEnd, DnEntry, DnNode, DnPeer, DnReply, MARK, NOT_A_NODE, OK, copy_body, copy_out,
     foresee_body, foresee_front, newest_status, report_end, report_entry, report_found,
-    report_next, report_oldest, report_peer, status_number,
+    report_next, report_oldest, report_peer, sent_bytes, status_number,
 };
 use dist_peers::EndId;
 use std::alloc::Global;
@@ -19,13 +19,13 @@ use std::alloc::Global;
 /// Copies the bytes that the newest step sends.
 #[unsafe(no_mangle)]
 pub extern "C" fn dn_node_say(node: &mut DnNode, room: &mut [u8], len: &mut usize) -> u32
-    ensures says { Says node.old.slot.guest result len.old len.new room.old room.new }
+    ensures says { IfHeld node.old.slot.guest (λ s. Copies (sent_bytes s.last) result len.new room.old room.new) result len.old len.new room.old room.new }
     ensures same { node.new.slot.guest ≡ node.old.slot.guest }
 {
     if node.mark != MARK {
         return NOT_A_NODE;
     }
-    copy_say(node.slot.lend(), room, len)
+    copy_out(sent_bytes(node.slot.lend()), room, len)
 }
 
 /// The up peer at this place, in the order of names, with its name.
@@ -36,8 +36,9 @@ pub extern "C" fn dn_node_peer_at(
     peer: &mut DnPeer,
     room: &mut [u8],
 ) -> u32
-    ensures reports { ReportsAt (λ s. up_from s.node.ends (slice_get (up_ids (map.entries (table_of s.node.ends))) place))
-        node.old.slot.guest result peer.old peer.new room.old room.new }
+    ensures reports { IfHeld node.old.slot.guest
+        (λ s. Returns (up_from s.node.ends (slice_get (up_ids (map.entries (table_of s.node.ends))) place)) result peer.old peer.new room.old room.new)
+        result peer.old peer.new room.old room.new }
     ensures same { node.new.slot.guest ≡ node.old.slot.guest }
 {
     if node.mark != MARK {
@@ -56,7 +57,8 @@ pub extern "C" fn dn_node_next_peer(
     peer: &mut DnPeer,
     room: &mut [u8],
 ) -> u32
-    ensures reports { ReportsNext name.now result node.old.slot.guest peer.old peer.new room.old room.new }
+    ensures reports { IfHeld node.old.slot.guest
+        (λ s. ReportsNext name.now result s peer.old peer.new room.old room.new) result peer.old peer.new room.old room.new }
     ensures same { node.new.slot.guest ≡ node.old.slot.guest }
 {
     if node.mark != MARK {
@@ -73,7 +75,9 @@ pub extern "C" fn dn_node_peer_of(
     peer: &mut DnPeer,
     room: &mut [u8],
 ) -> u32
-    ensures reports { ReportsAt (λ s. record_in (record { 0 = id }) (slice_get s.node.ends id)) node.old.slot.guest result peer.old peer.new room.old room.new }
+    ensures reports { IfHeld node.old.slot.guest
+        (λ s. Returns (record_in (record { 0 = id }) (slice_get s.node.ends id)) result peer.old peer.new room.old room.new)
+        result peer.old peer.new room.old room.new }
     ensures same { node.new.slot.guest ≡ node.old.slot.guest }
 {
     if node.mark != MARK {
@@ -90,7 +94,9 @@ pub extern "C" fn dn_node_say_body(
     room: &mut [u8],
     len: &mut usize,
 ) -> u32
-    ensures says { SaysBody place node.old.slot.guest result len.old len.new room.old room.new }
+    ensures says { IfHeld node.old.slot.guest
+        (λ s. CopiesAt (slice_get (bodies (sent_bytes s.last)) place) result len.old len.new room.old room.new)
+        result len.old len.new room.old room.new }
     ensures same { node.new.slot.guest ≡ node.old.slot.guest }
 {
     if node.mark != MARK {
@@ -107,7 +113,7 @@ pub extern "C" fn dn_node_status(
     said: &mut u32,
     heard: &mut u32,
 ) -> u32
-    ensures reports { ReportsStatuses node.old.slot.guest result said.old said.new heard.old heard.new }
+    ensures reports { IfHeld node.old.slot.guest (λ s. ReportsStatuses s result said.new heard.new) result said.old said.new heard.old heard.new }
     ensures same { node.new.slot.guest ≡ node.old.slot.guest }
 {
     if node.mark != MARK {
@@ -129,7 +135,9 @@ pub extern "C" fn dn_node_ready(
     challenge: u32,
     reply: &mut DnReply,
 ) -> u32
-    ensures ready { IsReady (first_body w16 bytes.now) (record { 0 = id }) challenge result node.old.slot.guest reply.old reply.new }
+    ensures ready { IfHeld node.old.slot.guest
+        (λ s. ForeseesFront (first_body w16 bytes.now) (record { 0 = id }) challenge result s reply.old reply.new)
+        result node.old.slot.guest node.new.slot.guest reply.old reply.new }
     ensures same { node.new.slot.guest ≡ node.old.slot.guest }
 {
     if node.mark != MARK {
@@ -148,7 +156,9 @@ pub extern "C" fn dn_node_ready_body(
     challenge: u32,
     reply: &mut DnReply,
 ) -> u32
-    ensures ready { IsReadyBody body.now (record { 0 = id }) challenge result node.old.slot.guest reply.old reply.new }
+    ensures ready { IfHeld node.old.slot.guest
+        (λ s. ForeseesBody (is_short body.now) body.now (record { 0 = id }) challenge result s reply.old reply.new)
+        result node.old.slot.guest node.new.slot.guest reply.old reply.new }
     ensures same { node.new.slot.guest ≡ node.old.slot.guest }
 {
     if node.mark != MARK {
@@ -165,7 +175,9 @@ pub extern "C" fn dn_node_entry(
     peer: &[u8],
     entry: &mut DnEntry,
 ) -> u32
-    ensures reports { ReportsEntry (name_of_bytes peer.now) result node.old.slot.guest entry.old entry.new }
+    ensures reports { IfHeld node.old.slot.guest
+        (λ s. ReportsEntry (name_of_bytes peer.now) result s entry.old entry.new)
+        result node.old.slot.guest node.new.slot.guest entry.old entry.new }
     ensures same { node.new.slot.guest ≡ node.old.slot.guest }
 {
     if node.mark != MARK {
@@ -177,7 +189,8 @@ pub extern "C" fn dn_node_entry(
 /// How an end stands, and the name of its peer.
 #[unsafe(no_mangle)]
 pub extern "C" fn dn_node_end(node: &mut DnNode, id: u32, end: &mut DnEnd, room: &mut [u8]) -> u32
-    ensures reports { ReportsEndAt id node.old.slot.guest result end.old end.new room.old room.new }
+    ensures reports { IfHeld node.old.slot.guest
+        (λ s. ReportsEnd (slice_get s.node.ends id) result end.old end.new room.old room.new) result end.old end.new room.old room.new }
     ensures same { node.new.slot.guest ≡ node.old.slot.guest }
 {
     if node.mark != MARK {
@@ -189,7 +202,9 @@ pub extern "C" fn dn_node_end(node: &mut DnNode, id: u32, end: &mut DnEnd, room:
 /// The end that has been open and not up for the longest.
 #[unsafe(no_mangle)]
 pub extern "C" fn dn_node_oldest(node: &mut DnNode, id: &mut u32) -> u32
-    ensures reports { ReportsOldest node.old.slot.guest result id.old id.new }
+    ensures reports { IfHeld node.old.slot.guest
+        (λ s. ReportsId (oldest_pending s.node.ends) result id.old id.new)
+        result node.old.slot.guest node.new.slot.guest id.old id.new }
     ensures same { node.new.slot.guest ≡ node.old.slot.guest }
 {
     if node.mark != MARK {

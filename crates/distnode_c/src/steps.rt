@@ -1,8 +1,8 @@
 //! The steps of a node: its connections come, are dialled, open or lost, a tick is due, bytes came.
 ghost use Rattle.std.specs.{Prelude.◌≢◌, Prelude.Some, Prelude.None, Prelude.IsTrue, Int.w16};
 ghost use Rattle.dist_names.specs.NodeName.{name_of_bytes};
-ghost use Rattle.dist_c_guest.specs.Steps.{opening_of, Steps, Receives, Loses};
-ghost use Rattle.dist_c_guest.specs.{Newcomers.Comes, Newcomers.Dials, Bodies.ReceivesBody, Guarding.ReceivesGuarded};
+ghost use Rattle.dist_c_guest.specs.Steps.{IfHeld, Loses, Steps, Takes, opening_of};
+ghost use Rattle.dist_c_guest.specs.{Bodies.GuardsBody, Bodies.TakesBody, Bodies.is_short, Newcomers.Comes, Newcomers.Dials};
 ghost use Rattle.dist_core.specs.Losses.{is_loss};
 ghost use Rattle.dist_frames.specs.Stream.{first_body};
 
@@ -137,7 +137,9 @@ pub extern "C" fn dn_node_received(
     challenge: u32,
     reply: &mut DnReply,
 ) -> u32
-    ensures { Receives (first_body w16 bytes.now) (record { 0 = id }) challenge result node.old.slot.guest node.new.slot.guest reply.old reply.new }
+    ensures { IfHeld node.old.slot.guest
+        (λ s. Takes (first_body w16 bytes.now) (record { 0 = id }) challenge result s node.new.slot.guest reply.old reply.new)
+        result node.old.slot.guest node.new.slot.guest reply.old reply.new }
 {
     if node.mark != MARK {
         return NOT_A_NODE;
@@ -155,7 +157,9 @@ pub extern "C" fn dn_node_body(
     challenge: u32,
     reply: &mut DnReply,
 ) -> u32
-    ensures { ReceivesBody body.now (record { 0 = id }) challenge result node.old.slot.guest node.new.slot.guest reply.old reply.new }
+    ensures { IfHeld node.old.slot.guest
+        (λ s. TakesBody (is_short body.now) body.now (record { 0 = id }) challenge result s node.new.slot.guest reply.old reply.new)
+        result node.old.slot.guest node.new.slot.guest reply.old reply.new }
 {
     if node.mark != MARK {
         return NOT_A_NODE;
@@ -173,7 +177,9 @@ pub extern "C" fn dn_node_guarded_body(
     challenge: u32,
     reply: &mut DnReply,
 ) -> u32
-    ensures { ReceivesGuarded body.now (record { 0 = id }) challenge result node.old.slot.guest node.new.slot.guest reply.old reply.new }
+    ensures { IfHeld node.old.slot.guest
+        (λ s. GuardsBody (is_short body.now) body.now (record { 0 = id }) challenge result s node.new.slot.guest reply.old reply.new)
+        result node.old.slot.guest node.new.slot.guest reply.old reply.new }
 {
     if node.mark != MARK {
         return NOT_A_NODE;

@@ -1,15 +1,14 @@
-use Rattle.dist_c_guest.proofs.{Common.refl, GivenBack.foresaw}
+use Rattle.dist_c_guest.proofs.{GivenBack.foresaw-plain, GivenBack.foresaw-wider}
 use Rattle.dist_c_guest.proofs.guest.Guest.foresee.Goals as goal
 
 pub returns-in_default-clause-reply : goal.returns-in_default-clause-reply
 returns-in_default-clause-reply c = c.refusal.ensures c.args.body.now c.args.fresh
 
-pub returns-in_default-clause-same : goal.returns-in_default-clause-same
-returns-in_default-clause-same c = refl
+pub returns-in_default-names-clause-reply : goal.returns-in_default-names-clause-reply
+returns-in_default-names-clause-reply c =
+    foresaw-plain c.args.self.now c.args.id c.args.body.now c.args.fresh c.in-Ok.body c.in-Ok.names c.answer.result c.in-Ok.ensures c.in_default-names.is c.answer.ensures.answer
 
 pub returns-clause-reply : goal.returns-clause-reply
 returns-clause-reply c =
-    foresaw c.args.self.now c.args.id c.args.body.now c.args.fresh c.in-Ok.body c.in-Ok.names c.answer_with.result c.in-Ok.ensures.0 c.in-Ok.ensures.1 c.answer_with.ensures.reply
-
-pub returns-clause-same : goal.returns-clause-same
-returns-clause-same c = c.answer_with.ensures.same
+    foresaw-wider c.args.self.now c.args.id c.args.body.now c.args.fresh c.in-Ok.body c.in-Ok.names c.in-Some.widened c.set_allow-before.new.self c.in-Ok.ensures c.in-Some.is
+    c.set_allow-before.ensures.changed c.answer-result.result c.answer-result.ensures.answer

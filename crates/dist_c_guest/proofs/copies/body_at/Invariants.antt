@@ -1,5 +1,5 @@
 use Rattle.dist_c_guest.proofs.Common.{◌≡◌, slice_get, bodies}
-use Rattle.dist_c_guest.proofs.bodies.body_at.Given as goal
+use Rattle.dist_c_guest.proofs.copies.body_at.Given as goal
 
 -- what is looked for is at this place of what is left
 abbrev pub invariant-loop-left : goal.invariant-loop-left

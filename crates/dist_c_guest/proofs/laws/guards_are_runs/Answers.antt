@@ -1,5 +1,5 @@
 use Rattle.dist_c_guest.proofs.Shown.{run-is-run}
-use Rattle.dist_c_guest.proofs.guard_laws.guards_are_runs.Goals as goal
+use Rattle.dist_c_guest.proofs.laws.guards_are_runs.Goals as goal
 
 pub returns : goal.returns
 returns c = run-is-run

@@ -1,5 +1,5 @@
 use Rattle.dist_c_guest.proofs.Clusters.{guards-agree}
-use Rattle.dist_c_guest.proofs.guard_laws.shown_peers_agree.Goals as goal
+use Rattle.dist_c_guest.proofs.laws.shown_peers_agree.Goals as goal
 
 pub returns : goal.returns
 returns c = guards-agree c.acts_keep_ends.ensures.legal c.shown_ends_are_up.ensures c.guests_are_nodes.ensures c.nodes_agree.ensures.reached c.ups_are_linked.ensures.counted

@@ -1,5 +1,5 @@
 use Rattle.dist_c_guest.proofs.{Common.◌≡◌, Common.slice_get, Common.sym, Common.ap, Common.◌∙◌, Common.arith, Common.bodies, Places.first_there}
-use Rattle.dist_c_guest.proofs.bodies.body_at.Goals as goal
+use Rattle.dist_c_guest.proofs.copies.body_at.Goals as goal
 
 pub returns : goal.returns
 returns c =
