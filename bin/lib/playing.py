@@ -23,15 +23,17 @@ ROOT = os.path.dirname(os.path.dirname(os.path.dirname(os.path.realpath(__file__
 
 
 def free_ports(count):
-    """So many ports of this host at which nobody listens, below those that Linux gives to connections, which could take them meanwhile."""
-    ports = []
+    """So many ports of this host at which nobody listens, below those that Linux gives to connections, which could take them meanwhile.
+    Nobody listens here either, since a program that another thread starts has what is open until it runs."""
+    ports = set()
     with contextlib.ExitStack() as held:
         while len(ports) < count:
-            port = random.randrange(10000, 32768)
+            port, it = random.randrange(10000, 32768), held.enter_context(socket.socket())
+            it.setsockopt(socket.SOL_SOCKET, socket.SO_REUSEADDR, 1)
             with contextlib.suppress(OSError):
-                held.enter_context(socket.create_server((HOST, port)))
-                ports.append(port)
-    return ports
+                it.bind((HOST, port))
+                ports.add(port)
+    return list(ports)
 
 
 def free_port():

@@ -15,7 +15,7 @@ old name), oldname (one of version 6 and without HANDSHAKE_23), oldchallenge (ta
 registers: protocol1, fullname (the name with its host), hangsup (ends the connection once it is answered), owncreation (not the one that it was
 given), oneread (an answer comes in one piece, or is none), anyanswer (takes any answer). Of the port mapper: stale (keeps a
 name for 3 seconds), noextramap (forgets the extra), namesport (4369 in front of the names), cutreg (registers what was cut), serial (one
-client at a time), always6 (a creation of 32 bits to whoever knows version 5), staysopen (no end behind a lookup), onewrite (closes a request
+client at a time), always6 (a creation of 32 bits to whoever knows version 5), samecreation (one for all), staysopen (no end behind a lookup), onewrite (closes a request
 in pieces).
 """
 import hashlib
@@ -368,7 +368,7 @@ def is_free(name):
 def register(stream, request, release):
     name, entry = registration_of(request)
     with LOCK:
-        free, creation = is_free(name), next(CREATIONS)
+        free, creation = is_free(name), 100 if FAULT == "samecreation" else next(CREATIONS)
         if free:
             NAMES[name] = entry
     try:

@@ -19,10 +19,10 @@ use Rattle.dist_conformance.proofs.Fronts.{is_first}
 
 -- a challenge that passes is learned
 passed : (which : FieldCheck) (len : ℕ) (learned : List Learned) (i : AnnouncementSaid) (p : Passage)
-    → (if check_passes which len learned i then outcome.Matches (record { count = 2 + len; challenge = i.challenge }) else outcome.Fails deviation.Field) ≡ outcome.Matches p → p.challenge ≡ i.challenge
+    → (if check_passes which len learned i then outcome.Matches (record { count = 2 + len; number = i.challenge }) else outcome.Fails deviation.Field) ≡ outcome.Matches p → p.number ≡ i.challenge
 passed which len learned i p =
-    elim (check_passes which len learned i) as (λ b. (if b then outcome.Matches (record { count = 2 + len; challenge = i.challenge }) else outcome.Fails deviation.Field) ≡ outcome.Matches p → p.challenge ≡ i.challenge) [
-      | true ↦ λ e. let same : record { count = 2 + len; challenge = i.challenge } ≡ p = cc in sym (ap (λ (q : Passage). q.challenge) same)
+    elim (check_passes which len learned i) as (λ b. (if b then outcome.Matches (record { count = 2 + len; number = i.challenge }) else outcome.Fails deviation.Field) ≡ outcome.Matches p → p.number ≡ i.challenge) [
+      | true ↦ λ e. let same : record { count = 2 + len; number = i.challenge } ≡ p = cc in sym (ap (λ (q : Passage). q.number) same)
       | false ↦ λ e. absurd cc
     ]
 

@@ -1,6 +1,6 @@
 -- When the judgement is decided.
 use Rattle.std.proofs.Common.{◌≡◌, ℕ, suc, ◌+◌, ◌≤◌, Bool, true, false, List, [], ◌∷◌, take, drop, length, Option, Some, None, refl, ap, ◌∙◌, arith}
-use Rattle.std.specs.Prelude.{◌==◌, ◌||◌, ◌&&◌, not, nat_lt, if◌then◌else◌, Contains}
+use Rattle.std.specs.Prelude.{◌==◌, ◌||◌, ◌&&◌, nat_lt, if◌then◌else◌, Contains}
 use Rattle.std.specs.{Int.w16, Int.w32, List.list_any}
 use Rattle.dist_names.specs.{Fields.Taken, Fields.number_at, Order.same_name}
 use Rattle.dist_frames.specs.Stream.{first_body}
@@ -8,14 +8,15 @@ use Rattle.dist_messages.specs.{declared.message.Side.TheVariants.Dialler, Readi
 use Rattle.dist_messages.specs.declared.message.Message.TheVariants as message
 use Rattle.dist_secret.specs.Digest.{digest_of}
 use Rattle.dist_conformance.specs.Judging.{Observation, AnnouncementSaid, passes, passes_if, part_outcome, open_for, by_body, place_of, by_announcement}
-use Rattle.dist_conformance.specs.Judging.{check_passes, said_in, reply_in, by_reply, registration_in, registration_passes, by_registration, by_result}
+use Rattle.dist_conformance.specs.Judging.{check_passes, said_in, reply_in, by_reply, registration_in, registration_passes, by_registration, creation_passes, by_result}
 use Rattle.dist_conformance.specs.Judging.{by_answer, are_lines, names_pass, by_names, body_outcome, outcome_of, joined, behind_match, sequence_of}
 use Rattle.dist_conformance.specs.Judging.{no_passage, outcomes_of, first_passage, is_open, first_failure, may_match, by_loose, by_wanted, judgement_of}
 use Rattle.dist_conformance.specs.{Kinds.side_of, Words.begins_with}
 use Rattle.dist_conformance.specs.declared.patterns.{FieldCheck.FieldCheck, Announcement.Announcement, RegistrationCheck.RegistrationCheck}
-use Rattle.dist_conformance.specs.declared.patterns.{NamesCheck.NamesCheck, Pattern.Pattern}
+use Rattle.dist_conformance.specs.declared.patterns.{AnswerCheck.AnswerCheck, NamesCheck.NamesCheck, Pattern.Pattern}
 use Rattle.dist_conformance.specs.declared.outcomes.{Passage.Passage, Deviation.Deviation, PatternOutcome.PatternOutcome}
 use Rattle.dist_conformance.specs.declared.{steps.Demand.Demand, say.Learned.Learned}
+use Rattle.dist_conformance.specs.declared.patterns.AnswerCheck.TheVariants as answer
 use Rattle.dist_conformance.specs.declared.patterns.Pattern.TheVariants as pattern
 use Rattle.dist_conformance.specs.declared.outcomes.Deviation.TheVariants as deviation
 use Rattle.dist_conformance.specs.declared.outcomes.PatternOutcome.TheVariants as outcome
@@ -49,13 +50,13 @@ of_if false n = refl
 of_announcement : (k : Announcement) (which : FieldCheck) (len : ℕ) (learned : List Learned) (i : Option AnnouncementSaid) → Decided (by_announcement k which len learned i)
 of_announcement k which len learned None = refl
 of_announcement k which len learned (Some i) =
-    let found : PatternOutcome = outcome.Matches (record { count = 2 + len; challenge = i.challenge }) in
+    let found : PatternOutcome = outcome.Matches (record { count = 2 + len; number = i.challenge }) in
     either (place_of i.form == place_of k) (if check_passes which len learned i then found else outcome.Fails deviation.Field) (outcome.Fails deviation.Other)
     (either (check_passes which len learned i) found (outcome.Fails deviation.Field) refl refl) refl
 
 of_reply : (wanted : List ℕ) (len : ℕ) (r : Option (ℕ × List ℕ)) → Decided (by_reply wanted len r)
 of_reply wanted len None = refl
-of_reply wanted len (Some r) = either (same_name r.1 wanted) (outcome.Matches (record { count = 2 + len; challenge = Some r.0 })) (outcome.Fails deviation.Field) refl refl
+of_reply wanted len (Some r) = either (same_name r.1 wanted) (outcome.Matches (record { count = 2 + len; number = Some r.0 })) (outcome.Fails deviation.Field) refl refl
 
 of_registration : (which : RegistrationCheck) (len : ℕ) (r : Taken NodeInfo) → Decided (by_registration which len r)
 of_registration which len None = refl
@@ -65,19 +66,16 @@ of_body : (says : List ℕ → PatternOutcome) (b : Option (List ℕ)) (e : Bool
 of_body says None e h k = ended_part e h
 of_body says (Some body) e h k = k body
 
-of_result : (good zero creation : Bool) (n : ℕ) → Decided (by_result good zero creation n)
-of_result true true true n = refl
-of_result true true false n = refl
-of_result true false creation n = refl
-of_result false true creation n = refl
-of_result false false creation n = refl
+of_result : (which : AnswerCheck) (zero : Bool) (bytes : List ℕ) (learned : List Learned) (n : ℕ) → Decided (by_result which zero bytes learned n)
+of_result answer.Refused zero bytes learned n = either zero (outcome.Fails deviation.Other) (passes n) refl refl
+of_result which zero bytes learned n = either zero _ (outcome.Fails deviation.Other) (either (creation_passes which bytes learned) _ (outcome.Fails deviation.Field) refl refl) refl
 
-of_answer : (tag : ℕ) (good : Bool) (more : ℕ) (e : Bool) (came : List ℕ) → e ≡ true → Decided (by_answer tag good more e came)
-of_answer tag good more e [] h = ended_part e h
-of_answer tag good more e (x ∷ []) h = ended_part e h
-of_answer tag good more e (x ∷ y ∷ rest) h =
+of_answer : (tag : ℕ) (which : AnswerCheck) (more : ℕ) (e : Bool) (learned : List Learned) (came : List ℕ) → e ≡ true → Decided (by_answer tag which more e learned came)
+of_answer tag which more e learned [] h = ended_part e h
+of_answer tag which more e learned (x ∷ []) h = ended_part e h
+of_answer tag which more e learned (x ∷ y ∷ rest) h =
     either (nat_lt (length rest) more) _ _ (ended_part e h)
-    (either (x == tag) _ (outcome.Fails deviation.Other) (of_result good (y == 0) (list_any (λ byte. not (byte == 0)) (take more rest)) (2 + more)) refl)
+    (either (x == tag) _ (outcome.Fails deviation.Other) (of_result which (y == 0) (take more rest) learned (2 + more)) refl)
 
 of_names : (which : NamesCheck) (count : ℕ) (a : Option (ℕ × List ℕ)) → Decided (by_names which count a)
 of_names which count None = refl
@@ -101,7 +99,7 @@ decided (pattern.Ack n) o came h = of_body (body_outcome (pattern.Ack n) o) (fir
     (λ body. of_if (same_name body (canonical (message.Ack (digest_of o.cookie n)))) (2 + length body))
 decided (pattern.Registration which) o came h =
     of_body (body_outcome (pattern.Registration which) o) (first_body w16 came) o.ended h (λ body. of_registration which (length body) (registration_in body))
-decided (pattern.Answer tag good more) o came h = of_answer tag good more o.ended came h
+decided (pattern.Answer tag which more) o came h = of_answer tag which more o.ended o.learned came h
 decided (pattern.Names which) o came h = at_end o.ended (by_names which (length came) (number_at w32 came)) h (of_names which (length came) (number_at w32 came))
 
 behind_decided : (x : PatternOutcome) (behind : Passage → PatternOutcome) → Decided x → ((p : Passage) → Decided (behind p)) → Decided (behind_match x behind)

@@ -2,7 +2,7 @@
 use Rattle.std.proofs.Common.{◌≡◌, ℕ, ◌+◌, ◌≤◌, ◌<◌, Bool, true, false, List, [], ◌∷◌, ◌++◌, length, take, drop, Option, Some, None, refl, sym, ap, subst, ◌∙◌, arith, length-append, length-drop}
 use Rattle.std.proofs.lemmas.Bool.{and_parts}
 use Rattle.std.proofs.lemmas.List.{take-append-le, drop-append-le, drop-drop, drop_all}
-use Rattle.std.specs.Prelude.{◌==◌, ◌||◌, ◌&&◌, not, nat_lt, nat_le, if◌then◌else◌}
+use Rattle.std.specs.Prelude.{◌==◌, ◌||◌, ◌&&◌, nat_lt, nat_le, if◌then◌else◌}
 use Rattle.std.specs.{Int.w16, List.list_any, List.list_all}
 use lib.Seq.{drop-nil}
 use Rattle.dist_frames.specs.Stream.{first_body}
@@ -12,7 +12,7 @@ use Rattle.dist_conformance.specs.Judging.{body_outcome, outcome_of, joined, beh
 use Rattle.dist_conformance.specs.Judging.{first_failure, may_match, by_loose, by_wanted, judgement_of}
 use Rattle.dist_conformance.specs.{Kinds.side_of, Words.begins_with, Outcomes.IsWithin, Later.IsLater, Later.looks_at_bytes}
 use Rattle.dist_conformance.specs.declared.outcomes.{Passage.Passage, Deviation.Deviation, PatternOutcome.PatternOutcome}
-use Rattle.dist_conformance.specs.declared.{patterns.Pattern.Pattern, steps.Demand.Demand}
+use Rattle.dist_conformance.specs.declared.{patterns.AnswerCheck.AnswerCheck, patterns.Pattern.Pattern, steps.Demand.Demand, say.Learned.Learned}
 use Rattle.dist_conformance.specs.declared.patterns.Pattern.TheVariants as pattern
 use Rattle.dist_conformance.specs.declared.outcomes.Deviation.TheVariants as deviation
 use Rattle.dist_conformance.specs.declared.outcomes.PatternOutcome.TheVariants as outcome
@@ -37,12 +37,12 @@ of_body : (says others : List ℕ → PatternOutcome) (b c : Option (List ℕ)) 
 of_body says others None c e f g h = absurd cc
 of_body says others (Some x) c e f g h = ap (λ y. by_body others y e) (f x refl) ∙ g x
 
-of_answer : (tag : ℕ) (good : Bool) (n : ℕ) (e : Bool) (came more : List ℕ) → Stays (by_answer tag good n false came) (by_answer tag good n e (came ++ more))
-of_answer tag good n e [] more = λ h. absurd cc
-of_answer tag good n e (x ∷ []) more = λ h. absurd cc
-of_answer tag good n e (x ∷ y ∷ rest) more =
-    let by = λ (bytes : List ℕ). if x == tag then by_result good (y == 0) (list_any (λ byte. not (byte == 0)) bytes) (2 + n) else outcome.Fails deviation.Other in
-    elim (nat_lt (length rest) n) as (λ b. nat_lt (length rest) n ≡ b → Stays (if b then part_outcome false else by (take n rest)) (by_answer tag good n e (x ∷ y ∷ (rest ++ more)))) [
+of_answer : (tag : ℕ) (which : AnswerCheck) (n : ℕ) (e : Bool) (learned : List Learned) (came more : List ℕ) → Stays (by_answer tag which n false learned came) (by_answer tag which n e learned (came ++ more))
+of_answer tag which n e learned [] more = λ h. absurd cc
+of_answer tag which n e learned (x ∷ []) more = λ h. absurd cc
+of_answer tag which n e learned (x ∷ y ∷ rest) more =
+    let by = λ (bytes : List ℕ). if x == tag then by_result which (y == 0) bytes learned (2 + n) else outcome.Fails deviation.Other in
+    elim (nat_lt (length rest) n) as (λ b. nat_lt (length rest) n ≡ b → Stays (if b then part_outcome false else by (take n rest)) (by_answer tag which n e learned (x ∷ y ∷ (rest ++ more)))) [
       | true ↦ λ is h. absurd cc
       | false ↦ λ is h.
           let long : n ≤ length rest = grind (arith, is) in
@@ -69,8 +69,9 @@ module _ (o later : Observation) (l : IsLater o later) where
   settled (pattern.Reply n) came more b = framed (pattern.Reply n) came more (λ x. rw l.cookie refl)
   settled (pattern.Ack n) came more b = framed (pattern.Ack n) came more (λ x. rw l.cookie refl)
   settled (pattern.Registration which) came more b = framed (pattern.Registration which) came more (λ x. refl)
-  settled (pattern.Answer tag good n) came more b =
-      subst (λ v. Stays (by_answer tag good n v came) (by_answer tag good n later.ended (came ++ more))) (sym l.was_open) (of_answer tag good n later.ended came more)
+  settled (pattern.Answer tag which n) came more b =
+      rw l.learned
+      (subst (λ v. Stays (by_answer tag which n v o.learned came) (by_answer tag which n later.ended o.learned (came ++ more))) (sym l.was_open) (of_answer tag which n later.ended o.learned came more))
 
 -- ---- patterns that look at the end or at the time
 

@@ -1,17 +1,18 @@
 -- No more bytes match than came.
 use Rattle.std.proofs.Common.{◌≡◌, ℕ, ◌+◌, ◌≤◌, Bool, true, false, List, [], ◌∷◌, length, take, Option, Some, None, refl, arith}
-use Rattle.std.specs.{Prelude.◌==◌, Prelude.◌&&◌, Prelude.not, Prelude.nat_lt, Prelude.nat_le, Prelude.if◌then◌else◌, Int.w16, Int.w32, List.list_any}
+use Rattle.std.specs.{Prelude.◌==◌, Prelude.◌&&◌, Prelude.nat_lt, Prelude.nat_le, Prelude.if◌then◌else◌, Int.w16, Int.w32}
 use Rattle.dist_names.specs.{Fields.Taken, Fields.number_at, Order.same_name}
 use Rattle.dist_frames.specs.Stream.{first_body}
 use Rattle.dist_messages.specs.{declared.message.Side.TheVariants.Dialler, Reading.read}
 use Rattle.dist_secret.specs.Digest.{digest_of}
 use Rattle.dist_conformance.specs.Judging.{Observation, AnnouncementSaid, passes, passes_if, part_outcome, open_for, by_body, place_of, by_announcement}
-use Rattle.dist_conformance.specs.Judging.{check_passes, said_in, reply_in, by_reply, registration_in, registration_passes, by_registration, by_result}
+use Rattle.dist_conformance.specs.Judging.{check_passes, said_in, reply_in, by_reply, registration_in, registration_passes, by_registration, creation_passes, by_result}
 use Rattle.dist_conformance.specs.Judging.{by_answer, are_lines, names_pass, by_names, body_outcome, outcome_of}
 use Rattle.dist_conformance.specs.{Kinds.side_of, Words.begins_with, Outcomes.IsWithin}
 use Rattle.dist_conformance.specs.declared.patterns.{FieldCheck.FieldCheck, Announcement.Announcement, RegistrationCheck.RegistrationCheck}
-use Rattle.dist_conformance.specs.declared.patterns.{NamesCheck.NamesCheck, Pattern.Pattern}
+use Rattle.dist_conformance.specs.declared.patterns.{AnswerCheck.AnswerCheck, NamesCheck.NamesCheck, Pattern.Pattern}
 use Rattle.dist_conformance.specs.declared.{say.Learned.Learned, outcomes.PatternOutcome.PatternOutcome}
+use Rattle.dist_conformance.specs.declared.patterns.AnswerCheck.TheVariants as answer
 use Rattle.dist_conformance.specs.declared.patterns.Pattern.TheVariants as pattern
 use Rattle.dist_conformance.specs.declared.outcomes.Deviation.TheVariants as deviation
 use Rattle.dist_conformance.specs.declared.outcomes.PatternOutcome.TheVariants as outcome
@@ -50,21 +51,18 @@ of_body : (says : List ℕ → PatternOutcome) (came : List ℕ) (b : Option (Li
 of_body says came None e h k = waits e (length came)
 of_body says came (Some body) e h k = k body (first_within came body h)
 
-of_result : (good zero creation : Bool) (n m : ℕ) → n ≤ m → IsWithin m (by_result good zero creation n)
-of_result true true true n m h = h
-of_result true true false n m h = tt
-of_result true false creation n m h = tt
-of_result false true creation n m h = tt
-of_result false false creation n m h = h
+of_result : (which : AnswerCheck) (zero : Bool) (bytes : List ℕ) (learned : List Learned) (n m : ℕ) → n ≤ m → IsWithin m (by_result which zero bytes learned n)
+of_result answer.Refused zero bytes learned n m h = either zero m (outcome.Fails deviation.Other) _ (λ _. tt) h
+of_result which zero bytes learned n m h = either zero m _ (outcome.Fails deviation.Other) (λ _. either (creation_passes which bytes learned) m _ (outcome.Fails deviation.Field) (λ _. h) tt) tt
 
-of_answer : (tag : ℕ) (good : Bool) (more : ℕ) (e : Bool) (came : List ℕ) → IsWithin (length came) (by_answer tag good more e came)
-of_answer tag good more e [] = waits e 0
-of_answer tag good more e (x ∷ []) = waits e 1
-of_answer tag good more e (x ∷ y ∷ rest) =
-    elim (nat_lt (length rest) more) as (λ b. nat_lt (length rest) more ≡ b → IsWithin (length (x ∷ y ∷ rest)) (if b then part_outcome e else (if x == tag then by_result good (y == 0) (list_any (λ byte. not (byte == 0)) (take more rest)) (2 + more) else outcome.Fails deviation.Other))) [
+of_answer : (tag : ℕ) (which : AnswerCheck) (more : ℕ) (e : Bool) (learned : List Learned) (came : List ℕ) → IsWithin (length came) (by_answer tag which more e learned came)
+of_answer tag which more e learned [] = waits e 0
+of_answer tag which more e learned (x ∷ []) = waits e 1
+of_answer tag which more e learned (x ∷ y ∷ rest) =
+    elim (nat_lt (length rest) more) as (λ b. nat_lt (length rest) more ≡ b → IsWithin (length (x ∷ y ∷ rest)) (if b then part_outcome e else (if x == tag then by_result which (y == 0) (take more rest) learned (2 + more) else outcome.Fails deviation.Other))) [
       | true ↦ λ is. waits e (length (x ∷ y ∷ rest))
       | false ↦ λ is. let long : more ≤ length rest = grind (arith, is) in
-          either (x == tag) (length (x ∷ y ∷ rest)) _ _ (λ _. of_result good (y == 0) (list_any (λ byte. not (byte == 0)) (take more rest)) (2 + more) (length (x ∷ y ∷ rest)) (omega (arith, long))) tt
+          either (x == tag) (length (x ∷ y ∷ rest)) _ _ (λ _. of_result which (y == 0) (take more rest) learned (2 + more) (length (x ∷ y ∷ rest)) (omega (arith, long))) tt
     ] refl
 
 of_names : (which : NamesCheck) (count : ℕ) (a : Option (ℕ × List ℕ)) → IsWithin count (by_names which count a)
@@ -87,5 +85,5 @@ within (pattern.Reply n) o came =
 within (pattern.Ack n) o came = of_body (body_outcome (pattern.Ack n) o) came (first_body w16 came) o.ended refl (λ body h. of_if _ (2 + length body) (length came) h)
 within (pattern.Registration which) o came =
     of_body (body_outcome (pattern.Registration which) o) came (first_body w16 came) o.ended refl (λ body h. of_registration which (length body) (registration_in body) (length came) h)
-within (pattern.Answer tag good more) o came = of_answer tag good more o.ended came
+within (pattern.Answer tag which more) o came = of_answer tag which more o.ended o.learned came
 within (pattern.Names which) o came = either o.ended (length came) _ _ (λ _. of_names which (length came) (number_at w32 came)) tt

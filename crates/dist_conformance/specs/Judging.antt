@@ -11,11 +11,12 @@ use Rattle.dist_messages.specs.declared.message.Message.TheVariants as message
 use Rattle.dist_epmd.specs.{declared.message.NodeInfo.NodeInfo, Reading.info_at}
 use Rattle.dist_conformance.specs.{Kinds.side_of, Texts.lines_of, Words.◌>>=◌, Words.begins_with}
 use Rattle.dist_conformance.specs.declared.patterns.{Announcement.Announcement, FieldCheck.FieldCheck, RegistrationCheck.RegistrationCheck}
-use Rattle.dist_conformance.specs.declared.patterns.{NamesCheck.NamesCheck, Pattern.Pattern}
+use Rattle.dist_conformance.specs.declared.patterns.{AnswerCheck.AnswerCheck, NamesCheck.NamesCheck, Pattern.Pattern}
 use Rattle.dist_conformance.specs.declared.outcomes.{Passage.Passage, Deviation.Deviation, PatternOutcome.PatternOutcome, Observed.Observed}
 use Rattle.dist_conformance.specs.declared.{steps.Demand.Demand, say.Learned.Learned, judging.Judgement.Judgement}
 use Rattle.dist_conformance.specs.declared.patterns.Announcement.TheVariants as kind
 use Rattle.dist_conformance.specs.declared.patterns.FieldCheck.TheVariants as check
+use Rattle.dist_conformance.specs.declared.patterns.AnswerCheck.TheVariants as answer
 use Rattle.dist_conformance.specs.declared.patterns.NamesCheck.TheVariants as names
 use Rattle.dist_conformance.specs.declared.patterns.Pattern.TheVariants as pattern
 use Rattle.dist_conformance.specs.declared.outcomes.Deviation.TheVariants as deviation
@@ -38,7 +39,7 @@ observation_of o = record { came = o.came.now; ended = o.ended; elapsed = o.elap
 
 -- so many bytes match, and nothing is learned from them
 abbrev pub passes : ℕ → PatternOutcome
-passes n = outcome.Matches (record { count = n; challenge = None })
+passes n = outcome.Matches (record { count = n; number = None })
 
 -- what is awaited has not come whole
 abbrev pub part_outcome : Bool → PatternOutcome
@@ -101,9 +102,9 @@ place_of kind.Challenge = 2
 place_of kind.OldChallenge = 3
 place_of kind.Complement = 4
 
--- this challenge is none of those that came before
+-- this number is none of those that came before
 abbrev pub is_new : ℕ → List Learned → Bool
-is_new n learned = list_all (λ (l : Learned). not (l.challenge == n)) learned
+is_new n learned = list_all (λ (l : Learned). not (l.number == n)) learned
 
 abbrev pub is_fresh : Option ℕ → List Learned → Bool
 is_fresh None learned = true
@@ -124,7 +125,7 @@ abbrev pub by_announcement : Announcement → FieldCheck → ℕ → List Learne
 by_announcement k which len learned None = outcome.Fails deviation.Other
 by_announcement k which len learned (Some i) =
     if place_of i.form == place_of k
-    then (if check_passes which len learned i then outcome.Matches (record { count = 2 + len; challenge = i.challenge }) else outcome.Fails deviation.Field)
+    then (if check_passes which len learned i then outcome.Matches (record { count = 2 + len; number = i.challenge }) else outcome.Fails deviation.Field)
     else outcome.Fails deviation.Other
 
 -- what a body says of its node, if this side sends it
@@ -143,7 +144,7 @@ reply_in other = None
 abbrev pub by_reply : List ℕ → ℕ → Option (ℕ × List ℕ) → PatternOutcome
 by_reply wanted len None = outcome.Fails deviation.Other
 by_reply wanted len (Some reply) =
-    if same_name reply.1 wanted then outcome.Matches (record { count = 2 + len; challenge = Some reply.0 }) else outcome.Fails deviation.Field
+    if same_name reply.1 wanted then outcome.Matches (record { count = 2 + len; number = Some reply.0 }) else outcome.Fails deviation.Field
 
 -- ---- registrations
 
@@ -178,19 +179,33 @@ by_registration which len (Some r) = if registration_passes which r.0 r.1 then p
 
 -- ---- answers of a port mapper
 
--- whether the result has to be 0, whether it is, and whether a creation that is not 0 stands behind it
-abbrev pub by_result : Bool → Bool → Bool → ℕ → PatternOutcome
-by_result true true true n = passes n
-by_result true true false n = outcome.Fails deviation.Field
-by_result false false creation n = passes n
-by_result good zero creation n = outcome.Fails deviation.Other
+-- the creation that is written in 4 bytes
+abbrev pub creation_in : List ℕ → Option ℕ
+creation_in bytes = option_map (λ (c : ℕ × List ℕ). c.0) (number_at w32 bytes)
+
+-- a creation was given: it is not 0
+abbrev pub is_given : List ℕ → Bool
+is_given bytes = list_any (λ byte. not (byte == 0)) bytes
+
+-- the check of a creation: where it has to be fresh, it is none of the numbers that came before
+abbrev pub creation_passes : AnswerCheck → List ℕ → List Learned → Bool
+creation_passes answer.Fresh bytes learned = is_given bytes && is_fresh (creation_in bytes) learned
+creation_passes other bytes learned = is_given bytes
+
+-- result 0 and a creation, or another result, in an answer of so many bytes
+abbrev pub by_result : AnswerCheck → Bool → List ℕ → List Learned → ℕ → PatternOutcome
+by_result answer.Refused is_zero bytes learned n = if is_zero then outcome.Fails deviation.Other else passes n
+by_result which is_zero bytes learned n =
+    if is_zero
+    then (if creation_passes which bytes learned then outcome.Matches (record { count = n; number = creation_in bytes }) else outcome.Fails deviation.Field)
+    else outcome.Fails deviation.Other
 
 -- this first byte, a result, and so many bytes more
-abbrev pub by_answer : ℕ → Bool → ℕ → Bool → List ℕ → PatternOutcome
-by_answer tag good more ended (first ∷ code ∷ rest) =
+abbrev pub by_answer : ℕ → AnswerCheck → ℕ → Bool → List Learned → List ℕ → PatternOutcome
+by_answer tag which more ended learned (first ∷ code ∷ rest) =
     if nat_lt (length rest) more then part_outcome ended
-    else (if first == tag then by_result good (code == 0) (list_any (λ byte. not (byte == 0)) (take more rest)) (2 + more) else outcome.Fails deviation.Other)
-by_answer tag good more ended other = part_outcome ended
+    else (if first == tag then by_result which (code == 0) (take more rest) learned (2 + more) else outcome.Fails deviation.Other)
+by_answer tag which more ended learned other = part_outcome ended
 
 -- all lines of the answer to a question for names end in a line feed
 abbrev pub are_lines : List ℕ → Bool
@@ -233,7 +248,7 @@ outcome_of pattern.End o came = if_nothing came (if o.ended then passes 0 else o
 outcome_of (pattern.Silence ms) o came = if_nothing came (open_for ms 0 o)
 outcome_of (pattern.Open ms) o came = open_for ms (length came) o
 outcome_of (pattern.Bytes wanted) o came = by_bytes wanted came o.ended
-outcome_of (pattern.Answer tag good more) o came = by_answer tag good more o.ended came
+outcome_of (pattern.Answer tag which more) o came = by_answer tag which more o.ended o.learned came
 outcome_of (pattern.Names which) o came = if o.ended then by_names which (length came) (number_at w32 came) else outcome.Open
 outcome_of framed o came = by_body (body_outcome framed o) (first_body w16 came) o.ended
 
@@ -244,7 +259,7 @@ or_else None before = before
 
 -- one passage, and one behind it
 abbrev pub joined : Passage → Passage → Passage
-joined p q = record { count = p.count + q.count; challenge = or_else q.challenge p.challenge }
+joined p q = record { count = p.count + q.count; number = or_else q.number p.number }
 
 -- what comes behind a pattern that matches
 abbrev pub behind_match : PatternOutcome → (Passage → PatternOutcome) → PatternOutcome
@@ -259,7 +274,7 @@ sequence_of o p (first ∷ others) = behind_match (outcome_of first o (drop p.co
 
 -- nothing has matched yet
 abbrev pub no_passage : Passage
-no_passage = record { count = 0; challenge = None }
+no_passage = record { count = 0; number = None }
 
 -- what each alternative makes of what came
 abbrev pub outcomes_of : Observation → List (List Pattern) → List PatternOutcome

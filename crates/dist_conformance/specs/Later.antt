@@ -34,4 +34,4 @@ pub record IsChallenge (came : List ℕ) (p : Passage) : Type 0 where
   pub body : List ℕ
   pub frame : first_body w16 came ≡ Some body
   pub spelled : Spells Acceptor (message.NewChallenge flags challenge creation name) body
-  pub learned : p.challenge ≡ Some challenge
+  pub learned : p.number ≡ Some challenge

@@ -116,7 +116,7 @@ message_words =
     (codes "name", word.Announcement kind.Name) ∷ (codes "oldname", word.Announcement kind.OldName)
     ∷ (codes "challenge", word.Announcement kind.Challenge) ∷ (codes "oldchallenge", word.Announcement kind.OldChallenge)
     ∷ (codes "complement", word.Announcement kind.Complement) ∷ (codes "status", word.Status)
-    ∷ (codes "reply", word.Reply) ∷ (codes "ack", word.Ack) ∷ (codes "tick", word.Tick)
+    ∷ (codes "reply", word.Reply) ∷ (codes "mirror", word.Mirror) ∷ (codes "ack", word.Ack) ∷ (codes "tick", word.Tick)
     ∷ (codes "alive2", word.Alive2) ∷ (codes "alive2x", word.Alive2Answer true) ∷ (codes "alive2y", word.Alive2Answer false)
     ∷ (codes "lookup", word.Lookup) ∷ (codes "names", word.Names)
     ∷ (codes "frame", word.Frame) ∷ (codes "raw", word.Raw) ∷ []
@@ -126,6 +126,7 @@ abbrev pub behind_word : Terms → MessageWord → List (List ℕ) → Read Said
 behind_word t (word.Announcement k) words = announcement_part t k words
 behind_word t word.Status words = next_in status_said words >>= (λ frame. give (part.Bytes frame.0) frame.1)
 behind_word t word.Reply words = digest_terms words >>= (λ d. give (part.Reply d.0) d.1)
+behind_word t word.Mirror words = give part.Mirror words
 behind_word t word.Ack words = digest_terms words >>= (λ d. give (part.Ack d.0) d.1)
 behind_word t word.Tick words = give (part.Bytes (0 ∷ 0 ∷ 0 ∷ 0 ∷ [])) words
 behind_word t word.Alive2 words = info t words >>= (λ i. request_part (request.Alive i.0) >>= (λ p. give p i.1))

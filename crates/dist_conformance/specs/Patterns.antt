@@ -4,10 +4,12 @@ use Rattle.dist_epmd.specs.declared.message.Answer.TheVariants as answer
 use Rattle.dist_conformance.specs.Words.{◌>>=◌, Read, give, next_in, field, field_or, mark_in, value_in, whole, meaning_in}
 use Rattle.dist_conformance.specs.{Texts.parts_of, Texts.words_of, Terms.Terms, Lists.all_in, Lists.good, Fields.number_in, Fields.optional_number}
 use Rattle.dist_conformance.specs.{Fields.bytes_in, Fields.flag_in, Messages.info, Messages.answer_said, Messages.status_said}
-use Rattle.dist_conformance.specs.declared.patterns.{FieldCheck.FieldCheck, RegistrationCheck.RegistrationCheck, NamesCheck.NamesCheck, Pattern.Pattern}
+use Rattle.dist_conformance.specs.declared.patterns.{FieldCheck.FieldCheck, RegistrationCheck.RegistrationCheck, AnswerCheck.AnswerCheck}
+use Rattle.dist_conformance.specs.declared.patterns.{NamesCheck.NamesCheck, Pattern.Pattern}
 use Rattle.dist_conformance.specs.declared.{steps.Demand.Demand, demands.PatternWord.PatternWord}
 use Rattle.dist_conformance.specs.declared.patterns.FieldCheck.TheVariants as check
 use Rattle.dist_conformance.specs.declared.patterns.Announcement.TheVariants as kind
+use Rattle.dist_conformance.specs.declared.patterns.AnswerCheck.TheVariants as answer_check
 use Rattle.dist_conformance.specs.declared.patterns.NamesCheck.TheVariants as names
 use Rattle.dist_conformance.specs.declared.patterns.Pattern.TheVariants as pattern
 use Rattle.dist_conformance.specs.declared.demands.PatternWord.TheVariants as word
@@ -63,14 +65,18 @@ behind_names words None None None = Some (names.Any, words)
 unfoldable pub names_check : List (List ℕ) → Read NamesCheck
 names_check words = behind_names words (value_in (codes "port=") words) (value_in (codes "has=") words) (value_in (codes "hasnot=") words)
 
--- whether an answer is good, by its word
-abbrev pub answer_words : List (List ℕ × Bool)
-answer_words = (codes "ok", true) ∷ (codes "known", true) ∷ (codes "refused", false) ∷ (codes "unknown", false) ∷ []
+-- what an answer has to be, by its word
+abbrev pub answer_words : List (List ℕ × AnswerCheck)
+answer_words = (codes "ok", answer_check.Given) ∷ (codes "fresh", answer_check.Fresh) ∷ (codes "refused", answer_check.Refused) ∷ []
+
+-- whether a node is known, by its word
+abbrev pub lookup_words : List (List ℕ × Bool)
+lookup_words = (codes "known", true) ∷ (codes "unknown", false) ∷ []
 
 -- the answer to a lookup: a node, or none
 abbrev pub looked_up : Terms → Bool → List (List ℕ) → Read Pattern
 looked_up t true words = info t words >>= (λ i. answer_said (answer.Port (Ok i.0)) >>= (λ bytes. give (pattern.Bytes bytes) i.1))
-looked_up t false words = give (pattern.Answer 0x77 false 0) words
+looked_up t false words = give (pattern.Answer 0x77 answer_check.Refused 0) words
 
 -- ---- patterns
 
@@ -96,7 +102,7 @@ behind_word t word.Reply words = field (codes "challenge=") (number_in 429496729
 behind_word t word.Ack words = field (codes "challenge=") (number_in 4294967295) 123456789 words >>= (λ n. give (pattern.Ack n.0) n.1)
 behind_word t word.Registration words = registration_check words >>= (λ c. give (pattern.Registration c.0) c.1)
 behind_word t (word.Answer tag count) words = next_in (meaning_in answer_words) words >>= (λ g. give (pattern.Answer tag g.0 count) g.1)
-behind_word t word.Port2 words = next_in (meaning_in answer_words) words >>= (λ g. looked_up t g.0 g.1)
+behind_word t word.Port2 words = next_in (meaning_in lookup_words) words >>= (λ g. looked_up t g.0 g.1)
 behind_word t word.Names words = names_check words >>= (λ c. give (pattern.Names c.0) c.1)
 
 -- A PATTERN: its word, what stands behind it, and no word more

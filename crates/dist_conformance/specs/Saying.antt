@@ -17,7 +17,7 @@ use Rattle.dist_conformance.specs.declared.steps.SaidPart.TheVariants as part
 abbrev pub with_bit : List ℕ → ℕ → ℕ → List ℕ
 with_bit digest place bit = slice_set digest place (bit_xor (slice_index digest place) bit)
 
--- the digest of a reply to a challenge, by the cookie and the first challenge of the talk
+-- the digest of a reply to a challenge, by the cookie and the first number of the talk
 abbrev pub digest_said : ReplyDigest → List ℕ → ℕ → ℕ → List ℕ
 digest_said digest.Right cookie challenge earlier = digest_of cookie challenge
 digest_said digest.Wrong cookie challenge earlier = md5 (cookie ++ (0x78 ∷ []) ++ decimal challenge)
@@ -33,19 +33,19 @@ digest_said digest.Zero cookie challenge earlier = replicate 16 0
 
 -- ---- what the node said before
 
--- the challenge that came last on this connection, where one came behind this one
+-- the number that came last on this connection, where one came behind this one
 abbrev pub newer : ℕ → ℕ → Learned → ℕ
-newer conn challenge learned = if learned.conn == conn then learned.challenge else challenge
+newer conn n learned = if learned.conn == conn then learned.number else n
 
--- the challenge that came last on this connection, or this one where none came
-abbrev pub last_challenge : ℕ → ℕ → List Learned → ℕ
-last_challenge conn challenge [] = challenge
-last_challenge conn challenge (learned ∷ others) = last_challenge conn (newer conn challenge learned) others
+-- the number that came last on this connection, or this one where none came
+abbrev pub last_number : ℕ → ℕ → List Learned → ℕ
+last_number conn n [] = n
+last_number conn n (learned ∷ others) = last_number conn (newer conn n learned) others
 
--- the challenge that came first on any connection, or 0
-abbrev pub first_challenge : List Learned → ℕ
-first_challenge [] = 0
-first_challenge (learned ∷ others) = learned.challenge
+-- the number that came first on any connection, or 0
+abbrev pub first_number : List Learned → ℕ
+first_number [] = 0
+first_number (learned ∷ others) = learned.number
 
 -- ---- bytes
 
@@ -61,10 +61,13 @@ frame_said body = number w16 (length body % 2 ^ 16) ++ body
 abbrev pub part_said : ℕ → List Learned → List ℕ → SaidPart → List ℕ
 part_said conn learned cookie (part.Bytes bytes) = bytes
 part_said conn learned cookie (part.Reply reply) =
-    let digest = digest_said reply.digest cookie (last_challenge conn 0 learned) (first_challenge learned) in
+    let digest = digest_said reply.digest cookie (last_number conn 0 learned) (first_number learned) in
     frame_said (edited (canonical (message.Reply (unwrap_or reply.challenge 123456789) digest)) reply.less reply.extra)
+part_said conn learned cookie part.Mirror =
+    let challenge = last_number conn 0 learned in
+    frame_said (edited (canonical (message.Reply challenge (digest_of cookie challenge))) 0 [])
 part_said conn learned cookie (part.Ack ack) =
-    let digest = digest_said ack.digest cookie (unwrap_or ack.challenge (last_challenge conn 0 learned)) (first_challenge learned) in
+    let digest = digest_said ack.digest cookie (unwrap_or ack.challenge (last_number conn 0 learned)) (first_number learned) in
     frame_said (edited (canonical (message.Ack digest)) ack.less ack.extra)
 
 -- so many of the bytes, where there are more than that

@@ -13,7 +13,9 @@ use crate::fields::{
 use crate::from_text::{FromText, all_of};
 use crate::lists::SuiteList;
 use crate::messages::{answer_said, info_of, status_said};
-use crate::patterns::{Announcement, FieldCheck, NamesCheck, Pattern, RegistrationCheck};
+use crate::patterns::{
+    Announcement, AnswerCheck, FieldCheck, NamesCheck, Pattern, RegistrationCheck,
+};
 use crate::steps::Demand;
 use crate::terms::TalkTerms;
 use crate::texts::{split, words_of};
@@ -67,13 +69,15 @@ const PATTERNS: [(&str, PatternWord); 17] = [
     ("names", PatternWord::Names),
 ];
 
-// Whether an answer is good.
-const ANSWERS: [(&str, bool); 4] = [
-    ("ok", true),
-    ("known", true),
-    ("refused", false),
-    ("unknown", false),
+// What an answer to a registration has to be.
+const ANSWERS: [(&str, AnswerCheck); 3] = [
+    ("ok", AnswerCheck::Given),
+    ("fresh", AnswerCheck::Fresh),
+    ("refused", AnswerCheck::Refused),
 ];
+
+// Whether a node is known.
+const LOOKUPS: [(&str, bool); 2] = [("known", true), ("unknown", false)];
 
 // No check, or one of two marks.
 #[tactic(auto, unfolding(crate::specs::Patterns::mark_check))]
@@ -166,7 +170,7 @@ fn lookup_answer(
     ensures { ReadsUpTo result words.new (looked_up (terms_of terms.now) is_known words.old) }
 {
     if !is_known {
-        return Ok(Pattern::Answer(0x77, false, 0));
+        return Ok(Pattern::Answer(0x77, AnswerCheck::Refused, 0));
     }
     let info = info_of(alloc, terms, words)?;
     Ok(Pattern::Bytes(answer_said(alloc, &Answer::Port(Ok(info)))?))
@@ -198,7 +202,7 @@ fn pattern_of(
             Ok(Pattern::Answer(tag, meaning_word(&ANSWERS, words)?, count))
         }
         PatternWord::Port2 => {
-            let is_known = meaning_word(&ANSWERS, words)?;
+            let is_known = meaning_word(&LOOKUPS, words)?;
             lookup_answer(alloc, terms, is_known, words)
         }
         PatternWord::Names => Ok(Pattern::Names(names_check(alloc, words)?)),

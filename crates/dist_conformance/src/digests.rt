@@ -25,7 +25,7 @@ pub enum ReplyDigest {
     Raw,
     /// `other`: of the challenge with its last bit changed.
     Other,
-    /// `earlier`: of the first challenge that came in this talk, on any connection.
+    /// `earlier`: of the first number that came in this talk, on any connection.
     Earlier,
     /// `flip`: the right one with the last bit of its first byte changed.
     FlipFirst,
@@ -55,7 +55,7 @@ fn with_bit(mut digest: [u8; 16], place: usize, bit: u8) -> [u8; 16]
     digest
 }
 
-/// The digest of a reply to this challenge. `earlier` is the first challenge of the talk.
+/// The digest of a reply to this challenge. `earlier` is the first number of the talk.
 pub fn digest_to_say(kind: ReplyDigest, cookie: &Cookie, challenge: u32, earlier: u32) -> [u8; 16]
     ensures { result ≡ digest_said kind cookie.now challenge earlier }
 {

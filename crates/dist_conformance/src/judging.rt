@@ -24,7 +24,7 @@ pub enum Judgement {
 
 const NO_PASSAGE: Passage = Passage {
     count: 0,
-    challenge: None,
+    number: None,
 };
 
 // One passage, and one behind it.
@@ -34,7 +34,7 @@ fn join(first: Passage, second: Passage) -> Passage
 {
     Passage {
         count: first.count + second.count,
-        challenge: second.challenge.or(first.challenge),
+        number: second.number.or(first.number),
     }
 }
 

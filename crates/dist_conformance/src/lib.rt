@@ -40,7 +40,7 @@ pub use laws::{
 };
 pub use lists::SuiteList;
 pub use outcomes::{Deviation, Observed, Passage};
-pub use patterns::{Announcement, FieldCheck, NamesCheck, Pattern, RegistrationCheck};
+pub use patterns::{Announcement, AnswerCheck, FieldCheck, NamesCheck, Pattern, RegistrationCheck};
 pub use reading::read_section;
 pub use registrations::registered_port;
 pub use rows::{Level, Marks, RowTalk, Section, SectionKind, SuiteRow};

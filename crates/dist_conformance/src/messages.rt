@@ -34,6 +34,7 @@ enum MessageWord {
     Announcement(Announcement),
     Status,
     Reply,
+    Mirror,
     Ack,
     Tick,
     Alive2,
@@ -45,7 +46,7 @@ enum MessageWord {
     Raw,
 }
 
-const MESSAGES: [(&str, MessageWord); 16] = [
+const MESSAGES: [(&str, MessageWord); 17] = [
     ("name", MessageWord::Announcement(Announcement::Name)),
     ("oldname", MessageWord::Announcement(Announcement::OldName)),
     (
@@ -62,6 +63,7 @@ const MESSAGES: [(&str, MessageWord); 16] = [
     ),
     ("status", MessageWord::Status),
     ("reply", MessageWord::Reply),
+    ("mirror", MessageWord::Mirror),
     ("ack", MessageWord::Ack),
     ("tick", MessageWord::Tick),
     ("alive2", MessageWord::Alive2),
@@ -375,6 +377,7 @@ fn part_of(
         MessageWord::Announcement(kind) => announcement_part(alloc, terms, kind, words),
         MessageWord::Status => Ok(SaidPart::Bytes(status_said(alloc, words.word()?)?)),
         MessageWord::Reply => Ok(SaidPart::Reply(digest_terms(alloc, words)?)),
+        MessageWord::Mirror => Ok(SaidPart::Mirror),
         MessageWord::Ack => Ok(SaidPart::Ack(digest_terms(alloc, words)?)),
         MessageWord::Tick => Ok(SaidPart::Bytes(ByteString::from_slice(alloc, &[0; 4])?)),
         MessageWord::Alive2 => alive_part(alloc, terms, words),

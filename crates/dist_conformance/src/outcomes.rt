@@ -1,17 +1,18 @@
 //! What a single pattern makes of what came.
 
-ghost use Rattle.std.specs.{Prelude.◌≡◌, Prelude.◌==◌, Prelude.not, Prelude.length, Prelude.option_map, Prelude.if◌then◌else◌, Int.w32, List.list_any};
+ghost use Rattle.std.specs.{Prelude.◌≡◌, Prelude.length, Prelude.option_map, Prelude.if◌then◌else◌, Int.w32};
 ghost use Rattle.dist_names.specs.{Fields.number_at, Order.same_name};
 ghost use Rattle.dist_secret.specs.Digest.{digest_of};
 ghost use Rattle.dist_messages.specs.{declared.message.Side.TheVariants.Dialler, Canonical.canonical, Reading.read, Views.message_of};
 ghost use Rattle.dist_messages.specs.declared.message.Message.TheVariants as message;
 ghost use Rattle.dist_conformance.specs.Judging.{observation_of, passes, part_outcome, open_for, if_nothing, by_bytes, passes_if, body_outcome};
-ghost use Rattle.dist_conformance.specs.Judging.{announcement_of, said_in, is_new, is_fresh, check_passes, by_announcement, reply_in, by_reply, by_result};
-ghost use Rattle.dist_conformance.specs.Judging.{by_answer, are_lines, is_line, has_line, names_pass, by_names, outcome_of};
+ghost use Rattle.dist_conformance.specs.Judging.{announcement_of, said_in, is_new, is_fresh, check_passes, by_announcement, reply_in, by_reply};
+ghost use Rattle.dist_conformance.specs.Judging.{creation_in, is_given, creation_passes, by_result, by_answer};
+ghost use Rattle.dist_conformance.specs.Judging.{are_lines, is_line, has_line, names_pass, by_names, outcome_of};
 ghost use Rattle.dist_conformance.specs.{Kinds.side_of, Outcomes.IsWithin, Outcomes.deviation_word, Outcomes.said_of};
 ghost use Rattle.dist_conformance.specs.declared.outcomes.PatternOutcome.TheVariants as outcome;
 
-use crate::patterns::{Announcement, FieldCheck, NamesCheck, Pattern};
+use crate::patterns::{Announcement, AnswerCheck, FieldCheck, NamesCheck, Pattern};
 use crate::registrations::registration_outcome;
 use crate::say::Learned;
 use crate::texts::first_part;
@@ -31,7 +32,7 @@ pub struct Observed<'a> {
     pub elapsed: u32,
     /// How many milliseconds the step waits.
     pub limit: u32,
-    /// The challenges that came in this talk so far, in order.
+    /// The numbers that came in this talk so far, in order.
     pub learned: &'a [Learned],
     /// The cookie of the node under test.
     pub cookie: &'a Cookie,
@@ -42,8 +43,8 @@ pub struct Observed<'a> {
 pub struct Passage {
     /// So many bytes.
     pub count: usize,
-    /// The challenge in them, where there is one.
-    pub challenge: Option<u32>,
+    /// The challenge in them, or the creation, where there is one.
+    pub number: Option<u32>,
 }
 
 /// Why something does not match.
@@ -90,7 +91,7 @@ pub fn passes(count: usize) -> PatternOutcome
 {
     PatternOutcome::Matches(Passage {
         count,
-        challenge: None,
+        number: None,
     })
 }
 
@@ -243,18 +244,18 @@ fn said_in(side: Side, body: &[u8]) -> Option<AnnouncementFields<'_>>
     }
 }
 
-// Whether this challenge is none of those that came before.
-fn is_new(challenge: u32, learned: &[Learned]) -> bool
-    ensures { result ≡ is_new challenge learned.now }
+// Whether this number is none of those that came before.
+fn is_new(number: u32, learned: &[Learned]) -> bool
+    ensures { result ≡ is_new number learned.now }
 {
-    learned.iter().all(|one| one.challenge != challenge)
+    learned.iter().all(|one| one.number != number)
 }
 
-fn is_fresh(challenge: Option<u32>, learned: &[Learned]) -> bool
-    ensures { result ≡ is_fresh challenge learned.now }
+fn is_fresh(number: Option<u32>, learned: &[Learned]) -> bool
+    ensures { result ≡ is_fresh number learned.now }
 {
-    match challenge {
-        Some(challenge) => is_new(challenge, learned),
+    match number {
+        Some(number) => is_new(number, learned),
         None => true,
     }
 }
@@ -298,7 +299,7 @@ fn announcement_outcome(
     if check_passes(check, body.len(), learned, fields) {
         PatternOutcome::Matches(Passage {
             count: 2 + body.len(),
-            challenge: fields.challenge,
+            number: fields.challenge,
         })
     } else {
         PatternOutcome::Fails(Deviation::Field)
@@ -321,7 +322,7 @@ fn reply_outcome(body: &[u8], cookie: &Cookie, challenge: u32) -> PatternOutcome
             }
             PatternOutcome::Matches(Passage {
                 count: 2 + body.len(),
-                challenge: Some(of_node),
+                number: Some(of_node),
             })
         }
         _ => PatternOutcome::Fails(Deviation::Other),
@@ -355,35 +356,69 @@ fn body_outcome(pattern: &Pattern, observed: &Observed<'_>, body: &[u8]) -> Patt
     }
 }
 
-// What it means that the result has to be 0, that it is, and that a creation that is not 0 stands behind it.
-fn result_outcome(is_good: bool, is_zero: bool, has_creation: bool, count: usize) -> PatternOutcome
-    ensures { result ≡ by_result is_good is_zero has_creation count }
+// The creation that is written in 4 bytes.
+fn creation_in(bytes: &[u8]) -> Option<u32>
+    ensures { result ≡ creation_in bytes.now }
 {
-    match (is_good, is_zero, has_creation) {
-        (true, true, false) => PatternOutcome::Fails(Deviation::Field),
-        (true, true, true) | (false, false, _) => passes(count),
-        _ => PatternOutcome::Fails(Deviation::Other),
-    }
+    let (creation, _) = bytes.split_first_chunk::<4>()?;
+    Some(u32::from_be_bytes(*creation))
 }
 
-fn has_creation(bytes: &[u8]) -> bool
-    ensures { result ≡ list_any (λ byte. not (byte == 0)) bytes.now }
+fn is_given(bytes: &[u8]) -> bool
+    ensures { result ≡ is_given bytes.now }
 {
     bytes.iter().any(|byte| *byte != 0)
 }
 
+fn creation_passes(check: AnswerCheck, bytes: &[u8], learned: &[Learned]) -> bool
+    ensures { result ≡ creation_passes check bytes.now learned.now }
+{
+    match check {
+        AnswerCheck::Fresh => is_given(bytes) && is_fresh(creation_in(bytes), learned),
+        AnswerCheck::Given | AnswerCheck::Refused => is_given(bytes),
+    }
+}
+
+// What a result means, and the bytes of a creation behind it.
+fn result_outcome(
+    check: AnswerCheck,
+    is_zero: bool,
+    bytes: &[u8],
+    learned: &[Learned],
+    count: usize,
+) -> PatternOutcome
+    ensures { result ≡ by_result check is_zero bytes.now learned.now count }
+{
+    match (check, is_zero) {
+        (AnswerCheck::Refused, false) => passes(count),
+        (AnswerCheck::Refused, true) | (_, false) => PatternOutcome::Fails(Deviation::Other),
+        (_, true) if creation_passes(check, bytes, learned) => PatternOutcome::Matches(Passage {
+            count,
+            number: creation_in(bytes),
+        }),
+        (_, true) => PatternOutcome::Fails(Deviation::Field),
+    }
+}
+
 // An answer with this first byte, a result and so many bytes more.
-fn answer_outcome(tag: u8, is_good: bool, more: usize, ended: bool, came: &[u8]) -> PatternOutcome
-    ensures { result ≡ by_answer tag is_good more ended came.now }
+fn answer_outcome(
+    tag: u8,
+    check: AnswerCheck,
+    more: usize,
+    observed: &Observed<'_>,
+    came: &[u8],
+) -> PatternOutcome
+    ensures { let o = observation_of observed.now in result ≡ by_answer tag check more o.ended o.learned came.now }
 {
     let [first, code, rest @ ..] = came else {
-        return part_outcome(ended);
+        return part_outcome(observed.ended);
     };
     if rest.len() < more {
-        return part_outcome(ended);
+        return part_outcome(observed.ended);
     }
     if *first == tag {
-        result_outcome(is_good, *code == 0, has_creation(&rest[..more]), 2 + more)
+        let bytes = &rest[..more];
+        result_outcome(check, *code == 0, bytes, observed.learned, 2 + more)
     } else {
         PatternOutcome::Fails(Deviation::Other)
     }
@@ -455,7 +490,7 @@ fn outcome_from(pattern: &Pattern, observed: &Observed<'_>, came: &[u8]) -> Patt
         Pattern::Silence(limit) => if_nothing(came, open_for(*limit, 0, observed)),
         Pattern::Open(limit) => open_for(*limit, came.len(), observed),
         Pattern::Bytes(wanted) => bytes_outcome(wanted.as_slice(), came, ended),
-        Pattern::Answer(tag, is_good, more) => answer_outcome(*tag, *is_good, *more, ended, came),
+        Pattern::Answer(tag, check, more) => answer_outcome(*tag, *check, *more, observed, came),
         Pattern::Names(check) if ended => names_outcome(check, came),
         Pattern::Names(_) => PatternOutcome::Open,
         framed => match first_body(came) {

@@ -46,10 +46,21 @@ pub enum FieldCheck {
     Has(Flags),
     /// It does not announce this flag.
     Lacks(Flags),
-    /// Its challenge is none of those that came before in this talk.
+    /// Its challenge is none of the numbers that came before in this talk.
     Fresh,
     /// No bytes stand behind its name.
     Bare,
+}
+
+/// What an answer to a registration has to be.
+#[derive(Clone, Copy)]
+pub enum AnswerCheck {
+    /// Result 0, and a creation that is not 0.
+    Given,
+    /// The same, and the creation is none of the numbers that came before in this talk.
+    Fresh,
+    /// Another result.
+    Refused,
 }
 
 /// What the answer to a question for all names has to be, beside a port in 4 bytes and lines that all end in a line feed.
@@ -95,7 +106,8 @@ pub struct RegistrationCheck {
 /// | `ack` | the frame of the acknowledgement of our challenge, 123456789 or `challenge=N`, by the cookie |
 /// | `alive2req` | the frame of a registration, whatever stands behind its fields: `type=N` `protocol=N` `high=N` `low=N` `bare` |
 /// | `alive2x ok`, `alive2y ok` | an answer to a registration: result 0, and a creation of 4 or of 2 bytes that is not 0 |
-/// | `alive2x refused`, `alive2y refused` | the same with another result, and any creation |
+/// | `alive2x fresh` | the same, and the creation is none of those that came before in this talk |
+/// | `alive2x refused`, `alive2y refused` | such an answer with another result, and any creation |
 /// | `port2 known` | the answer to a lookup: a node with just these fields, which are those of `alive2` ([`SaidPart`](crate::SaidPart)) |
 /// | `port2 unknown` | the answer to a lookup with a result that is not 0 |
 /// | `names` | the answer to a question for all names, and the end: `port=N`, `has=NAME at=PORT`, `hasnot=NAME` |
@@ -121,8 +133,8 @@ pub enum Pattern {
     Ack(u32),
     /// `alive2req`.
     Registration(RegistrationCheck),
-    /// A first byte, a result and so many bytes: whether the result has to be 0 and the bytes a creation, or another one.
-    Answer(u8, bool, usize),
+    /// A first byte, a result and so many bytes, and what the last two have to be.
+    Answer(u8, AnswerCheck, usize),
     /// `names`.
     Names(NamesCheck),
 }

@@ -1,47 +1,48 @@
 //! What is said in a step.
 
-ghost use Rattle.std.specs.Prelude.{◌≡◌, ◌++◌, option_map, unwrap_or, IfOk, OnOk};
+ghost use Rattle.std.specs.Prelude.{◌≡◌, ◌++◌, [], option_map, unwrap_or, IfOk, OnOk};
+ghost use Rattle.dist_secret.specs.Digest.{digest_of};
 ghost use Rattle.dist_messages.specs.declared.message.Message.TheVariants as message;
 ghost use Rattle.dist_messages.specs.Canonical.{canonical};
-ghost use Rattle.dist_conformance.specs.Saying.{edited, frame_said, last_challenge, first_challenge, part_said, cut_at, bytes_said};
+ghost use Rattle.dist_conformance.specs.Saying.{edited, frame_said, last_number, first_number, part_said, cut_at, bytes_said};
 
 use crate::digests::digest_to_say;
 use crate::steps::{DigestTerms, SaidPart, Saying};
 use dist_messages::{put_ack, put_reply};
-use dist_secret::Cookie;
+use dist_secret::{Cookie, digest};
 use std::alloc::{AllocError, Global};
 
 // Our challenge in a reply that names none.
 const OUR_CHALLENGE: u32 = 123456789;
 
-/// A challenge that came. Who plays a talk keeps one behind each demand that was kept in which one came, in order.
+/// A number that came. Who plays a talk keeps one behind each demand that was kept in which one came, in order.
 #[derive(Clone, Copy)]
 pub struct Learned {
     /// The connection.
     pub conn: u8,
-    /// The node's challenge.
-    pub challenge: u32,
+    /// The challenge of a node, or a creation of 4 bytes that a port mapper gave.
+    pub number: u32,
 }
 
-// The challenge that came last on this connection, or 0.
-fn last_challenge(conn: u8, learned: &[Learned]) -> u32
-    ensures { result ≡ last_challenge conn 0 learned.now }
+// The number that came last on this connection, or 0.
+fn last_number(conn: u8, learned: &[Learned]) -> u32
+    ensures { result ≡ last_number conn 0 learned.now }
 {
-    let mut challenge = 0;
+    let mut number = 0;
     for one in learned {
         if one.conn == conn {
-            challenge = one.challenge;
+            number = one.number;
         }
     }
-    challenge
+    number
 }
 
-// The challenge that came first, or 0.
-fn first_challenge(learned: &[Learned]) -> u32
-    ensures { result ≡ first_challenge learned.now }
+// The number that came first, or 0.
+fn first_number(learned: &[Learned]) -> u32
+    ensures { result ≡ first_number learned.now }
 {
     match learned {
-        [one, ..] => one.challenge,
+        [one, ..] => one.number,
         [] => 0,
     }
 }
@@ -77,6 +78,21 @@ fn put_reply_said(
     put_frame(bytes, &body, reply.less, reply.extra.as_slice())
 }
 
+// Appends the right reply whose own challenge is the node's.
+fn put_mirror(
+    alloc: Global,
+    bytes: &mut Vec<u8>,
+    challenge: u32,
+    cookie: &Cookie,
+) -> Result<(), AllocError>
+    ensures { let body = canonical (message.Reply challenge (digest_of cookie.now challenge)) in
+        OnOk result (bytes.new.items ≡ bytes.old.items ++ frame_said (edited body 0 [])) }
+{
+    let mut body = Vec::new(alloc);
+    put_reply(&mut body, challenge, &digest(cookie, challenge))?;
+    put_frame(bytes, &body, 0, &[])
+}
+
 // Appends an acknowledgement with this digest.
 fn put_ack_said(
     alloc: Global,
@@ -103,14 +119,15 @@ fn put_part(
 ) -> Result<(), AllocError>
     ensures { OnOk result (bytes.new.items ≡ bytes.old.items ++ part_said conn learned.now cookie.now part.now) }
 {
-    let last = last_challenge(conn, learned);
-    let first = first_challenge(learned);
+    let last = last_number(conn, learned);
+    let first = first_number(learned);
     match part {
         SaidPart::Bytes(said) => bytes.extend_from_slice(said.as_slice()),
         SaidPart::Reply(reply) => {
             let digest = digest_to_say(reply.digest, cookie, last, first);
             put_reply_said(alloc, bytes, reply, digest)
         }
+        SaidPart::Mirror => put_mirror(alloc, bytes, last, cookie),
         SaidPart::Ack(ack) => {
             let challenge = ack.challenge.unwrap_or(last);
             let digest = digest_to_say(ack.digest, cookie, challenge, first);
@@ -133,7 +150,7 @@ fn cut_at(cut: Option<u32>, mut bytes: Vec<u8>) -> Option<Vec<u8>>
     Some(bytes)
 }
 
-/// The bytes of a step `say` on this connection, by the cookie of the node under test and the challenges that came in this talk.
+/// The bytes of a step `say` on this connection, by the cookie of the node under test and the numbers that came in this talk.
 ///
 /// `None`: the step cuts them behind so many bytes, and there are no more than that; the talk cannot be played.
 pub fn bytes_to_say(

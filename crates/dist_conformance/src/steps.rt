@@ -28,6 +28,7 @@ pub struct DigestTerms {
 /// | `complement` | the same | what an old name left out |
 /// | `status` | WORD | a status, of either side |
 /// | `reply` | `challenge=` `digest=` `less=` `extra=` | a reply to the challenge that came last on the connection |
+/// | `mirror` | | the right reply to that challenge, with the same challenge as its own |
 /// | `ack` | `challenge=` `digest=` `less=` `extra=` | an acknowledgement of the challenge that came last on the connection, or of this one |
 /// | `tick` | | a tick |
 /// | `alive2` | `port=` `type=` `protocol=` `high=` `low=` `name=` or `namehex=` `extra=` | a registration |
@@ -48,6 +49,8 @@ pub enum SaidPart {
     Bytes(ByteString),
     /// A reply.
     Reply(DigestTerms),
+    /// A reply whose own challenge is the node's.
+    Mirror,
     /// An acknowledgement.
     Ack(DigestTerms),
 }

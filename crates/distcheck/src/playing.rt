@@ -293,10 +293,10 @@ impl<'a> TalkPlay<'a> {
             self.registered = Some(port);
         }
         let _ = link.came.drain(..count);
-        if let Some(challenge) = passage.challenge {
+        if let Some(number) = passage.number {
             self.learned.push(Learned {
                 conn: link.conn,
-                challenge,
+                number,
             })?;
         }
         Ok(None)
