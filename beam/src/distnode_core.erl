@@ -148,7 +148,7 @@ init([]) ->
 handle_call({want, #{peer := Peer} = Access}, {Pid, _}, St0) ->
     case with_node(St0) of
         {ok, St} ->
-            {reply, ok, publish(reported({want, Peer, Pid}, watch(Pid, St#st{dials = (St#st.dials)#{Peer => Access}})))};
+            {reply, ok, publish(after_report({want, Peer, Pid}, watch(Pid, St#st{dials = (St#st.dials)#{Peer => Access}})))};
         {error, Code} ->
             Pid ! {distnode, {failed, Code}},
             {reply, ok, St0}
@@ -176,7 +176,7 @@ handle_call(table, _, St) -> {reply, table(St), St};
 handle_call(counts, _, St) -> {reply, St#st.counts, St};
 handle_call(_, _, St) -> {reply, {error, unknown_call}, St}.
 
-handle_cast({What, _, _} = Event, St) when What =:= handed; What =:= done -> {noreply, reported(Event, note(What, St))};
+handle_cast({What, _, _} = Event, St) when What =:= handed; What =:= done -> {noreply, after_report(Event, note(What, St))};
 handle_cast(_, St) -> {noreply, St}.
 
 handle_info({distnode_made, Node, Pid, What, Step}, #st{node = Node} = St) -> {noreply, follow(What, Pid, Step, St)};
@@ -189,7 +189,7 @@ handle_info({'DOWN', Ref, _, _, _}, #st{shown = Shown} = St) when is_map_key(Ref
     {noreply, gone(Id, Peer, St#st{shown = Left})};
 handle_info({'DOWN', Ref, process, Pid, _}, #st{watched = Watched} = St) ->
     case Watched of
-        #{Pid := Ref} -> {noreply, reported({down, Pid}, St#st{watched = maps:remove(Pid, Watched)})};
+        #{Pid := Ref} -> {noreply, after_report({down, Pid}, St#st{watched = maps:remove(Pid, Watched)})};
         #{} -> {noreply, St}
     end;
 handle_info(_, St) -> {noreply, St}.
@@ -210,11 +210,11 @@ accept(Body, Access, Pid, St0) ->
 
 %% What a process did with its own end.
 follow({arrived, Id, Peer, Room}, Pid, Step, St0) ->
-    St = reported({accepted, Id, Pid, Peer}, watch(Pid, note(incoming, St0))),
+    St = after_report({accepted, Id, Pid, Peer}, watch(Pid, note(incoming, St0))),
     closed(Room, none, settle(Id, none, follow_step(Pid, Step, forget(Id, St))));
 follow(Controller, Pid, {step, Id, _, _, _, {Peer, _, _}}, #st{shown = Shown} = St) ->
     Kind = case is_port(Controller) of true -> port; false -> process end,
-    reported({came_up, Id, Pid}, note(came_up, St#st{shown = Shown#{monitor(Kind, Controller) => {Id, Peer}}}));
+    after_report({came_up, Id, Pid}, note(came_up, St#st{shown = Shown#{monitor(Kind, Controller) => {Id, Peer}}}));
 follow(_, Pid, Step, St) -> follow_step(Pid, Step, St).
 
 follow_step(Pid, {step, _, _, Closed, _, none}, St) -> closed(Closed, Pid, St);
@@ -229,14 +229,14 @@ settle(Id, By, #st{node = Node, links = Links} = St) ->
 
 closed(none, _, St) -> St;
 closed({Id, Why}, Pid, #st{links = Links} = St) ->
-    take_back(distnode_links:peer(Id, Links), reported({closed, Id, Why, Pid}, note({closed, Why}, St))).
+    take_back(distnode_links:peer(Id, Links), after_report({closed, Id, Why, Pid}, note({closed, Why}, St))).
 
 %% The socket of an end that came up is gone: only now the node has it closed, and a frame that was held for it goes on.
 gone(Id, Peer, #st{node = Node, held = Held} = St) ->
     _ = distnode_nif:gone(Node, Id),
     {Waiting, Left} = lists:partition(fun({Shown, _}) -> Shown =:= Id end, Held),
     _ = [gen_server:reply(From, ok) || {_, From} <- Waiting],
-    take_back(Peer, reported({gone, Id, Peer}, note({lost, ended}, St#st{held = Left}))).
+    take_back(Peer, after_report({gone, Id, Peer}, note({lost, ended}, St#st{held = Left}))).
 
 %% ---- an event is reported to the machine, and its actions are done
 
@@ -244,7 +244,7 @@ report(Event, #st{links = Links} = St) ->
     {Answer, Actions, Next} = distnode_links:event(Event, Links),
     {Answer, lists:foldl(fun act/2, St#st{links = Next}, Actions)}.
 
-reported(Event, St) -> element(2, report(Event, St)).
+after_report(Event, St) -> element(2, report(Event, St)).
 
 act({send, Pid, {dial, Id}}, St) ->
     Pid ! {distnode, {dial, #{id => Id, node => St#st.node, flags => St#st.flags}}},
@@ -274,17 +274,17 @@ dial(Peer, #st{dials = Dials} = St0) ->
     #{Peer := Access} = Dials,
     case suit(Access, St0) of
         {ok, St} -> take_back(Peer, dialled(Peer, distnode_nif:dial(St#st.node, Peer), St));
-        {{error, Code}, St} -> reported({refused, Peer, Code}, St)
+        {{error, Code}, St} -> after_report({refused, Peer, Code}, St)
     end.
 
 dialled(Peer, {step, Id, [], Closed, _, none}, St) ->
-    forget(Id, closed(Closed, none, reported({dialled, Peer, Id}, note(dial, St))));
+    forget(Id, closed(Closed, none, after_report({dialled, Peer, Id}, note(dial, St))));
 dialled(Peer, {error, 'Busy', Closed}, St) ->
     Up = distnode_nif:up_end(St#st.node, Peer),
-    reported({busy, Peer, Up}, closed(Closed, none, note(busy, St)));
+    after_report({busy, Peer, Up}, closed(Closed, none, note(busy, St)));
 dialled(_, {error, 'Spent', _}, St) -> begin_anew(St);
 dialled(Peer, {error, Code, Closed}, St) ->
-    reported({refused, Peer, Code}, closed(Closed, none, note({dial, Code}, St))).
+    after_report({refused, Peer, Code}, closed(Closed, none, note({dial, Code}, St))).
 
 watch(Pid, #st{watched = Watched} = St) when is_map_key(Pid, Watched) -> St;
 watch(Pid, #st{watched = Watched} = St) -> St#st{watched = Watched#{Pid => monitor(process, Pid)}}.
@@ -320,7 +320,7 @@ most_ends() -> application:get_env(kernel, distnode_most_ends, 0).
 begin_anew(#st{node = Node} = St0) ->
     error_logger:warning_msg("** distnode: all numbers of connections were given out; all are closed, and numbered anew **~n"),
     ok = distnode_nif:drop(Node),
-    #st{shown = Shown} = St = reported(spent, came_up_last(note(spent, St0))),
+    #st{shown = Shown} = St = after_report(spent, came_up_last(note(spent, St0))),
     _ = [receive {'DOWN', Ref, _, _, _} -> ok end || Ref <- maps:keys(Shown)],
     _ = ets:update_counter(?TABLE, begun_anew, 1),
     true = ets:delete(?TABLE, node),

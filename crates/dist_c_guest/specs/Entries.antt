@@ -5,17 +5,13 @@ use Rattle.dist_peers.specs.declared.entry.Entry.{Entry, TheVariants.Out, TheVar
 use Rattle.dist_core_ends.specs.Ends.{entry_in}
 use Rattle.dist_c_guest.specs.{declared.guest.Guest.Guest, declared.entries.DnEntry.DnEntry, Codes.name_code, Steps.Silent}
 
--- the number of the state, the end that is up, and the one that is not
-abbrev pub row : ℕ → ℕ → ℕ → DnEntry
-row state up pending = record { state = state; up = up; pending = pending }
-
--- what is reported of an entry, where a peer without one is idle: 0 stands for an end where there is none
+-- what is reported of an entry: the number of its state, the end that is up, and the one that is not, each 0 where there is none
 abbrev pub entry_report : Option Entry → DnEntry
-entry_report None = row 0 0 0
-entry_report (Some (Out x)) = row 1 0 x.0
-entry_report (Some (In x)) = row 2 0 x.0
-entry_report (Some (Up x)) = row 3 x.0 0
-entry_report (Some (Challenged x y)) = row 4 x.0 y.0
+entry_report None = record { state = 0; up = 0; pending = 0 }
+entry_report (Some (Out x)) = record { state = 1; up = 0; pending = x.0 }
+entry_report (Some (In x)) = record { state = 2; up = 0; pending = x.0 }
+entry_report (Some (Up x)) = record { state = 3; up = x.0; pending = 0 }
+entry_report (Some (Challenged x y)) = record { state = 4; up = x.0; pending = y.0 }
 
 -- the entry of the peer of this name is reported, or why the bytes are no name; memory may run out for the name (3)
 abbrev pub ReportsEntry : Result (List ℕ) NameError → ℕ → Guest → DnEntry → DnEntry → Type 0
