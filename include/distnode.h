@@ -11,18 +11,18 @@
  * 1. A dn_node is all zero (DN_NODE_INIT) before dn_node_new. From then on the caller neither writes nor copies it, and gives
  *    it to one call at a time. It may be used by one thread at a time, and may move to another: the caller puts their calls in
  *    order, by a lock, or by a thread's start or end. Different nodes share nothing, and need no order.
- * 2. No pointer is null, also beside a length of 0. Each is aligned as its type asks, and leads to so many elements that can
- *    be read, or written where it isn't const. No two pointers of a call lead to the same bytes.
+ * 2. Pointers must not be null, even if the length is 0. Each must be aligned and point to at least that many elements, readable,
+ *    and writable unless it is const. No two pointers of a call may point to the same bytes.
  * 3. malloc, realloc and free come from one allocator and align as C asks. No call comes from a signal handler, or from the
  *    forked child of a process with threads.
  *
  * Bytes are copied, both ways: those that were given to a call are the caller's again when it returns. Nothing that a call
  * hands out is to be freed; a node alone is let go, by dn_node_free.
  *
- * Every function answers a dn_code. Its errors are listed in their order: the first that holds is told. A code other than
- * DN_OK leaves the node, and what the pointers lead to, as they were, but for what is told beside DN_NO_ROOM and DN_SHOWN_END, and
- * for the end that dn_node_dial and dn_node_incoming give up to make room, which they tell beside any code. After DN_NO_MEMORY the same
- * call does its work once there is memory. */
+ * Every function returns a dn_code. Its errors are listed in the order in which they are checked: the first that applies is returned.
+ * With a code other than DN_OK the node, and what the pointers point to, are as they were, except for what DN_NO_ROOM and DN_SHOWN_END
+ * report, and for the end that dn_node_dial and dn_node_incoming evict, which they report with any code. After DN_NO_MEMORY the same
+ * call succeeds once there is memory. */
 #ifndef DISTNODE_H
 #define DISTNODE_H
 
