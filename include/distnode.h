@@ -313,7 +313,8 @@ uint32_t dn_node_guarded_body(dn_node *node, uint32_t id, const uint8_t *body, s
  * Errors: DN_NO_SUCH (the cause), DN_NOT_A_NODE, DN_NO_SUCH_END, DN_GONE. */
 uint32_t dn_node_lost(dn_node *node, uint32_t id, uint32_t why, dn_reply *reply);
 
-/* A tick is due on an end that is up: what is to be said is a packet of no bytes, 4 bytes that are 0.
+/* A tick is due on an end that is up: what is to be said is a packet of no bytes, 4 bytes that are 0. What other packets contain (terms, in
+ * Erlang's external format) the library neither reads nor writes.
  * Errors: DN_NOT_A_NODE, DN_NO_SUCH_END, DN_GONE, DN_WRONG_PHASE (it is not up), DN_SPENT, DN_NO_MEMORY. */
 uint32_t dn_node_tick(dn_node *node, uint32_t id, dn_reply *reply);
 
