@@ -305,7 +305,7 @@ uint32_t dn_node_body(dn_node *node, uint32_t id, const uint8_t *body, size_t le
  *
  * Where all frames of a node are given so, an end that came up is up until its dn_node_lost. So whatever a host shows from the moment
  * that the end came up until its connection is gone is up in the node, one end of a peer at most, and two nodes that show each other
- * agree: the laws shown_ends_are_up and shown_peers_agree of dist_carrier.
+ * agree: the laws shown_ends_are_up and shown_peers_agree of dist_c_guest.
  * Errors: those of dn_node_body, and DN_SHOWN_END before DN_NO_MEMORY, which may also come in its place. */
 uint32_t dn_node_guarded_body(dn_node *node, uint32_t id, const uint8_t *body, size_t len, uint32_t challenge, dn_reply *reply);
 

@@ -8,7 +8,7 @@ pub mod Places
 pub mod Spelled
 pub mod WholeBodies
 pub mod GuestWorlds
-pub mod Clusters
+pub mod ShownPeers
 pub mod Held
 pub mod Shown
 pub mod UpStays

@@ -15,7 +15,7 @@ use Rattle.dist_core_laws.proofs.Succeeding.{has-effect, lost-closed}
 use Rattle.dist_c_guest.specs.Guard.{Guard, Told, Asks, Shows, Gone, AreUp, acts_asked, acts_guarded, acts_run, closes_up_end, first_guard, guarded, held_reply}
 use Rattle.dist_c_guest.specs.Guard.{is_up_end, run_guard}
 
-pub up-record : (o : Option End) → is_up_end o ≡ true → (r : UpRecord) × (o ≡ Some (ends.Up r))
+up-record : (o : Option End) → is_up_end o ≡ true → (r : UpRecord) × (o ≡ Some (ends.Up r))
 up-record (Some (ends.Up r)) h = (r, refl)
 up-record o h = absurd (false≢true h)
 

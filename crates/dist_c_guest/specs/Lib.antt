@@ -1,7 +1,6 @@
 pub mod Bodies
 pub mod Calls
 pub mod Changes
-pub mod Cluster
 pub mod Codes
 pub mod Ends
 pub mod Entries
@@ -14,6 +13,7 @@ pub mod Newcomers
 pub mod Nodes
 pub mod Reading
 pub mod Replies
+pub mod ShownPeers
 pub mod Statuses
 pub mod Steps
 pub mod Whole

@@ -1,4 +1,4 @@
-//! Laws of histories, of worlds of guests, of guards and of clusters: each is a function that does nothing, and whose contract is the law.
+//! Laws of histories, of worlds of guests and of guards: each is a function that does nothing, and whose contract is the law.
 ghost use Rattle.std.specs.Prelude.{◌≡◌, ◌≢◌, ℕ, Bool, false, List, Option, Some, Result, Err, slice_get};
 ghost use Rattle.dist_peers.specs.declared.entry.EndId.{EndId};
 ghost use Rattle.dist_messages.specs.{declared.message.Message.Message, Canonical.canonical, Spelling.Fits};
@@ -13,8 +13,8 @@ ghost use Rattle.dist_world_model.specs.{Agreement.Agreement, Agreement.AllFit, 
 ghost use Rattle.dist_world_model.specs.Run as worlds;
 ghost use Rattle.dist_c_guest.specs.{Calls.answer_to, Calls.frame_to, Reading.expansion, Reading.plain, Whole.HasWhole, declared.guest.Guest.Guest};
 ghost use Rattle.dist_c_guest.specs.Histories.{AnyCall, Call, IsAnyHistory, IsHistory, acts_of, events_of};
-ghost use Rattle.dist_c_guest.specs.Worlds.{AreWhole, Guests, run_guests, run_guests_from, setups_in};
-ghost use Rattle.dist_c_guest.specs.Cluster.{Agree, AgreeBy, AllFitDoings, Cluster, Doing, GuardShows, ShowsNode, done, no_cluster, run_cluster};
+ghost use Rattle.dist_c_guest.specs.Worlds.{AreWhole, Guests, run_guests, setups_in};
+ghost use Rattle.dist_c_guest.specs.ShownPeers.{AgreeBy, GuardShows};
 ghost use Rattle.dist_c_guest.specs.Guard.{AreUp, Guard, IsGuarded, Told, acts_run, first_guard, guarded, run_guard, told_of_frame};
 ghost use Rattle.dist_c_guest.specs.Guard as told;
 
@@ -108,25 +108,6 @@ pub fn shown_peers_agree()
 {
     acts_keep_ends();
     shown_ends_are_up();
-    guests_are_nodes();
-    nodes_agree();
-    ups_are_linked();
-}
-
-/// The world of a cluster is that of its guests, after the happenings that were done.
-pub fn clusters_are_worlds()
-    ensures { (guests : Guests) (doings : List Doing) (c : Cluster)
-        → (let k = run_cluster guests doings c in k.world) ≡ run_guests_from guests (done guests doings c) c.world }
-{}
-
-/// THE AGREEMENT OF A CLUSTER, whose ends are shown and hidden while it runs: whatever is done, two nodes of which each shows the other
-/// agree.
-pub fn clusters_agree()
-    ensures { (guests : Guests) (doings : List Doing) → AreSetups (setups_in guests) → AreWhole guests → AllFitDoings doings
-        → (a b : ℕ) → a ≢ b → ShowsNode (run_cluster guests doings (no_cluster guests)) a b
-        → ShowsNode (run_cluster guests doings (no_cluster guests)) b a
-        → Agree (let k = run_cluster guests doings (no_cluster guests) in k.world) a b }
-{
     guests_are_nodes();
     nodes_agree();
     ups_are_linked();

@@ -44,9 +44,9 @@ pub use forms::{Forms, form_of, has_form};
 pub use guard::{guard_body, take_guarded};
 pub use guest::Guest;
 pub use laws::{
-    a_history_is_a_run, any_history_is_a_run, clusters_agree, clusters_are_worlds,
-    gone_ends_are_closed, guarded_frames_are_told, guards_are_runs, guests_agree, guests_are_nodes,
-    one_end_of_a_peer_is_up, plain_guests_read_what_came, shown_ends_are_up, shown_peers_agree,
+    a_history_is_a_run, any_history_is_a_run, gone_ends_are_closed, guarded_frames_are_told,
+    guards_are_runs, guests_agree, guests_are_nodes, one_end_of_a_peer_is_up,
+    plain_guests_read_what_came, shown_ends_are_up, shown_peers_agree,
     whole_bodies_are_read_as_they_came,
 };
 pub use making::{DnPeer, DnSetup, new_guest, report_found, report_next, report_peer};

@@ -1,4 +1,4 @@
-use Rattle.dist_c_guest.proofs.Clusters.{guards-agree}
+use Rattle.dist_c_guest.proofs.ShownPeers.{guards-agree}
 use Rattle.dist_c_guest.proofs.laws.shown_peers_agree.Goals as goal
 
 pub returns : goal.returns
