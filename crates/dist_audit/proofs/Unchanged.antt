@@ -7,7 +7,7 @@ use Rattle.dist_world_model.specs.OwnSetups.{AreNoResets, HasSetDigests, IsNoRes
 
 -- what is known of runs in which no setup is changed
 pub record KeepsSetups : Type 0 where
-  pub unchanged : (ss : List Setup) (hs : List Happening) → AreNoResets hs → AllLives (IsSetUp ss []) (run hs (empty ss))
+  pub unchanged : (ss : List Setup) (hs : List Happening) → AreNoResets hs → AllLives (IsSetUp ss) (run hs (empty ss))
   pub digests : (ss : List Setup) (hs : List Happening) → AreNoResets hs → AllLives (HasSetDigests ss) (run hs (empty ss))
 
 both : (xs ys : List Happening) → AllByRecursion IsNoReset xs → AllByRecursion IsNoReset ys → AllByRecursion IsNoReset (xs ++ ys)
@@ -59,8 +59,8 @@ plain : (cs : List Closed) (ts : List NodeLine) → AreNoResets (happenings cs t
 plain cs ts = both (begins 0 (setups_of cs)) (of_lines ts (length cs) [] ts) (all-begin 0 (setups_of cs)) (lines-plain ts (length cs) [] ts)
 
 -- each incarnation has its closed node's setup
-pub own-setups : KeepsSetups → (cs : List Closed) (ts : List NodeLine) (w : World) → w ≡ world_of cs ts → AllLives (IsSetUp (setups_of cs) []) w
-own-setups keeps cs ts w is = subst (AllLives (IsSetUp (setups_of cs) [])) (sym is) (keeps.unchanged (setups_of cs) (happenings cs ts) (plain cs ts))
+pub own-setups : KeepsSetups → (cs : List Closed) (ts : List NodeLine) (w : World) → w ≡ world_of cs ts → AllLives (IsSetUp (setups_of cs)) w
+own-setups keeps cs ts w is = subst (AllLives (IsSetUp (setups_of cs))) (sym is) (keeps.unchanged (setups_of cs) (happenings cs ts) (plain cs ts))
 
 pub own-digests : KeepsSetups → (cs : List Closed) (ts : List NodeLine) (w : World) → w ≡ world_of cs ts → AllLives (HasSetDigests (setups_of cs)) w
 own-digests keeps cs ts w is = subst (AllLives (HasSetDigests (setups_of cs))) (sym is) (keeps.digests (setups_of cs) (happenings cs ts) (plain cs ts))

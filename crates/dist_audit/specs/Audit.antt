@@ -218,7 +218,7 @@ pub record PlayUpTo (cs : List Closed) (w : World) (ts : List NodeLine) : Type 0
   -- each line of a frame takes its very body
   pub bodies : EachTakesItsBody cs ts
   -- each incarnation has the very setup of its closed node, but for the creation: also its cookies, and which peers may connect
-  pub setups : AllLives (IsSetUp (setups_of cs) []) w
+  pub setups : AllLives (IsSetUp (setups_of cs)) w
   -- so each end that is up holds the digest of the cookie that its closed node was set up with for the peer
   pub digests : AllLives (HasSetDigests (setups_of cs)) w
 

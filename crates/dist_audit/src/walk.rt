@@ -33,6 +33,14 @@ pub fn happen(
     }
 }
 
+// The same of one.
+fn happen_once(world: &mut World, alloc: Global, happening: Happening) -> Result<bool, AllocError>
+    ensures after { OnOk result (world.new ≡ run (happening ∷ []) world.old) }
+    ensures all { IfOk result (λ b. IsTrue b ↔ AllApply (happening ∷ []) world.old) }
+{
+    happen(world, alloc, slice::from_ref(&happening))
+}
+
 // The same of one, where there is one.
 fn happen_before(
     world: &mut World,
@@ -44,7 +52,7 @@ fn happen_before(
 {
     match happening {
         None => Ok(true),
-        Some(one) => happen(world, alloc, slice::from_ref(&one)),
+        Some(one) => happen_once(world, alloc, one),
     }
 }
 
@@ -103,7 +111,7 @@ fn happen_itself(
 {
     links.mention(&line.event)?;
     let happening = own(alloc, links, node, &line.event, line.fresh)?;
-    happen(world, alloc, slice::from_ref(&happening))
+    happen_once(world, alloc, happening)
 }
 
 // A line that is read, and the place of its node among all.

@@ -11,7 +11,7 @@ pub use Rattle.dist_core.proofs.{Closings.heard-end, Counts.of_ok, Replies.other
 pub use Rattle.dist_core.proofs.Words.{IsTrue, MessageError, IsOk, count_by, rules, same_name, end_id, first_of, is_open, is_unnamed, Act, Changes}
 pub use Rattle.dist_core.proofs.Words.{Forgets, Renews, Steps, act, run_acts, GivesReply, Refuses, reply_of, is_spent, at_end, framed_from}
 pub use Rattle.dist_world_model.specs.{Frames.Announces, Frames.AreCanonical, Frames.IsCanonical, declared.happening.Happening.Happening}
-pub use Rattle.dist_world_model.proofs.{HappeningEffects.fit-append, HappeningEffects.run-append, Places.eqb-self}
+pub use Rattle.dist_world_model.proofs.{HappeningEffects.run-append, Places.eqb-self}
 pub use Rattle.dist_world_model.proofs.Words.{◌^◌, is_some, if◌then◌else◌, lit<, w16, and_parts, to_be_bytes, behind, first_body, front, has_first, head}
 pub use Rattle.dist_world_model.proofs.Words.{Status, announced_by, Effect, Event, Reply, StepError, not, ne_eqb, has_all, low_half, Message, Side, End}
 pub use Rattle.dist_world_model.proofs.Words.{UpRecord, Why, ◌≡◌, ℕ, zero, suc, ◌+◌, ◌<◌, ◌≤◌, Bool, true, false, cond, ◌&&◌, ◌||◌, eqb, ltb, ◌≢◌, List, []}

@@ -1,12 +1,18 @@
 -- A world of whole guests is a world of nodes.
 use Rattle.dist_c_guest.proofs.Common.{◌≡◌, ℕ, zero, suc, true, cond, ltb, List, [], ◌∷◌, ◌++◌, slice_get, Some, None, Option, sym, refl, ap, ◌∙◌, subst, w16}
-use Rattle.dist_c_guest.proofs.Common.{first_body, Side, EndId, announced_by, Setup, Agreement, AllFit, AreSetups, body_taken, change_to, text_to, AreCanonical}
-use Rattle.dist_c_guest.proofs.Common.{at_place, run, Conn, World, empty, row_at, running, Happening, fit-append, run-append, expansion, Hold, is_whole}
+use Rattle.dist_c_guest.proofs.Common.{◌==◌, ◌||◌, ◌&&◌, inl, inr, first_body, Side, EndId, Setup, Agreement, AllFit, AreSetups, body_taken}
+use Rattle.dist_c_guest.proofs.Common.{change_to, text_to, AreCanonical, at_place, run, Conn, World, empty, row_at, running, Happening, run-append, expansion}
+use Rattle.dist_c_guest.proofs.Common.{Hold, are_whole, is_whole, mandatory_25}
 use Rattle.dist_c_guest.proofs.WholeBodies.{holds-nothing, read-as-it-came, whole-pair}
 use Rattle.dist_core.specs.declared.event.Event.TheVariants as event
+use Rattle.dist_core_setup.specs.Rules.{announced_by}
+use Rattle.dist_names.specs.declared.creation.Creation.{Creation}
+use Rattle.dist_world_model.specs.{Agreement.Fits, OwnSetups.BeginsWith, OwnSetups.applied_as}
 use Rattle.dist_world_model.specs.Happenings.{take_frame, take_read, happens, most_applied, notify, ticked_on, without_closing, world_after, ◌>>=◌}
 use Rattle.dist_world_model.specs.declared.happening.Happening.TheVariants as happening
-use Rattle.dist_c_guest.specs.Worlds.{AreWhole, Guests, guests_happen, mandatory_of, run_guests, run_guests_from, setups_in, world_after_guests}
+use Rattle.dist_world_model.proofs.OwnSetups.{applied-kind}
+use Rattle.dist_c_guest.specs.Worlds.{AllFitGuests, AreWhole, FitsGuests, Guests, guests_happen, mandatory_of, run_guests, run_guests_from, setups_in}
+use Rattle.dist_c_guest.specs.Worlds.{world_after_guests}
 
 -- ---- lists
 
@@ -21,15 +27,47 @@ same-bind : {A B : Type 0} (o : Option A) (f g : A → Option B) → ((x : A) �
 same-bind None f g h = refl
 same-bind (Some x) f g h = h x refl
 
+-- ---- what is asked of happenings
+
+one-fit : (guests : Guests) (h : Happening) → FitsGuests guests h → Fits h
+one-fit guests (happening.BeginAs i s) f = f.0
+one-fit guests h f = f
+
+pub fit-of : (guests : Guests) (hs : List Happening) → AllFitGuests guests hs → AllFit hs
+fit-of guests [] f = tt
+fit-of guests (h ∷ hs) f = (one-fit guests h f.0, fit-of guests hs f.1)
+
+pub fits-append : (guests : Guests) (xs ys : List Happening) → AllFitGuests guests xs → AllFitGuests guests ys → AllFitGuests guests (xs ++ ys)
+fits-append guests [] ys a b = b
+fits-append guests (x ∷ xs) ys a b = (a.0, fits-append guests xs ys a.1 b)
+
+-- whether a guest is whole does not depend on its creation
+announces-same : (s : Setup) (c : Creation) → announced_by (record s { creation = c }) ≡ announced_by s
+unfolding announced_by
+announces-same s c = refl
+
+whole-same : (s : Setup) (c : Creation) (mask : ℕ) → is_whole s mask ≡ true → is_whole (record s { creation = c }) mask ≡ true
+whole-same s c mask is = ap (λ flags. ((mask == 0) || (mask == mandatory_25)) && are_whole flags) (announces-same s c) ∙ is
+
 -- ---- one frame
 
-module _ (guests : Guests) (whole : AreWhole guests) where
-  -- to whoever reads, whoever sends is whole
-  reads-whole : (o : Option (Setup × ℕ)) → ((g : Setup × ℕ) → o ≡ Some g → is_whole g.0 g.1 ≡ true) → (b : ℕ) (s : Setup) → slice_get (setups_in guests) b ≡ Some s → Hold (mandatory_of o) (announced_by s)
-  reads-whole None is b s at = holds-nothing s
-  reads-whole (Some g) is b s at = let q = guest-of guests b s at in whole-pair g.0 s g.1 q.0 (is g refl) (whole b (s, q.0) q.1)
+module _ (guests : Guests) (whole : AreWhole guests) (did : List Happening) (fit : AllFitGuests guests did) where
+  -- a guest is whole with the setup with which it began
+  sends-whole : (w : World) (b t : ℕ) (s : Setup) → BeginsWith (setups_in guests) (applied_as did w t) b s → is_whole s (mandatory_of (slice_get guests b)) ≡ true
+  sends-whole w b t s (own, at, inl how) =
+      let q = guest-of guests b own at in
+      let is : is_whole own (mandatory_of (slice_get guests b)) ≡ true = ap (λ o. is_whole own (mandatory_of o)) q.1 ∙ whole b (own, q.0) q.1 in
+      subst (λ r. is_whole r (mandatory_of (slice_get guests b)) ≡ true) (sym how.2) (whole-same own how.0 (mandatory_of (slice_get guests b)) is)
+  sends-whole w b t s (own, at, inr how) =
+      let f : FitsGuests guests (happening.BeginAs b s) = applied-kind (FitsGuests guests) did w t (happening.BeginAs b s) fit how.0 in
+      f.1
 
-  module _ (w : World) (canonical : AreCanonical (setups_in guests) w) where
+  -- to whoever reads, whoever sends is whole
+  reads-whole : (o : Option (Setup × ℕ)) → ((g : Setup × ℕ) → o ≡ Some g → is_whole g.0 g.1 ≡ true) → (b t : ℕ) (s : Setup) → BeginsWith (setups_in guests) (applied_as did (empty (setups_in guests)) t) b s → Hold (mandatory_of o) (announced_by s)
+  reads-whole None is b t s at = holds-nothing s
+  reads-whole (Some g) is b t s at = whole-pair g.0 s g.1 (mandatory_of (slice_get guests b)) (is g refl) (sends-whole (empty (setups_in guests)) b t s at)
+
+  module _ (w : World) (canonical : AreCanonical (setups_in guests) did w) where
     module _ (i : ℕ) (id : EndId) (fresh : ℕ) where
       abbrev reading : List ℕ → List ℕ
       reading = expansion (mandatory_of (slice_get guests i))
@@ -37,7 +75,7 @@ module _ (guests : Guests) (whole : AreWhole guests) where
       as-it-came : (c : ℕ) (k : Conn) → slice_get w.conns c ≡ Some k → (side : Side) (body : List ℕ) → (let t = text_to side k in first_body w16 t.come) ≡ Some body → reading body ≡ body
       as-it-came c k at side body first =
           let g = canonical c k side body at first in
-          read-as-it-came (mandatory_of (slice_get guests i)) g.1 body (reads-whole (slice_get guests i) (whole i) g.0 g.1 g.2) g.3
+          read-as-it-came (mandatory_of (slice_get guests i)) g.1 body (reads-whole (slice_get guests i) (whole i) g.0 g.2 g.1 g.3) g.4
 
       takes-same : take_read reading w i id fresh ≡ take_frame w i id fresh
       takes-same =
@@ -52,26 +90,27 @@ module _ (guests : Guests) (whole : AreWhole guests) where
     after-same (happening.Take i id fresh) = takes-same i id fresh
     after-same h = refl
 
-  happen-same : (w : World) → AreCanonical (setups_in guests) w → (h : Happening) → guests_happen guests w h ≡ happens w h
+  happen-same : (w : World) → AreCanonical (setups_in guests) did w → (h : Happening) → guests_happen guests w h ≡ happens w h
   happen-same w canonical h = ap (λ o. ticked_on w (cond (ltb w.clock most_applied) o None)) (after-same (without_closing w) canonical h)
 
-  -- ---- all happenings
+-- ---- all happenings
 
-  module _ (good : AreSetups (setups_in guests)) (canonical : (hs : List Happening) → AllFit hs → AreCanonical (setups_in guests) (run hs (empty (setups_in guests)))) where
-    runs-from : (did hs : List Happening) → AllFit did → AllFit hs → run_guests_from guests hs (run did (empty (setups_in guests))) ≡ run hs (run did (empty (setups_in guests)))
-    runs-from did [] a b = refl
-    runs-from did (h ∷ hs) a b =
-        let w : World = run did (empty (setups_in guests)) in
-        let more : run (did ++ h ∷ []) (empty (setups_in guests)) ≡ happens w h = run-append did (h ∷ []) (empty (setups_in guests)) in
-        ap (run_guests_from guests hs) (happen-same w (canonical did a) h ∙ sym more)
-        ∙ runs-from (did ++ h ∷ []) hs (fit-append did (h ∷ []) a (b.0, tt)) b.1
-        ∙ ap (run hs) more
+module _ (guests : Guests) (whole : AreWhole guests) (canonical : (hs : List Happening) → AllFit hs → AreCanonical (setups_in guests) hs (run hs (empty (setups_in guests)))) where
+  runs-from : (did hs : List Happening) → AllFitGuests guests did → AllFitGuests guests hs → run_guests_from guests hs (run did (empty (setups_in guests))) ≡ run hs (run did (empty (setups_in guests)))
+  runs-from did [] a b = refl
+  runs-from did (h ∷ hs) a b =
+      let w : World = run did (empty (setups_in guests)) in
+      let more : run (did ++ h ∷ []) (empty (setups_in guests)) ≡ happens w h = run-append did (h ∷ []) (empty (setups_in guests)) in
+      ap (run_guests_from guests hs) (happen-same guests whole did a w (canonical did (fit-of guests did a)) h ∙ sym more)
+      ∙ runs-from (did ++ h ∷ []) hs (fits-append guests did (h ∷ []) a (b.0, tt)) b.1
+      ∙ ap (run hs) more
 
-pub guests-run : ((ss : List Setup) (hs : List Happening) → AreSetups ss → AllFit hs → AreCanonical ss (run hs (empty ss)))
-    → (guests : Guests) (hs : List Happening) → AreSetups (setups_in guests) → AllFit hs → AreWhole guests → run_guests guests hs ≡ run hs (empty (setups_in guests))
-guests-run canonical guests hs good fit whole = runs-from guests whole good (λ did a. canonical (setups_in guests) did good a) [] hs tt fit
+abbrev Canonical : Type 0
+Canonical = (ss : List Setup) (hs : List Happening) → AreSetups ss → AllFit hs → AreCanonical ss hs (run hs (empty ss))
 
-pub guests-agree : ((ss : List Setup) (hs : List Happening) → AreSetups ss → AllFit hs → AreCanonical ss (run hs (empty ss)))
-    → ((ss : List Setup) (hs : List Happening) → AreSetups ss → AllFit hs → Agreement (run hs (empty ss)))
-    → (guests : Guests) (hs : List Happening) → AreSetups (setups_in guests) → AllFit hs → AreWhole guests → Agreement (run_guests guests hs)
-guests-agree canonical agree guests hs good fit whole = subst Agreement (sym (guests-run canonical guests hs good fit whole)) (agree (setups_in guests) hs good fit)
+pub guests-run : Canonical → (guests : Guests) (hs : List Happening) → AreSetups (setups_in guests) → AllFitGuests guests hs → AreWhole guests → run_guests guests hs ≡ run hs (empty (setups_in guests))
+guests-run canonical guests hs good fit whole = runs-from guests whole (λ did a. canonical (setups_in guests) did good a) [] hs tt fit
+
+pub guests-agree : Canonical → ((ss : List Setup) (hs : List Happening) → AreSetups ss → AllFit hs → Agreement (run hs (empty ss)))
+    → (guests : Guests) (hs : List Happening) → AreSetups (setups_in guests) → AllFitGuests guests hs → AreWhole guests → Agreement (run_guests guests hs)
+guests-agree canonical agree guests hs good fit whole = subst Agreement (sym (guests-run canonical guests hs good fit whole)) (agree (setups_in guests) hs good (fit-of guests hs fit))

@@ -1,6 +1,8 @@
 -- A WORLD OF GUESTS: its nodes read what comes as guests do.
 use Rattle.std.specs.Prelude.{◌≡◌, ℕ, true, if◌then◌else◌, nat_lt, List, [], ◌∷◌, Option, Some, None, slice_get}
+use Rattle.std.specs.List.{AllByRecursion}
 use Rattle.dist_core_setup.specs.declared.setup.Setup.{Setup}
+use Rattle.dist_world_model.specs.Agreement.{Fits}
 use Rattle.dist_world_model.specs.Happenings.{most_applied, take_read, ticked_on, without_closing, world_after}
 use Rattle.dist_world_model.specs.{declared.happening.Happening.Happening, World.World, World.empty}
 use Rattle.dist_world_model.specs.declared.happening.Happening.TheVariants as happening
@@ -22,6 +24,15 @@ mandatory_of (Some g) = g.1
 -- EACH IS WHOLE, as dn_node_new makes it
 abbrev pub AreWhole : Guests → Type 0
 AreWhole guests = (i : ℕ) (g : Setup × ℕ) → slice_get guests i ≡ Some g → is_whole g.0 g.1 ≡ true
+
+-- A HAPPENING FITS these guests: its numbers fit, and a guest that it begins with a setup is whole with that
+abbrev pub FitsGuests : Guests → Happening → Type 0
+FitsGuests guests (happening.BeginAs i s) = Fits (happening.BeginAs i s) × (is_whole s (mandatory_of (slice_get guests i)) ≡ true)
+FitsGuests guests h = Fits h
+
+-- each of them fits
+abbrev pub AllFitGuests : Guests → List Happening → Type 0
+AllFitGuests guests = AllByRecursion (FitsGuests guests)
 
 -- ---- what happens
 

@@ -3,21 +3,22 @@ use Rattle.std.specs.Prelude.{ℕ, List, [], ◌∷◌, codes, Option, Some, Non
 use Rattle.dist_core.specs.declared.changing.Change.TheVariants as change
 use Rattle.dist_world_model.specs.declared.happening.Happening.{Happening}
 use Rattle.dist_world_model.specs.declared.happening.Happening.TheVariants as happening
-use Rattle.dist_script.specs.Fields.{Read, next, give, whole_line, count_in, number_in, creation_in, end_in, name_in, opening_in, why_in}
-use Rattle.dist_script.specs.{declared.happenings.HappeningWord.HappeningWord, Nodes.cookie_in}
+use Rattle.dist_script.specs.Fields.{◌>>=◌, Read, next, give, whole_line, count_in, number_in, creation_in, end_in, name_in, opening_in, why_in}
+use Rattle.dist_script.specs.{declared.happenings.HappeningWord.HappeningWord, Nodes.cookie_in, Nodes.node_in}
 use Rattle.dist_script.specs.declared.happenings.HappeningWord.TheVariants as kind
 
 -- the first word of each kind of line
 abbrev pub happening_kinds : List (List ℕ × HappeningWord)
 happening_kinds =
-    (codes "begin", kind.Begin) ∷ (codes "halt", kind.Halt) ∷ (codes "dial", kind.Dial) ∷ (codes "reach", kind.Reach) ∷
-    (codes "opened", kind.Opened) ∷ (codes "accept", kind.Accept) ∷ (codes "deliver", kind.Deliver) ∷ (codes "take", kind.Take) ∷
-    (codes "lose", kind.Lose) ∷ (codes "tick", kind.Tick) ∷ (codes "cookie", kind.Cookie) ∷ (codes "no_cookie", kind.NoCookie) ∷
-    (codes "usual_cookie", kind.UsualCookie) ∷ []
+    (codes "begin", kind.Begin) ∷ (codes "begin_as", kind.BeginAs) ∷ (codes "halt", kind.Halt) ∷ (codes "dial", kind.Dial) ∷
+    (codes "reach", kind.Reach) ∷ (codes "opened", kind.Opened) ∷ (codes "accept", kind.Accept) ∷ (codes "deliver", kind.Deliver) ∷
+    (codes "take", kind.Take) ∷ (codes "lose", kind.Lose) ∷ (codes "tick", kind.Tick) ∷ (codes "cookie", kind.Cookie) ∷
+    (codes "no_cookie", kind.NoCookie) ∷ (codes "usual_cookie", kind.UsualCookie) ∷ []
 
 -- what the words say behind the first and the next one, which is a node, or the connection that is accepted
 abbrev pub behind_node : HappeningWord → ℕ → List (List ℕ) → Read Happening
 behind_node kind.Begin node = next creation_in (λ creation. give (happening.Begin node creation))
+behind_node kind.BeginAs node = λ words. node_in words >>= (λ setup. give (happening.BeginAs node setup) [])
 behind_node kind.Halt node = give (happening.Halt node)
 behind_node kind.Dial node = next name_in (λ peer. next opening_in (λ opening. give (happening.Dial node peer opening)))
 behind_node kind.Reach node = next end_in (λ end_. next count_in (λ target. give (happening.Reach node end_ target)))

@@ -8,7 +8,7 @@ use crate::fields::{
     count_word, creation_word, end_word, line_end, meaning_word, name_word, number_word,
     opening_word, why_word,
 };
-use crate::node_line::cookie_word;
+use crate::node_line::{cookie_word, setup_of};
 use crate::words::{LineFault, Words};
 use dist_core::Change;
 use dist_world_model::Happening;
@@ -17,6 +17,7 @@ use std::alloc::Global;
 #[derive(Clone, Copy)]
 enum HappeningWord {
     Begin,
+    BeginAs,
     Halt,
     Dial,
     Reach,
@@ -32,8 +33,9 @@ enum HappeningWord {
 }
 
 // The first word of each kind of line.
-const KINDS: [(&str, HappeningWord); 13] = [
+const KINDS: [(&str, HappeningWord); 14] = [
     ("begin", HappeningWord::Begin),
+    ("begin_as", HappeningWord::BeginAs),
     ("halt", HappeningWord::Halt),
     ("dial", HappeningWord::Dial),
     ("reach", HappeningWord::Reach),
@@ -61,6 +63,10 @@ fn happening_behind(
         HappeningWord::Begin => Happening::Begin {
             node,
             creation: creation_word(words)?,
+        },
+        HappeningWord::BeginAs => Happening::BeginAs {
+            node,
+            setup: setup_of(alloc, words)?,
         },
         HappeningWord::Halt => Happening::Halt { node },
         HappeningWord::Dial => Happening::Dial {

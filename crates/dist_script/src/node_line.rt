@@ -1,6 +1,6 @@
 //! The line of a script that sets the node up.
 
-ghost use Rattle.std.specs.Prelude.{◌≡◌, drop, Some, None, MatchResult};
+ghost use Rattle.std.specs.Prelude.{◌≡◌, drop, [], Some, None, IfOk, MatchResult};
 ghost use Rattle.dist_names.specs.Digits.{flags_in};
 ghost use Rattle.dist_script.specs.{declared.words.LineFault.TheVariants.Bad, Fields.Reads, Fields.ReadsUpTo, Fields.Makes, Fields.first_in};
 ghost use Rattle.dist_script.specs.{Fields.creation_in, Nodes.version_in, Nodes.required_in, Nodes.cookie_in, Nodes.cookie_added, Nodes.further_in};
@@ -79,7 +79,7 @@ fn add_cookies(alloc: Global, cookies: &mut Cookies, words: &mut Words<'_>) -> R
 // Names to the end of the line, each behind `allow`.
 #[tactic(auto, using(crate::proofs::Rows::no_names, crate::proofs::Rows::one_name, crate::proofs::Rows::bad_name, crate::proofs::Rows::all_named))]
 fn names(alloc: Global, words: &mut Words<'_>) -> Result<Vec<NodeName>, LineFault>
-    ensures { MatchResult result (λ names. names_in words.old ≡ Some names.items) (λ fault. fault ≡ Bad → names_in words.old ≡ None) }
+    ensures { MatchResult result (λ names. (names_in words.old ≡ Some names.items) × (words.new ≡ [])) (λ fault. fault ≡ Bad → names_in words.old ≡ None) }
 {
     let mut names = Vec::new(alloc);
     'names: while words.skip(b"allow") {
@@ -93,7 +93,8 @@ fn names(alloc: Global, words: &mut Words<'_>) -> Result<Vec<NodeName>, LineFaul
 
 // The names that are allowed. Without one of them all are.
 fn allow_list(alloc: Global, words: &mut Words<'_>) -> Result<Option<NameList>, LineFault>
-    ensures { Reads result (allowed_in words.old) }
+    ensures reads { Reads result (allowed_in words.old) }
+    ensures rest { IfOk result (λ _. words.new ≡ []) }
 {
     if words.is_done() {
         return Ok(None);
@@ -156,7 +157,8 @@ fn setup_behind(
     cookies: Cookies,
     words: &mut Words<'_>,
 ) -> Result<Setup, LineFault>
-    ensures { Reads result (behind_cookies name.now terms cookies words.old) }
+    ensures reads { Reads result (behind_cookies name.now terms cookies words.old) }
+    ensures rest { IfOk result (λ _. words.new ≡ []) }
 {
     let allow = allow_list(alloc, words)?;
     let name = name_of(alloc, name)?;
@@ -172,9 +174,10 @@ fn setup_behind(
     })
 }
 
-/// What a node is set up with, from the words behind `node`.
+/// What a node is set up with, from the words to the end of the line.
 pub fn setup_of(alloc: Global, words: &mut Words<'_>) -> Result<Setup, LineFault>
-    ensures { Reads result (node_in words.old) }
+    ensures reads { Reads result (node_in words.old) }
+    ensures rest { IfOk result (λ _. words.new ≡ []) }
 {
     let name = words.word()?;
     let cookie = words.word()?;

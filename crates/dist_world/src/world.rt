@@ -1,7 +1,8 @@
 //! The world.
-ghost use Rattle.std.specs.Prelude.{◌≡◌, ◌↔◌, ◌≢◌, ◌<◌, ℕ, Some, length, take, option_copied, IfOk, IfErr, OnOk, IsErrOf, IsTrue};
+ghost use Rattle.std.specs.Prelude.{◌≡◌, ◌↔◌, ◌≢◌, ◌<◌, ℕ, List, Some, length, take, option_copied, IfOk, IfErr, OnOk, IsErrOf, IsTrue};
 ghost use Rattle.std.specs.Option.{option_map};
 ghost use Rattle.dist_world_model.specs.Agreement.{Agreement as NodesAgree, Counts, IsUp};
+ghost use Rattle.dist_world_model.specs.{declared.happening.Happening.Happening, OwnSetups.AreAsBegun};
 ghost use Rattle.dist_world_model.specs.{World.empty, Run.run, Run.count_applied, Laws.AllLives, Laws.Decided};
 ghost use Rattle.dist_world.specs.{Setups.names_repeat, Asking.node_of, Asking.said_to, Asking.SaidNext, Asking.flat_closed, Ups.agreement_on};
 ghost use Rattle.dist_world.specs.{Ups.FindsBoth, Ups.FindsAgreed, Ups.IsReported};
@@ -87,6 +88,11 @@ impl World {
 
         // What is returned is what they agree on.
         ensures agree { FindsAgreed self.now a b result }
+
+        // Each running node has the setup with which happenings that lead to this world began it, but for its cookies and its
+        // allow list.
+        ensures traced { (happenings : List Happening)
+            × (self.now ≡ run happenings (empty self.now.setups)) × AreAsBegun self.now.setups happenings self.now }
     {
         ups_are_linked();
         nodes_agree();
@@ -94,7 +100,8 @@ impl World {
     }
 
     /// What the nodes begin with, in the order of their places. The creations in it are not used, and a node that runs may have
-    /// changed its cookies and the peers that may connect since (`Happening::Reset`).
+    /// begun with another setup of its name (`Happening::BeginAs`), or changed its cookies and the peers that may connect since
+    /// (`Happening::Reset`).
     pub fn setups(&self) -> &[Setup]
         ensures { result.now ≡ self.now.setups }
     {
@@ -109,7 +116,7 @@ impl World {
     }
 
     /// The node, end and cause that the step of the last happening that applied closed: its own end, or another one. `None`
-    /// where it closed none or made no step (`Begin`, `Halt`, `Reset`, `Reach`, `Deliver`), or none applied yet.
+    /// where it closed none or made no step (`Begin`, `BeginAs`, `Halt`, `Reset`, `Reach`, `Deliver`), or none applied yet.
     pub fn last_closed(&self) -> Option<(usize, EndId, Why)>
         ensures { result ≡ option_map flat_closed self.now.last_closed }
     {

@@ -1,6 +1,6 @@
 -- THE AGREEMENT OF EVERY WORLD.
 use Rattle.dist_world_model.proofs.Words.{◌≡◌, ℕ, true, ◌≢◌, ◌⊎◌, List, slice_get, Some, Option, sym, refl, ap, ◌∙◌, subst, inl, inr, same_text, common, Side}
-use Rattle.dist_world_model.proofs.Words.{End, UpRecord, announced_by, own_digest, Setup, Agreement, AllFit, AreAgreed, AreSetups, IsAgreed, IsUp, Joins, bare}
+use Rattle.dist_world_model.proofs.Words.{End, UpRecord, announced_by, own_digest, Setup, Agreement, AllFit, AreAgreed, AreSetups, IsAgreed, IsUp, Joins}
 use Rattle.dist_world_model.proofs.Words.{AllLives, OwnDigests, NodeLaws, EndRow, run, Conn, Life, World, empty, row_of_life, runs, Happening}
 use Rattle.dist_world_model.proofs.{Digests.digest_lives, EndPairs.IsOpen, EndPairs.Seat, PastMoments.past-some, WholeFrames.joined}
 use Rattle.dist_world_model.proofs.Lookups.{decide, end_in, far, row_in, voice_in, voice_of}
@@ -20,19 +20,19 @@ module _ (laws : NodeLaws) where
         let o = h.owns i l al in let q = h.owns j m am in
         let z : Some o.setup ≡ Some q.setup = sym o.there ∙ ap (slice_get w.setups) e ∙ q.there in
         let s : o.setup ≡ q.setup = cc in
-        ap (λ (s : Setup). s.name) o.is ∙ ap (λ (s : Setup). s.name) s ∙ sym (ap (λ (s : Setup). s.name) q.is)
+        o.name ∙ ap (λ (s : Setup). s.name) s ∙ sym q.name
 
     -- the incarnation whose name is that of node b is one of b
     who-by : (i b : ℕ) (l : Life) (s : Setup) → slice_get w.lives i ≡ Some l → slice_get w.setups b ≡ Some s → l.node.setup.name ≡ s.name → l.who ≡ b
-    who-by i b l s al ab e = let o = h.owns i l al in let k = h.setups in k.distinct l.who b o.setup s o.there ab (sym (ap (λ (s : Setup). s.name) o.is) ∙ e)
+    who-by i b l s al ab e = let o = h.owns i l al in let k = h.setups in k.distinct l.who b o.setup s o.there ab (sym o.name ∙ e)
 
-    -- an incarnation of node a has a's setup, but for the creation, the cookies and the allow list
-    setup-by : (i a : ℕ) (l : Life) (s : Setup) → slice_get w.lives i ≡ Some l → slice_get w.setups a ≡ Some s → l.who ≡ a → bare l.node.setup ≡ bare (record s { creation = l.node.setup.creation })
-    setup-by i a l s al aa e =
+    -- an incarnation of node a has a's name
+    name-by : (i a : ℕ) (l : Life) (s : Setup) → slice_get w.lives i ≡ Some l → slice_get w.setups a ≡ Some s → l.who ≡ a → l.node.setup.name ≡ s.name
+    name-by i a l s al aa e =
         let o = h.owns i l al in
         let z : Some o.setup ≡ Some s = sym o.there ∙ ap (slice_get w.setups) e ∙ aa in
         let q : o.setup ≡ s = cc in
-        o.is ∙ ap (λ (r : Setup). bare (record r { creation = l.node.setup.creation })) q
+        o.name ∙ ap (λ (r : Setup). r.name) q
 
     module _ {a b c : ℕ} (x : IsUp w a b c) where
       sits-who : {side : Side} {d : ℕ} (s : Seat w side d) → (Sits laws w h) x s → s.life.who ≡ a
@@ -133,14 +133,14 @@ module _ (laws : NodeLaws) where
         shared-by : Noted (voice sx) (voice sy) (ends.Up x.kept) → Noted (voice sy) (voice sx) (ends.Up y.kept) → x.kept.common.0 ≡ y.kept.common.0
         shared-by n m = n.0 ∙ and_comm (announced_by sx) (announced_by sy) ∙ sym m.0
 
-        setup-x : bare x.life.node.setup ≡ bare (record y.other { creation = x.life.node.setup.creation })
-        setup-x = setup-by x.place a x.life y.other x.lives y.named (let r = (running-is laws w h) x in r.0)
+        name-x : x.life.node.setup.name ≡ y.other.name
+        name-x = name-by x.place a x.life y.other x.lives y.named (let r = (running-is laws w h) x in r.0)
 
-        setup-y : bare y.life.node.setup ≡ bare (record x.other { creation = y.life.node.setup.creation })
-        setup-y = setup-by y.place b y.life x.other y.lives x.named (let r = (running-is laws w h) y in r.0)
+        name-y : y.life.node.setup.name ≡ x.other.name
+        name-y = name-by y.place b y.life x.other y.lives x.named (let r = (running-is laws w h) y in r.0)
 
         agreed : c ≡ d → (k : Conn) → slice_get w.conns c ≡ Some k → Joins k x.place x.id y.place y.id ⊎ Joins k y.place y.id x.place x.id → Noted (voice sx) (voice sy) (ends.Up x.kept) → Noted (voice sy) (voice sx) (ends.Up y.kept) → AreAgreed w a b c d x y
-        agreed e k ak joined nx ny = record { same = e; conn = k; there = ak; joined = joined; setup_a = setup-x; setup_b = setup-y; at_a = agreed-by sx sy x.kept nx digest-x; at_b = agreed-by sy sx y.kept ny digest-y; shared = shared-by nx ny }
+        agreed e k ak joined nx ny = record { same = e; conn = k; there = ak; joined = joined; name_a = name-x; name_b = name-y; at_a = agreed-by sx sy x.kept nx digest-x; at_b = agreed-by sy sx y.kept ny digest-y; shared = shared-by nx ny }
 
         up-noted : (own other : Voice) (kept : UpRecord) (o : Option End) → o ≡ Some (ends.Up kept) → NotedAt own other o → Noted own other (ends.Up kept)
         up-noted own other kept o e n = subst (NotedAt own other) e n

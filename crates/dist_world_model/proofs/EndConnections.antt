@@ -85,7 +85,7 @@ reach-joined id c l h live p e =
 module _ (laws : NodeLaws) where
   module _ (hap : Happening) (w x : World) (h : IsJoined w) where
     by-act : Act hap w x.lives x.conns → AllLives JoinedLife x
-    by-act (Begins who s c fc at none is k) i l al = at-more (λ i l. JoinedLife l) w.lives _ (λ live p e. absurd (false≢true e)) h.joined i l (ap (λ ls. slice_get ls i) (sym is) ∙ al)
+    by-act (Begins who s base c fc at nm keep none is k) i l al = at-more (λ i l. JoinedLife l) w.lives _ (λ live p e. absurd (false≢true e)) h.joined i l (ap (λ ls. slice_get ls i) (sym is) ∙ al)
     by-act (Ends j old at live is k) i l al = at-one (λ i l. JoinedLife l) j _ w.lives (λ y ay live p e. absurd (false≢true live)) h.joined i l (ap (λ ls. slice_get ls i) (sym is) ∙ al)
     by-act (Reaches j id k old away at live ata livea d n is ks) i l al = at-one (λ i l. JoinedLife l) j _ w.lives (λ y ay. reach-joined id _ y (h.joined j y ay)) h.joined i l (ap (λ ls. slice_get ls i) (sym is) ∙ al)
     by-act (Comes side c n is k) i l al = h.joined i l (ap (λ ls. slice_get ls i) (sym is) ∙ al)

@@ -8,6 +8,9 @@ use Rattle.dist_world_model.proofs.Words.{life_after, life_after_end, most_appli
 use Rattle.dist_world_model.proofs.Words.{notify_node, reached_life, with_node, without_closing, world_after, at_place, EndRow, rows_after, run, Conn, Life}
 use Rattle.dist_world_model.proofs.Words.{World, end_at, row_at, running, runs, runs_for, Happening}
 use Rattle.dist_world_model.proofs.{Conditions.if_holds, Conditions.if_ok, Conditions.if_there, Places.first-at}
+use Rattle.dist_world_model.proofs.Words.{◌⊎◌, inl, inr}
+use Rattle.dist_names.proofs.Orders.{one_lem}
+use Rattle.dist_names.specs.Order.{same_name}
 use Rattle.dist_core.specs.declared.changing.ChangeError.TheVariants.{Full, InUse}
 use Rattle.dist_core.specs.declared.event.Event.TheVariants as event
 use Rattle.dist_world_model.specs.declared.happening.Happening.TheVariants as happening
@@ -30,7 +33,7 @@ pub data Ready (w : World) (i : ℕ) (v : Event) (cs : List Conn) : Type 0 where
 
 -- WHAT A HAPPENING DOES: ls and cs are the incarnations and the connections after it
 pub data Act (h : Happening) (w : World) (ls : List Life) (cs : List Conn) : Type 0 where
-  Begins : (who : ℕ) → (s : Setup) → (c : Creation) → (Fits h → c.0 < 2 ^ 32) → slice_get w.setups who ≡ Some s → running w who ≡ None → ls ≡ w.lives ++ new_life who w.clock s c ∷ [] → cs ≡ w.conns → Act h w ls cs
+  Begins : (who : ℕ) → (s base : Setup) → (c : Creation) → (Fits h → c.0 < 2 ^ 32) → slice_get w.setups who ≡ Some base → s.name ≡ base.name → ((h ≡ happening.Begin who c) × (s ≡ base)) ⊎ ((h ≡ happening.BeginAs who s) × (c ≡ s.creation)) → running w who ≡ None → ls ≡ w.lives ++ new_life who w.clock s c ∷ [] → cs ≡ w.conns → Act h w ls cs
   Ends : (i : ℕ) → (old : Life) → slice_get w.lives i ≡ Some old → runs old ≡ true → ls ≡ at_place i (life_after_end w.clock) w.lives → cs ≡ w.conns → Act h w ls cs
   Reaches : (i id j : ℕ) → (old far : Life) → slice_get w.lives i ≡ Some old → runs old ≡ true → slice_get w.lives j ≡ Some far → runs far ≡ true → is_dialing (end_at w i id) ≡ true → conn_of (row_at w i id) ≡ None
       → ls ≡ at_place i (reached_life id (length w.conns)) w.lives → cs ≡ w.conns ++ new_conn i id j ∷ [] → Act h w ls cs
@@ -102,7 +105,13 @@ acts w (happening.Begin a c) = let P = Acted (happening.Begin a c) w in
     if_there P (slice_get w.setups a) _ (λ s at.
     if_holds P (is_none (running w a)) _ (λ free.
     if_holds P (ltb (length w.lives) most_begins) _ (λ few.
-    record { setups = refl; clock = refl; act = Begins a s c (λ f. f) at (none-by (running w a) free) refl refl })))
+    record { setups = refl; clock = refl; act = Begins a s s c (λ f. f) at refl (inl (refl, refl)) (none-by (running w a) free) refl refl })))
+acts w (happening.BeginAs a s) = let P = Acted (happening.BeginAs a s) w in
+    if_there P (slice_get w.setups a) _ (λ own at.
+    if_holds P (is_none (running w a)) _ (λ free.
+    if_holds P (ltb (length w.lives) most_begins) _ (λ few.
+    if_holds P (same_name s.name own.name) _ (λ same.
+    record { setups = refl; clock = refl; act = Begins a s own s.creation (λ f. f) at (one_lem s.name own.name same) (inr (refl, refl)) (none-by (running w a) free) refl refl }))))
 acts w (happening.Halt a) = let P = Acted (happening.Halt a) w in
     if_there P (running w a) _ (λ i e.
     let g = life-of w a i e in

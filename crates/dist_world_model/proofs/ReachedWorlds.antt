@@ -2,6 +2,8 @@
 use Rattle.dist_world_model.proofs.Words.{◌≡◌, ℕ, List, [], ◌++◌, sym, refl, ap, ◌∙◌, subst, Setup, Agreement, AllFit, AreSetups, Counts, IsReached, IsUp}
 use Rattle.dist_world_model.proofs.Words.{AllLives, UpsAreLinked, NodeLaws, run, World, empty, Happening}
 use Rattle.dist_world_model.proofs.{AgreementOfWorlds.agreement_holds, EndConnections.linked_lives}
+use Rattle.dist_world_model.proofs.OwnSetups.{as-begun, run-setups}
+use Rattle.dist_world_model.specs.OwnSetups.{AreAsBegun}
 use Rattle.dist_world_model.proofs.HappeningEffects.{is-running, run-append, fit-append}
 
 module _ (laws : NodeLaws) where
@@ -22,3 +24,11 @@ module _ (laws : NodeLaws) where
       let live = is-running w a u.place u.life u.runs u.lives in
       let g = k u.place u.life u.lives live.1 u.id u.kept u.is_up in
       (g.1, record { place = u.place; life = u.life; id = u.id; kept = u.kept; row = g.0; other = u.other; runs = u.runs; lives = u.lives; is_up = u.is_up; beside = g.2; on = g.3; named = u.named; peer = u.peer }, refl)
+
+-- ---- the setups of the nodes that run
+
+pub reached_traced : (w : World) → IsReached w → (hs : List Happening) × (w ≡ run hs (empty w.setups)) × AreAsBegun w.setups hs w
+reached_traced w r =
+    let e : r.setups ≡ w.setups = sym (run-setups r.happenings (empty r.setups)) ∙ ap (λ (x : World). x.setups) (sym r.is) in
+    let all : AreAsBegun r.setups r.happenings w = subst (AreAsBegun r.setups r.happenings) (sym r.is) (as-begun r.setups r.happenings) in
+    (r.happenings, r.is ∙ ap (λ ss. run r.happenings (empty ss)) e, subst (λ ss. AreAsBegun ss r.happenings w) e all)

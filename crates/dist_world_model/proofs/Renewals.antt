@@ -1,17 +1,21 @@
 -- A node that is renewed is one that ended and began again.
 use Rattle.dist_world_model.proofs.Words.{◌≡◌, ℕ, zero, suc, ◌+◌, ◌<◌, ◌≤◌, Bool, true, false, cond, ◌&&◌, eqb, ltb, ◌≢◌, List, [], ◌∷◌, ◌++◌, length, is_none}
 use Rattle.dist_world_model.proofs.Words.{slice_get, Some, None, Ok, Err, Option, option_map, sym, refl, ap, ◌∙◌, subst, arith, lt-ltb, eqb-true, and_right}
-use Rattle.dist_world_model.proofs.Words.{false≢true, nil_from_length, list_any, Creation, names, table_of, Setup, after_change, change, finds_no_room}
+use Rattle.dist_world_model.proofs.Words.{false≢true, nil_from_length, list_any, names, table_of, Setup, after_change, change, finds_no_room}
 use Rattle.dist_world_model.proofs.Words.{has_usual, is_in_use, setup_after, NodeState, opening, Change, applied_at, happens, life_after_end, most_applied}
 use Rattle.dist_world_model.proofs.Words.{most_begins, new_life, ticked_on, with_node, without_closing, world_after, at_place, first_where, OnlyLastRuns, run}
 use Rattle.dist_world_model.proofs.Words.{Life, World, empty, running, runs, runs_for, Happening}
 use Rattle.dist_world_model.proofs.{Conditions.holds, Conditions.succeeds, Conditions.there, HappeningEffects.is-running, Lookups.at-other, Lookups.placed}
-use Rattle.dist_world_model.proofs.{OwnSetups.AllFindRoom, OwnSetups.begun-with, OwnSetups.run-setups, Places.eqb-self, Places.get-more}
+use Rattle.dist_world_model.proofs.{Places.eqb-self, Places.get-more, Words.inl, Words.inr}
+use Rattle.dist_world_model.proofs.OwnSetups.{AllFindRoom, began-with, begun-by, begun-name, name-by, run-setups}
 use Rattle.std.specs.FinMap as finite
+use Rattle.dist_names.proofs.Orders.{itself_lem}
+use Rattle.dist_names.specs.Order.{same_name}
 use Rattle.dist_core.specs.declared.changing.Change.TheVariants as changes
 use Rattle.dist_core.specs.declared.changing.ChangeError.TheVariants as change_error
 use Rattle.dist_core_laws.proofs.Limits.{no-entries}
-use Rattle.dist_world_model.specs.{OwnSetups.changes_at, OwnSetups.setup_by, Renewals.resets, Renewals.HasOpened, Renewals.HasRoom, Renewals.renewal}
+use Rattle.dist_world_model.specs.{OwnSetups.BeginsWith, OwnSetups.applied_as, OwnSetups.changes_at, OwnSetups.setup_by}
+use Rattle.dist_world_model.specs.Renewals.{resets, HasOpened, HasRoom, renewal}
 use Rattle.dist_world_model.specs.declared.happening.Happening.TheVariants as happening
 
 -- ---- the first that passes
@@ -88,8 +92,7 @@ module _ (node : ℕ) where
 
   -- ---- the end and the beginning
 
-  module _ (w : World) (place : ℕ) (l : Life) (runs-at : running w node ≡ Some place) (at : slice_get w.lives place ≡ Some l) (last : OnlyLastRuns w) (few : length w.lives < most_begins) (room : w.clock + 2 ≤ most_applied)
-      (c : Creation) (s : Setup) (has : slice_get w.setups l.who ≡ Some s) where
+  module _ (w : World) (place : ℕ) (l : Life) (runs-at : running w node ≡ Some place) (at : slice_get w.lives place ≡ Some l) (last : OnlyLastRuns w) (few : length w.lives < most_begins) (room : w.clock + 2 ≤ most_applied) where
     live : (l.who ≡ node) × (runs l ≡ true)
     live = is-running w node place l runs-at at
 
@@ -118,21 +121,37 @@ module _ (node : ℕ) where
         by j x n ax true e = and_right (eqb x.who node) (runs x) (other-over j x n ax (eqb-true x.who node e))
         by j x n ax false e = ap (λ b. b && runs x) e
 
-    abbrev new : Life
-    new = new_life node (w.clock + 1) s c
+    abbrev begun : Setup → World
+    begun s = record ended { lives = ended.lives ++ new_life node (w.clock + 1) s s.creation ∷ []; clock = w.clock + 1 + 1 }
 
-    abbrev begun : World
-    begun = record ended { lives = ended.lives ++ new ∷ []; clock = w.clock + 1 + 1 }
+    free : is_none (running ended node) ≡ true
+    free = ap is_none (first-none (runs_for node) ended.lives none-after)
 
-    begins : happens ended (happening.Begin node c) ≡ begun
-    begins =
+    fewer : ltb (length ended.lives) most_begins ≡ true
+    fewer = lt-ltb (length ended.lives) most_begins (let k = same-count place (life_after_end w.clock) w.lives in omega (arith, k, few))
+
+    begins : (h : Happening) (s : Setup) → BeginsWith w.setups (Some h) node s → happens ended h ≡ begun s
+    begins h s (own, its, inl how) =
+        let c = how.0 in
+        let is : Some h ≡ Some (happening.Begin node c) = how.1 in
+        let this : h ≡ happening.Begin node c = cc in
+        let made : happens ended (happening.Begin node c) ≡ begun (record own { creation = c }) =
         applies ended (happening.Begin node c) _ (omega (arith, room))
-        (there (slice_get w.setups node) s _ (ap (slice_get w.setups) (sym live.0) ∙ has)
-        ∙ holds (is_none (running ended node)) _ (ap is_none (first-none (runs_for node) ended.lives none-after))
-        ∙ holds (ltb (length ended.lives) most_begins) _ (lt-ltb (length ended.lives) most_begins (let k = same-count place (life_after_end w.clock) w.lives in omega (arith, k, few))))
+        (there (slice_get w.setups node) own _ its ∙ holds (is_none (running ended node)) _ free ∙ holds (ltb (length ended.lives) most_begins) _ fewer) in
+        ap (happens ended) this ∙ made ∙ ap begun (sym how.2)
+    begins h s (own, its, inr how) =
+        let is : Some h ≡ Some (happening.BeginAs node s) = how.0 in
+        let this : h ≡ happening.BeginAs node s = cc in
+        let made : happens ended (happening.BeginAs node s) ≡ begun s =
+        applies ended (happening.BeginAs node s) _ (omega (arith, room))
+        (there (slice_get w.setups node) own _ its
+        ∙ holds (is_none (running ended node)) _ free
+        ∙ holds (ltb (length ended.lives) most_begins) _ fewer
+        ∙ holds (same_name s.name own.name) _ (ap (same_name s.name) (sym how.1) ∙ itself_lem s.name)) in
+        ap (happens ended) this ∙ made
 
-    opened : HasOpened begun node (record s { creation = c })
-    opened = record {
+    opened : (s : Setup) → HasOpened (begun s) node s
+    opened s = let new = new_life node (w.clock + 1) s s.creation in record {
       place = length ended.lives;
       life = new;
       runs = first-last (runs_for node) ended.lives new none-after (ap (λ b. b && true) (eqb-self node));
@@ -141,25 +160,53 @@ module _ (node : ℕ) where
       rows = refl;
     }
 
-    begun-again : HasOpened (happens (happens w (happening.Halt node)) (happening.Begin node c)) node (record s { creation = c })
-    begun-again = subst (λ x. HasOpened x node (record s { creation = c })) (sym (ap (λ x. happens x (happening.Begin node c)) ends ∙ begins)) opened
-
-    pub renewed : (vs : List Change) → w.clock + 2 + length vs ≤ most_applied → AllFindRoom vs (record s { creation = c }) → HasOpened (run (renewal node c vs) w) node (setup_by vs (record s { creation = c }))
-    renewed vs all rooms =
-        let two = ap (λ (x : World). x.clock) (ap (λ x. happens x (happening.Begin node c)) ends ∙ begins) in
-        reset-all vs (happens (happens w (happening.Halt node)) (happening.Begin node c)) (record s { creation = c }) (omega (arith, all, two)) rooms begun-again
+    pub renewed : (h : Happening) (s : Setup) → BeginsWith w.setups (Some h) node s → (vs : List Change) → w.clock + 2 + length vs ≤ most_applied → AllFindRoom vs s
+        → HasOpened (run (renewal node h vs) w) node (setup_by vs s)
+    renewed h s begin vs all rooms =
+        let again : happens (happens w (happening.Halt node)) h ≡ begun s = ap (λ x. happens x h) ends ∙ begins h s begin in
+        let two = ap (λ (x : World). x.clock) again in
+        reset-all vs (happens (happens w (happening.Halt node)) h) s (omega (arith, all, two)) rooms (subst (λ x. HasOpened x node s) (sym again) (opened s))
 
 -- A NODE THAT IS RENEWED
-pub renews : ((ss : List Setup) (hs : List Happening) → OnlyLastRuns (run hs (empty ss)))
-    → (ss : List Setup) (hs : List Happening) (node place : ℕ) (l : Life) → running (run hs (empty ss)) node ≡ Some place → slice_get (let w = run hs (empty ss) in w.lives) place ≡ Some l
-    → HasRoom (run hs (empty ss)) (changes_at hs (empty ss) place)
-    → HasOpened (run (renewal node l.node.setup.creation (changes_at hs (empty ss) place)) (run hs (empty ss))) node l.node.setup
-renews last ss hs node place l runs-at at room =
-    let w : World = run hs (empty ss) in
-    let vs = changes_at hs (empty ss) place in
-    let own : Setup = l.node.setup in
-    let g = begun-with ss hs place l at in
-    let made = g.2 in
-    let few = room.applied in
-    subst (HasOpened (run (renewal node own.creation vs) w) node) (sym made.0)
-    (renewed node w place l runs-at at (last ss hs) room.begins (omega (arith, few)) own.creation g.0 (ap (λ xs. slice_get xs l.who) (run-setups hs (empty ss)) ∙ g.1) vs few made.1)
+module _ (last : (ss : List Setup) (hs : List Happening) → OnlyLastRuns (run hs (empty ss))) (ss : List Setup) (hs : List Happening) (node place : ℕ) (l : Life)
+    (runs-at : running (run hs (empty ss)) node ≡ Some place) (at : slice_get (let w = run hs (empty ss) in w.lives) place ≡ Some l) where
+  abbrev now : World
+  now = run hs (empty ss)
+
+  abbrev its-changes : List Change
+  its-changes = changes_at hs (empty ss) place
+
+  its-node : l.who ≡ node
+  its-node = let g = is-running now node place l runs-at at in g.0
+
+  own-setups : ss ≡ (let w = run hs (empty ss) in w.setups)
+  own-setups = sym (run-setups hs (empty ss))
+
+  -- with the setup that it had
+  pub renews-anew : HasRoom now [] → HasOpened (run (renewal node (happening.BeginAs node l.node.setup) []) now) node l.node.setup
+  renews-anew room =
+      let g = began-with ss hs place l at in
+      let began = g.1 in
+      let made = g.2 in
+      let few = room.applied in
+      let own : Setup = l.node.setup in
+      let name : own.name ≡ began.0.name = ap (λ (r : Setup). r.name) made.0 ∙ name-by its-changes g.0 ∙ begun-name ss (applied_as hs (empty ss) l.begun) l.who g.0 began in
+      let its = ap (slice_get now.setups) (sym its-node) ∙ ap (λ xs. slice_get xs l.who) (sym own-setups) ∙ began.1 in
+      renewed node now place l runs-at at (last ss hs) room.begins (omega (arith, few)) (happening.BeginAs node own) own (began.0, its, inr (refl, name)) [] few tt
+
+  -- as it began, and with the changes that it made
+  pub renews-again : HasRoom now its-changes
+      → (h : Happening) × (applied_as hs (empty ss) l.begun ≡ Some h) × HasOpened (run (renewal node h its-changes) now) node l.node.setup
+  renews-again room =
+      let g = began-with ss hs place l at in
+      let made = g.2 in
+      let few = room.applied in
+      let by = begun-by ss (applied_as hs (empty ss) l.begun) l.who g.0 g.1 in
+      let begin : BeginsWith now.setups (Some by.0) node g.0 =
+      subst (λ n. BeginsWith now.setups (Some by.0) n g.0) its-node
+      (subst (λ o. BeginsWith now.setups o l.who g.0) by.1 (subst (λ xs. BeginsWith xs (applied_as hs (empty ss) l.begun) l.who g.0) own-setups g.1)) in (
+        by.0,
+        by.1,
+        subst (HasOpened (run (renewal node by.0 its-changes) now) node) (sym made.0)
+            (renewed node now place l runs-at at (last ss hs) room.begins (omega (arith, few)) by.0 g.0 begin its-changes few made.1),
+      )

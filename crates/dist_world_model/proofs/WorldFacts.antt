@@ -12,11 +12,11 @@ use Rattle.dist_world_model.proofs.Places.{at-more, at-one, eqb-self, get-more}
 use Rattle.dist_world_model.proofs.WireSteps.{bare-stays, begun-wired, come-wired, shut-kept, turned-wired}
 use Rattle.dist_core_setup.specs.Rules.{announced_by}
 
--- the incarnation has its node's setup, but for the creation, the cookies and the allow list
+-- the incarnation has its node's name
 pub record Owns (setups : List Setup) (l : Life) : Type 0 where
   pub setup : Setup
   pub there : slice_get setups l.who ≡ Some setup
-  pub is : bare l.node.setup ≡ bare (record setup { creation = l.node.setup.creation })
+  pub name : l.node.setup.name ≡ setup.name
 
 -- ALL NUMBERS OF A LATER INCARNATION are above those of an earlier one of the same node, and only the last runs
 abbrev pub InOrder : List Life → Type 0
@@ -69,7 +69,7 @@ heads-fit t ls xs h f i l at = let g = h i l at in let s = g.2 in fit-same g.0.n
 heads-own : (t : ℕ) (ss : List Setup) (ls xs : List Life) → Heads t ls xs → ((i : ℕ) (l : Life) → slice_get ls i ≡ Some l → Owns ss l) → (i : ℕ) (l : Life) → slice_get xs i ≡ Some l → Owns ss l
 heads-own t ss ls xs h f i l at =
     let g = h i l at in let s = g.2 in let o = f i g.0 g.1 in
-    record { setup = o.setup; there = ap (slice_get ss) s.who ∙ o.there; is = s.setup ∙ o.is ∙ ap (λ (z : Setup). bare (record o.setup { creation = z.creation })) (sym s.setup) }
+    record { setup = o.setup; there = ap (slice_get ss) s.who ∙ o.there; name = ap (λ (z : Setup). z.name) s.setup ∙ o.name }
 
 heads-order : (t : ℕ) (ls xs : List Life) → Heads t ls xs → InOrder ls → InOrder xs
 heads-order t ls xs h o i j a b lt ax bx same =
@@ -112,7 +112,7 @@ over-of l a e h = by l.over refl
 
 -- an incarnation is as it was, but for what a happening changes of it, or begins
 pub data Heading (hap : Happening) (w : World) (ls : List Life) : Type 0 where
-  One_more : (who : ℕ) → (s : Setup) → (c : Creation) → (Fits hap → c.0 < 2 ^ 32) → slice_get w.setups who ≡ Some s → running w who ≡ None → ls ≡ w.lives ++ new_life who w.clock s c ∷ [] → Heading hap w ls
+  One_more : (who : ℕ) → (s base : Setup) → (c : Creation) → (Fits hap → c.0 < 2 ^ 32) → slice_get w.setups who ≡ Some base → s.name ≡ base.name → running w who ≡ None → ls ≡ w.lives ++ new_life who w.clock s c ∷ [] → Heading hap w ls
   All_there : Heads w.clock w.lives ls → Heading hap w ls
 
 heading : (hap : Happening) (w : World) (ls : List Life) (cs : List Conn) → Act hap w ls cs → Heading hap w ls
@@ -122,7 +122,7 @@ heading hap w ls cs act = by act
     at i g is h = All_there (subst (Heads w.clock w.lives) (sym is) (heads-at w.clock i g w.lives h))
 
     by : Act hap w ls cs → Heading hap w ls
-    by (Begins who s c fc at none is k) = One_more who s c fc at none is
+    by (Begins who s base c fc at nm keep none is k) = One_more who s base c fc at nm none is
     by (Ends i old there live is k) = at i _ is (λ l e. record { who = refl; begun = refl; setup = refl; over = inr (runs-none l (ap runs (alike w.lives i l old e there) ∙ live)) })
     by (Reaches i id j old away there live ata livea d n is k) = at i _ is (λ l e. record { who = refl; begun = refl; setup = refl; over = inl refl })
     by (Comes side c n is k) = All_there (subst (Heads w.clock w.lives) (sym is) (λ i l there. (l, there, head-refl w.clock l)))
@@ -153,7 +153,7 @@ module _ (w : World) (seen : AllLives (IsWhole w.clock) w) (order : InOrder w.li
       last j e = get-more w.lives (new_life who w.clock s c) j ∙ ap (λ t. cond t (Some (new_life who w.clock s c)) (slice_get w.lives j)) (ap (eqb (length w.lives)) (sym e) ∙ eqb-self (length w.lives))
 
   order-after : {hap : Happening} (ls : List Life) → Heading hap w ls → InOrder ls
-  order-after ls (One_more who s c fc at none is) = subst InOrder (sym is) (begun-order who s c none)
+  order-after ls (One_more who s base c fc at nm none is) = subst InOrder (sym is) (begun-order who s c none)
   order-after ls (All_there h) = heads-order w.clock w.lives ls h order
 
 -- in every world, whatever its setups and numbers
@@ -176,9 +176,9 @@ module _ (laws : NodeLaws) where
 
     owned : (ls : List Life) → Heading hap w ls → (i : ℕ) (l : Life) → slice_get ls i ≡ Some l → IsFit l.node.setup × Owns w.setups l
     owned ls (All_there g) i l at = (heads-fit w.clock w.lives ls g h.fits i l at, heads-own w.clock w.setups w.lives ls g h.owns i l at)
-    owned ls (One_more who s c fc at none is) i l al =
+    owned ls (One_more who s base c fc at nm none is) i l al =
         at-more (λ i l. IsFit l.node.setup × Owns w.setups l) w.lives (new_life who w.clock s c)
-        (let k = h.setups in let g = k.each who s at in (record { name = g.name; flags = laws.sayings.announced (record s { creation = c }); creation = fc known }, record { setup = s; there = at; is = refl }))
+        (let k = h.setups in let g = k.each who base at in (record { name = subst IsNodeName (sym nm) g.name; flags = laws.sayings.announced (record s { creation = c }); creation = fc known }, record { setup = base; there = at; name = nm }))
         (λ i l al. (h.fits i l al, h.owns i l al)) i l (ap (λ xs. slice_get xs i) (sym is) ∙ al)
 
     wired : (ls : List Life) (cs : List Conn) → Act hap w ls cs → AreWired ls cs
@@ -188,7 +188,7 @@ module _ (laws : NodeLaws) where
         to xs ds e d k = let P : List Life → List Conn → Type 0 = λ x y. AreWired x y in subst (λ x. P x cs) (sym e) (subst (P xs) (sym d) k)
 
         by : Act hap w ls cs → AreWired ls cs
-        by (Begins who s c fc at none is k) = to _ _ is k (begun-wired w.lives (new_life who w.clock s c) refl refl w.conns h.wired)
+        by (Begins who s base c fc at nm keep none is k) = to _ _ is k (begun-wired w.lives (new_life who w.clock s c) refl refl w.conns h.wired)
         by (Ends i old at live is k) = to _ _ is k (turned-wired i (life_after_end w.clock) w.lives old at refl refl (shut-kept w.clock old.rows) w.conns h.wired)
         by (Reaches i id j old away at live ata livea dialing free is k) = let l = lives i old at in to _ _ is k (reached-wired i id j w.lives w.conns old away at ata (l.beside live) dialing free h.wired)
         by (Comes side c n is k) = to _ _ is k (come-wired side c n w.lives w.conns h.wired)

@@ -63,9 +63,9 @@ pub record AreAgreed (w : World) (a b c d : ℕ) (x : IsUp w a b c) (y : IsUp w 
   pub conn : Conn
   pub there : slice_get w.conns c ≡ Some conn
   pub joined : Joins conn x.place x.id y.place y.id ⊎ Joins conn y.place y.id x.place x.id
-  -- each incarnation has its node's setup, but for the creation, the cookies and the allow list
-  pub setup_a : bare x.life.node.setup ≡ bare (record y.other { creation = x.life.node.setup.creation })
-  pub setup_b : bare y.life.node.setup ≡ bare (record x.other { creation = y.life.node.setup.creation })
+  -- each incarnation has its node's name
+  pub name_a : x.life.node.setup.name ≡ y.other.name
+  pub name_b : y.life.node.setup.name ≡ x.other.name
   pub at_a : IsAgreed x.life.node.setup y.life.node.setup x.kept
   pub at_b : IsAgreed y.life.node.setup x.life.node.setup y.kept
   -- the two records have the same common flags
@@ -90,6 +90,7 @@ pub record AreSetups (setups : List Setup) : Type 0 where
 -- a creation or a challenge fits 32 bits
 abbrev pub Fits : Happening → Type 0
 Fits (happening.Begin i c) = c.0 < 2 ^ 32
+Fits (happening.BeginAs i s) = let c = s.creation in c.0 < 2 ^ 32
 Fits (happening.Take i id fresh) = fresh < 2 ^ 32
 Fits h = Unit {0}
 

@@ -2,7 +2,7 @@
 use Rattle.std.specs.{Prelude.if◌then◌else◌, Prelude.◌∷◌, Prelude.◌++◌, Prelude.◌&&◌, Prelude.◌+◌, Result.result_ok}
 use Rattle.dist_world_model.specs.Words.{ℕ, Bool, List, [], Option, Some, None, option_map, true, false, nat_lt, EndId, Event, Reply, slice_get, Setup, End}
 use Rattle.dist_world_model.specs.Words.{NodeState, w16, length, is_none, option_and_then, Creation, first_body, Change, is_open, is_dialing, change, step}
-use Rattle.dist_world_model.specs.Words.{opening, Happening}
+use Rattle.dist_world_model.specs.Words.{opening, same_name, Happening}
 use Rattle.dist_world_model.specs.World.{World, Life, Conn, runs, running, row_at, end_at}
 use Rattle.dist_world_model.specs.Delivery.{empty_text, after_delivery, body_taken, text_to, change_to, conns_after_saying}
 use Rattle.dist_world_model.specs.{Lists.at_place, Rows.EndRow, Rows.rows_after, Rows.once}
@@ -75,6 +75,15 @@ begin w node creation = do
   is_none (running w node)
   nat_lt (length w.lives) most_begins
   Some (record w { lives = w.lives ++ new_life node w.clock setup creation ∷ [] })
+
+-- BEGIN AS: a node that does not run begins a new incarnation with this setup, where that has its name
+abbrev pub begin_as : World → ℕ → Setup → Option World
+begin_as w node setup = do
+  own ← slice_get w.setups node
+  is_none (running w node)
+  nat_lt (length w.lives) most_begins
+  same_name setup.name own.name
+  Some (record w { lives = w.lives ++ new_life node w.clock setup setup.creation ∷ [] })
 
 -- the row of an end that is closed, where it was not
 abbrev pub shut_row : ℕ → EndRow → EndRow
@@ -209,6 +218,7 @@ take_frame = take_read (λ body. body)
 -- the world after one that applies, but for the clock
 abbrev pub world_after : World → Happening → Option World
 world_after w (happening.Begin node creation) = begin w node creation
+world_after w (happening.BeginAs node setup) = begin_as w node setup
 world_after w (happening.Halt node) = halt w node
 world_after w (happening.Dial node peer opening) = notify_node w node (event.Dial peer opening)
 world_after w (happening.Tick node id) = notify_node w node (event.Tick id)

@@ -1,6 +1,6 @@
 -- A NODE THAT IS RENEWED, as a world has it: it ends, and begins again.
 use Rattle.std.specs.Prelude.{◌∷◌, ◌+◌, ◌≡◌, ◌<◌, ◌≤◌}
-use Rattle.dist_world_model.specs.Words.{ℕ, List, [], Some, slice_get, Setup, length, Creation, Change, opening, Happening}
+use Rattle.dist_world_model.specs.Words.{ℕ, List, [], Some, slice_get, Setup, length, Change, opening, Happening}
 use Rattle.dist_world_model.specs.{World.World, World.Life, World.running, Happenings.most_applied, Happenings.most_begins}
 use Rattle.dist_world_model.specs.declared.happening.Happening.TheVariants as happening
 
@@ -9,9 +9,9 @@ abbrev pub resets : ℕ → List Change → List Happening
 resets node [] = []
 resets node (v ∷ vs) = happening.Reset node v ∷ resets node vs
 
--- THE NODE ENDS, begins again with this creation, and changes its setup so
-abbrev pub renewal : ℕ → Creation → List Change → List Happening
-renewal node creation vs = happening.Halt node ∷ happening.Begin node creation ∷ resets node vs
+-- THE NODE ENDS, begins again by this happening, and changes its setup so
+abbrev pub renewal : ℕ → Happening → List Change → List Happening
+renewal node begin vs = happening.Halt node ∷ begin ∷ resets node vs
 
 -- the limits of a world leave room for all of this
 pub record HasRoom (w : World) (vs : List Change) : Type 0 where

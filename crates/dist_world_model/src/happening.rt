@@ -2,7 +2,7 @@
 ghost use Rattle.std.specs.Prelude.{◌<◌, ◌^◌};
 ghost use Rattle.dist_world_model.specs.Agreement.{Fits};
 
-use dist_core::{Change, Opening, Why};
+use dist_core::{Change, Opening, Setup, Why};
 use dist_names::{Creation, NodeName};
 use dist_peers::EndId;
 
@@ -18,6 +18,12 @@ pub enum Happening {
     Begin {
         node: usize,
         creation: Creation,
+    },
+    /// The node, which does not run, begins anew with this setup, and no ends: another release of it, say, with other flags. It
+    /// applies where the setup has the node's name.
+    BeginAs {
+        node: usize,
+        setup: Setup,
     },
     /// The running node stops, and all its ends are closed. No other node learns of it.
     Halt {
@@ -94,6 +100,7 @@ impl Happening {
     {
         match self {
             Happening::Begin { node: _, creation } => fits(creation.0),
+            Happening::BeginAs { node: _, setup } => fits(setup.creation.0),
             Happening::Take {
                 node: _,
                 end_: _,

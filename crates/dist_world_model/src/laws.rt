@@ -5,8 +5,10 @@ ghost use Rattle.dist_core_setup.specs.declared.setup.Setup.{Setup};
 ghost use Rattle.dist_world_model.specs.Laws.{AllLives, Alone, Apart, Decided, InTurn, OwnDigests, UpsAreLinked};
 ghost use Rattle.dist_world_model.specs.Agreement.{Agreement, AreSetups, AllFit, IsReached, Counts, IsUp};
 ghost use Rattle.dist_world_model.specs.{declared.happening.Happening.Happening, World.World, World.Life, World.empty, World.running, Run.run};
-ghost use Rattle.dist_world_model.specs.{Order.AreAbove, Order.AreInOrder, Order.OnlyLastRuns, Frames.AreCanonical, Renewals.HasOpened, Renewals.HasRoom};
-ghost use Rattle.dist_world_model.specs.{Renewals.renewal, OwnSetups.AreNoResets, OwnSetups.HasSetDigests, OwnSetups.IsSetUp, OwnSetups.changes_at};
+ghost use Rattle.dist_world_model.specs.declared.happening.Happening.TheVariants as happening;
+ghost use Rattle.dist_world_model.specs.{Order.AreAbove, Order.AreInOrder, Order.OnlyLastRuns, Frames.AreCanonical};
+ghost use Rattle.dist_world_model.specs.OwnSetups.{AreAsBegun, AreNoResets, HasBegunSetup, HasSetDigests, IsSetUp, applied_as, changes_at};
+ghost use Rattle.dist_world_model.specs.Renewals.{HasOpened, HasRoom, renewal};
 
 use crate::node_laws::nodes_keep_laws;
 
@@ -71,48 +73,57 @@ pub fn ups_are_linked()
 }
 
 /// THE AGREEMENT. Whatever happens, two running nodes that each count the other as up do so over one connection, with the
-/// flags that both announced and each other's creation, each holding the digest of its own cookie and challenge.
+/// flags that both announced and each other's creation, each holding the digest of its own cookie and challenge. Each has the setup
+/// with which it began, but for its cookies and its allow list: its node's, with a creation, or another one of its node's name.
 pub fn nodes_agree()
     ensures runs { (setups : List Setup) (happenings : List Happening) → AreSetups setups → AllFit happenings → Agreement (run happenings (empty setups)) }
     ensures reached { (w : World) → IsReached w → Agreement w }
+    ensures begun { (setups : List Setup) (happenings : List Happening) → AreAsBegun setups happenings (run happenings (empty setups)) }
+    ensures traced { (w : World) → IsReached w
+        → (happenings : List Happening) × (w ≡ run happenings (empty w.setups)) × AreAsBegun w.setups happenings w }
 {
     nodes_keep_laws();
 }
 
-/// Every incarnation has its node's setup, but for the creation with which it began and for the changes of its own resets, in
-/// their order. Where nothing was reset it has the cookies and the list of that setup, and each of its ends that is up holds the
-/// digest of that setup's cookie for the peer.
+/// Every incarnation has the setup with which it began, but for the changes of its own resets, in their order. Where nothing was
+/// reset, and no node began with another setup than its own, it has its node's cookies and list, and each of its ends that is up
+/// holds the digest of its node's cookie for the peer.
 pub fn setups_are_own()
-    ensures changed { (setups : List Setup) (happenings : List Happening) (i : ℕ) (l : Life)
+    ensures begun { (setups : List Setup) (happenings : List Happening) (i : ℕ) (l : Life)
         → (let w = run happenings (empty setups) in slice_get w.lives i ≡ Some l)
-        → IsSetUp setups (changes_at happenings (empty setups) i) l }
+        → HasBegunSetup setups happenings (changes_at happenings (empty setups) i) l }
     ensures unchanged { (setups : List Setup) (happenings : List Happening) → AreNoResets happenings
-        → AllLives (IsSetUp setups []) (run happenings (empty setups)) }
+        → AllLives (IsSetUp setups) (run happenings (empty setups)) }
     ensures digests { (setups : List Setup) (happenings : List Happening) → AreNoResets happenings
         → AllLives (HasSetDigests setups) (run happenings (empty setups)) }
 {
     nodes_keep_laws();
 }
 
-/// A node that is renewed is one that ended, began again at once with the creation that it had, and made again the changes that
-/// gave its setup its cookies and its list: after these happenings its running incarnation is the node that `Node::renew` leaves,
-/// wherever the limits of the world leave room for them.
+/// A node that is renewed is one that ended and began again at once with the setup that it had: its running incarnation is then
+/// the node that `Node::renew` leaves, wherever the limits of the world leave room for this. So it is where it began as it had
+/// begun before, and made again the changes that gave its setup its cookies and its list.
 pub fn renewed_nodes_begin_again()
-    ensures { (setups : List Setup) (happenings : List Happening) (node place : ℕ) (l : Life)
+    ensures anew { (setups : List Setup) (happenings : List Happening) (node place : ℕ) (l : Life)
+        → running (run happenings (empty setups)) node ≡ Some place
+        → (let w = run happenings (empty setups) in slice_get w.lives place ≡ Some l)
+        → HasRoom (run happenings (empty setups)) []
+        → HasOpened (run (renewal node (happening.BeginAs node l.node.setup) []) (run happenings (empty setups))) node l.node.setup }
+    ensures again { (setups : List Setup) (happenings : List Happening) (node place : ℕ) (l : Life)
         → running (run happenings (empty setups)) node ≡ Some place
         → (let w = run happenings (empty setups) in slice_get w.lives place ≡ Some l)
         → HasRoom (run happenings (empty setups)) (changes_at happenings (empty setups) place)
-        → HasOpened
-        (run (renewal node (let n = l.node in let own = n.setup in own.creation) (changes_at happenings (empty setups) place))
-        (run happenings (empty setups))) node l.node.setup }
+        → (begin : Happening) × (applied_as happenings (empty setups) l.begun ≡ Some begin)
+        × HasOpened (run (renewal node begin (changes_at happenings (empty setups) place)) (run happenings (empty setups))) node l.node.setup }
 {
     incarnations_are_in_order();
 }
 
 /// Whatever happens, each body that an end can take next has no byte, or is the canonical spelling of a message whose flags,
-/// where it has any, are those that one of the nodes announces, or the lower half of them.
+/// where it has any, are those that one of the nodes announces with a setup with which it began, or the lower half of them.
 pub fn frames_are_canonical()
-    ensures { (setups : List Setup) (happenings : List Happening) → AreSetups setups → AllFit happenings → AreCanonical setups (run happenings (empty setups)) }
+    ensures { (setups : List Setup) (happenings : List Happening) → AreSetups setups → AllFit happenings
+        → AreCanonical setups happenings (run happenings (empty setups)) }
 {
     nodes_keep_laws();
 }

@@ -1,12 +1,12 @@
-//! The eleven happenings.
+//! The twelve happenings.
 ghost use Rattle.std.specs.{Prelude.◌≡◌, Prelude.Ok, Prelude.slice_get, Prelude.IfOk, Option.option_map};
 ghost use Rattle.dist_world_model.specs.World.{running};
-ghost use Rattle.dist_world_model.specs.Happenings.{notify, notify_node, without_closing, begin, halt, reset};
+ghost use Rattle.dist_world_model.specs.Happenings.{notify, notify_node, without_closing, begin, begin_as, halt, reset};
 ghost use Rattle.dist_world_model.specs.Happenings.{reach, notify_opened, accept, deliver, take_frame, world_after, applied_at};
 ghost use Rattle.dist_world.specs.Doing.{Did, Happened};
 
 use crate::scene::{Scene, setup_at};
-use dist_core::{Change, Event, Opening, Why};
+use dist_core::{Change, Event, Opening, Setup, Why};
 use dist_core_laws::a_reply_is_of_its_end;
 use dist_names::{ByteString, Creation, NodeName};
 use dist_peers::EndId;
@@ -105,6 +105,28 @@ impl Scene {
             return Ok(false);
         };
         self.lives.begin(alloc, node, self.clock, setup, creation)?;
+        self.last_closed = None;
+        Ok(true)
+    }
+
+    // A node that does not run begins with this setup, where it has the node's name.
+    fn begin_as(&mut self, alloc: Global, node: usize, setup: &Setup) -> Result<bool, AllocError>
+        ensures { Did result (begin_as (without_closing self.old) node setup.now) self.old self.new }
+    {
+        if self.running(node).is_some() {
+            return Ok(false);
+        }
+        if self.lives.len() >= MOST_BEGINS {
+            return Ok(false);
+        }
+        let Some(own) = setup_at(&self.setups, node) else {
+            return Ok(false);
+        };
+        if !setup.name.is_same(&own.name) {
+            return Ok(false);
+        }
+        self.lives
+            .begin(alloc, node, self.clock, setup, setup.creation)?;
         self.last_closed = None;
         Ok(true)
     }
@@ -293,6 +315,7 @@ impl Scene {
     {
         match happening {
             Happening::Begin { node, creation } => self.begin(alloc, *node, *creation),
+            Happening::BeginAs { node, setup } => self.begin_as(alloc, *node, setup),
             Happening::Halt { node } => Ok(self.halt(*node)),
             Happening::Dial {
                 node,
