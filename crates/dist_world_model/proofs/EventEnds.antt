@@ -39,7 +39,7 @@ pub record Climbs (n : NodeState) (f : Effect) : Type 0 where
   pub now : f.this ≡ ends.Up kept
   pub spares : (i : ℕ) → dooms f.reply.note i ≡ false
 
-end-of : (n : NodeState) (id : EndId) (e : End) (f : Effect) → Work n id e f → f.reply.end_ ≡ id
+pub end-of : (n : NodeState) (id : EndId) (e : End) (f : Effect) → Work n id e f → f.reply.end_ ≡ id
 end-of n id e f (Shuts say w d) = refl
 end-of n id e f w = refl
 

@@ -51,7 +51,7 @@ abbrev pub Acts : Happening → World → Option World → Type 0
 Acts h w o = IfSome o (Acted h w)
 
 -- what a step that succeeds answers
-step-ok : (n : NodeState) (v : Event) (fresh : ℕ) (x : Reply × NodeState) → step n v fresh ≡ Ok x → (f : Effect) × (effect_of n v fresh ≡ Ok f) × (x ≡ (f.reply, after n v f))
+pub step-ok : (n : NodeState) (v : Event) (fresh : ℕ) (x : Reply × NodeState) → step n v fresh ≡ Ok x → (f : Effect) × (effect_of n v fresh ≡ Ok f) × (x ≡ (f.reply, after n v f))
 step-ok n v fresh x e = by (effect_of n v fresh) refl e
   where
     by : (o : Result Effect StepError) → effect_of n v fresh ≡ o → step_result n v o ≡ Ok x → (f : Effect) × (effect_of n v fresh ≡ Ok f) × (x ≡ (f.reply, after n v f))

@@ -14,22 +14,22 @@ module _ (laws : NodeLaws) (notifying : Notifying) where
 
   -- ---- the event's own row
 
-  record Found : Type 0 where
-    x0 : EndRow
-    e0 : End
-    at-x : slice_get old.rows (me laws notifying) ≡ Some x0
-    at-e : (let n = old.node in slice_get n.ends (me laws notifying)) ≡ Some e0
-    fits : Fits e0 x0
-    row-is : slice_get (rows' laws notifying) (me laws notifying) ≡ Some (row_after w.clock true (dooms f.reply.note (me laws notifying)) (shuts_end f.reply.closed (me laws notifying)) f.reply x0)
+  pub record Found : Type 0 where
+    pub x0 : EndRow
+    pub e0 : End
+    pub at-x : slice_get old.rows (me laws notifying) ≡ Some x0
+    pub at-e : (let n = old.node in slice_get n.ends (me laws notifying)) ≡ Some e0
+    pub fits : Fits e0 x0
+    pub row-is : slice_get (rows' laws notifying) (me laws notifying) ≡ Some (row_after w.clock true (dooms f.reply.note (me laws notifying)) (shuts_end f.reply.closed (me laws notifying)) f.reply x0)
 
-  found : is_given v ≡ false → Found
+  pub found : is_given v ≡ false → Found
   found ng = let e = own-end old.node v f (deed laws notifying) ng in by e.0 e.1 (slice_get old.rows (me laws notifying)) refl (let P : Option End → Type 0 = λ o. Beside o (slice_get old.rows (me laws notifying)) in subst P e.1 ((beside laws notifying) (me laws notifying)))
     where
       by : (e : End) → (let n = old.node in slice_get n.ends (me laws notifying)) ≡ Some e → (o : Option EndRow) → slice_get old.rows (me laws notifying) ≡ o → Beside (Some e) o → Found
       by e ae None ax b = absurd b
       by e ae (Some x) ax b = record { x0 = x; e0 = e; at-x = ax; at-e = ae; fits = b; row-is = get-row-old w.clock v f.reply old.rows (me laws notifying) ng ∙ ap (option_map (mark w.clock f.reply (me laws notifying))) ax ∙ (λ n. Some (row_after w.clock (eqb-self (me laws notifying) n) (dooms f.reply.note (me laws notifying)) (shuts_end f.reply.closed (me laws notifying)) f.reply x)) }
 
-  conn-not : (x : EndRow) → slice_get old.rows (me laws notifying) ≡ Some x → x.conn ≡ None → (c : ℕ) (y : EndRow) → slice_get old.rows (me laws notifying) ≡ Some y → y.conn ≡ Some c → is_given v ≡ true
+  pub conn-not : (x : EndRow) → slice_get old.rows (me laws notifying) ≡ Some x → x.conn ≡ None → (c : ℕ) (y : EndRow) → slice_get old.rows (me laws notifying) ≡ Some y → y.conn ≡ Some c → is_given v ≡ true
   conn-not x ax none c y ay on = absurd (let z : Some x ≡ Some y = sym ax ∙ ay in let q : x ≡ y = cc in let u : None ≡ Some c = sym none ∙ ap (λ (r : EndRow). r.conn) q ∙ on in cc)
 
   -- ---- a row that is given out
@@ -43,7 +43,7 @@ module _ (laws : NodeLaws) (notifying : Notifying) where
       let P : ℕ → Type 0 = λ k. slice_get (rows' laws notifying) k ≡ Some (mark w.clock f.reply k new) in
       subst P (long ∙ sym h.id) (row-new w.clock v f.reply old.rows new is)
 
-  dial-conn : is_given v ≡ true → IsPlain v → conn_of (slice_get (rows' laws notifying) (me laws notifying)) ≡ None
+  pub dial-conn : is_given v ≡ true → IsPlain v → conn_of (slice_get (rows' laws notifying) (me laws notifying)) ≡ None
   dial-conn g plain = by v refl
     where
       by : (u : Event) → v ≡ u → conn_of (slice_get (rows' laws notifying) (me laws notifying)) ≡ None

@@ -19,7 +19,7 @@ pub record IsFit (s : Setup) : Type 0 where
   pub creation : s.creation.0 < 2 ^ 32
 
 -- a digest has 16 bytes
-digest-length : NodeLaws → (s : Setup) (p : List ℕ) (n : ℕ) → length (own_digest s p n) ≡ 16
+pub digest-length : NodeLaws → (s : Setup) (p : List ℕ) (n : ℕ) → length (own_digest s p n) ≡ 16
 unfolding own_digest
 digest-length laws s p n = laws.sayings.digest_len _ n
 

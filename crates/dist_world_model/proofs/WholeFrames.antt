@@ -57,11 +57,11 @@ pub way-delivered : (k : ℕ) (x : Text) → on_way (after_delivery k x) ≡ on_
 way-delivered k x = append_assoc x.come (take k x.said) (drop k x.said) ∙ ap (λ r. x.come ++ r) (take-append-drop k x.said)
 
 -- a whole body stands at the front
-record Starts (s : List ℕ) : Type 0 where
-  long : 2 ≤ length s
-  whole : head w16 s ≤ length (drop 2 s)
+pub record Starts (s : List ℕ) : Type 0 where
+  pub long : 2 ≤ length s
+  pub whole : head w16 s ≤ length (drop 2 s)
 
-starts : (s : List ℕ) → has_first w16 s ≡ true → Starts s
+pub starts : (s : List ℕ) → has_first w16 s ≡ true → Starts s
 starts s h = let p = and_parts (leb 2 (length s)) (leb (head w16 s) (length (drop 2 s))) h in record { long = leb-true _ _ p.0; whole = leb-true _ _ p.1 }
 
 -- the first body of what came is one of those on the way, and the rest is on the way still

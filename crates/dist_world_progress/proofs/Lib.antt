@@ -1,0 +1,10 @@
+pub mod Lines
+pub mod Flows
+pub mod FlowSteps
+pub mod FlowWorlds
+pub mod Handshakes
+pub mod OneSided
+pub mod Stages
+pub mod TakeCounts
+pub mod Taking
+pub mod Deciding
