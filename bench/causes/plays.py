@@ -190,8 +190,21 @@ def dial(address, port, digits):
         pass
 
 
+def crowd(address, port, count):
+    """So many connections, as far as the system makes them within a second, which nobody closes."""
+    kept = []
+    for _ in range(int(count)):
+        talk = socket.socket()
+        talk.setblocking(False)
+        talk.connect_ex((address, int(port)))
+        kept.append(talk)
+    time.sleep(1)
+    print("ready", flush=True)
+    time.sleep(PATIENCE)
+
+
 ROLES = {"hold": hold, "say": say, "close": close, "reset": reset, "tls": tls, "old": old, "up": up, "badack": badack, "give": give, "flagged": flagged,
-         "map": map_node, "dns": dns, "await": wait_for, "dial": dial}
+         "map": map_node, "dns": dns, "await": wait_for, "dial": dial, "crowd": crowd}
 
 if __name__ == "__main__":
     ROLES[sys.argv[1]](*sys.argv[2:])

@@ -1,10 +1,9 @@
 -- What can be said of two nodes from outside.
-use Rattle.std.specs.Prelude.{ℕ, ◌==◌, ◌&&◌, Bool, true, false, not, List, Option, Some, codes, if◌then◌else◌}
+use Rattle.std.specs.Prelude.{ℕ, ◌==◌, ◌&&◌, Bool, not, List, Option, Some, codes, if◌then◌else◌}
 use Rattle.dist_names.specs.{Order.same_name, declared.flags.Flags.Flags}
 use Rattle.dist_flags.specs.Releases.{missing, release_of, required_by}
-use Rattle.dist_probe.specs.{declared.verdict.ProbeVerdict.ProbeVerdict, declared.names.NameStyle.NameStyle, Styles.style_of}
+use Rattle.dist_probe.specs.{declared.verdict.ProbeVerdict.ProbeVerdict, Styles.is_long_and_short}
 use Rattle.dist_probe.specs.declared.verdict.ProbeVerdict.TheVariants as verdict
-use Rattle.dist_probe.specs.declared.names.NameStyle.TheVariants as style
 use Rattle.dist_cluster.specs.declared.pairs.{Half.Half, Pairing.Pairing}
 use Rattle.dist_cluster.specs.declared.pairs.Pairing.TheVariants as pairing
 
@@ -25,17 +24,12 @@ behind_flags (Some first) (Some second) cookies = if ((lacks first second).0 == 
     else pairing.LacksFlags (lacks first second) (lacks second first)
 behind_flags first second cookies = pairing.NotReached
 
-abbrev pub same_style : NameStyle → NameStyle → Bool
-same_style style.Long style.Long = true
-same_style style.Short style.Short = true
-same_style first second = false
-
 -- the first that holds: the same name, a long and a short one, one node not reached, missing flags, different cookies
 abbrev pub pairing_of : Half → Half → Pairing
 pairing_of first second =
     if same_name first.node.now second.node.now then pairing.SameName else
-    if same_style (style_of first.node.now) (style_of second.node.now)
-    then behind_flags first.flags second.flags (behind_cookies first.verdict second.verdict) else pairing.LongAndShort
+    if is_long_and_short first.node.now second.node.now then pairing.LongAndShort else
+    behind_flags first.flags second.flags (behind_cookies first.verdict second.verdict)
 
 -- the word of what can be said of two nodes
 abbrev pub pair_word : Pairing → List ℕ
@@ -50,7 +44,8 @@ pair_word pairing.Agree = codes "Agree"
 -- what it means
 abbrev pub pair_cause : Pairing → List ℕ
 pair_cause pairing.SameName = codes "two nodes of one name never connect"
-pair_cause pairing.LongAndShort = codes "a node of -name and one of -sname never connect"
+pair_cause pairing.LongAndShort =
+    codes "one host part has a dot, the other has none: a node of -sname dials no name with a dot, one of -name none without"
 pair_cause pairing.NotReached = codes "not both answered, so nothing is known of the pair"
 pair_cause (pairing.LacksFlags first second) = codes "one lacks flags that the other's release asks for"
 pair_cause pairing.OtherCookies = codes "they have different cookies: one takes ours, the other does not"

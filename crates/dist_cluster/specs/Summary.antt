@@ -29,8 +29,8 @@ verdict_words =
     codes "Up" ∷ codes "Reached" ∷ codes "NoHost" ∷ codes "ResolverSilent" ∷ codes "MapperRefused" ∷ codes "MapperUnreachable"
     ∷ codes "MapperFault" ∷ codes "NotRegistered" ∷ codes "PortRefused" ∷ codes "PortUnreachable" ∷ codes "Silent" ∷ codes "Gone"
     ∷ codes "Reset" ∷ codes "Foreign" ∷ codes "Unexpected" ∷ codes "OwnName" ∷ codes "Busy" ∷ codes "LacksFlags" ∷ codes "NotOnList"
-    ∷ codes "AlreadyUp" ∷ codes "OtherName" ∷ codes "Version5" ∷ codes "WrongCookie" ∷ codes "WrongAck" ∷ codes "NoMemory"
-    ∷ codes "NoDescriptors" ∷ []
+    ∷ codes "AlreadyUp" ∷ codes "OtherName" ∷ codes "LongAndShort" ∷ codes "Version5" ∷ codes "WrongCookie" ∷ codes "WrongAck"
+    ∷ codes "NoMemory" ∷ codes "NoDescriptors" ∷ []
 
 -- the words of pairs, in the order in which they are looked for
 abbrev pub pair_words : List (List ℕ)

@@ -1,13 +1,13 @@
 //! What can be said of two nodes from outside, once both were dialled.
 
 ghost use Rattle.std.specs.Prelude.{◌≡◌, ◌≢◌, ◌↔◌, IsTrue};
-ghost use Rattle.dist_probe.specs.Styles.{style_of};
+ghost use Rattle.dist_probe.specs.Styles.{is_long_and_short};
 ghost use Rattle.dist_names.specs.Order.{same_name};
 ghost use Rattle.dist_cluster.specs.Pairs.{behind_cookies, behind_flags, is_bad, lacks, pair_cause, pairing_of, pair_status, pair_word};
 
 use dist_flags::{missing, release_of};
 use dist_names::{Flags, NodeName};
-use dist_probe::{ProbeVerdict, style_of};
+use dist_probe::{ProbeVerdict, is_long_and_short};
 
 /// What a probe found out about one node.
 #[derive(Clone, Copy)]
@@ -80,7 +80,7 @@ pub fn pairing_of(first: &Half<'_>, second: &Half<'_>) -> Pairing
     if first.node.is_same(second.node) {
         return Pairing::SameName;
     }
-    if style_of(first.node.bytes()) != style_of(second.node.bytes()) {
+    if is_long_and_short(first.node.bytes(), second.node.bytes()) {
         return Pairing::LongAndShort;
     }
     let cookies = behind_cookies(first.verdict, second.verdict);
@@ -109,7 +109,8 @@ impl Pairing {
     {
         match self {
             Pairing::SameName => "two nodes of one name never connect",
-            Pairing::LongAndShort => "a node of -name and one of -sname never connect",
+            Pairing::LongAndShort =>
+                "one host part has a dot, the other has none: a node of -sname dials no name with a dot, one of -name none without",
             Pairing::NotReached => "not both answered, so nothing is known of the pair",
             Pairing::LacksFlags(..) => "one lacks flags that the other's release asks for",
             Pairing::OtherCookies =>

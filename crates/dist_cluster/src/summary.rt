@@ -8,7 +8,7 @@ use dist_names::is_same_text;
 use std::alloc::{AllocError, Global};
 
 /// The words of verdicts, in the order of their variants.
-const VERDICTS: [&str; 26] = [
+const VERDICTS: [&str; 27] = [
     "Up",
     "Reached",
     "NoHost",
@@ -30,6 +30,7 @@ const VERDICTS: [&str; 26] = [
     "NotOnList",
     "AlreadyUp",
     "OtherName",
+    "LongAndShort",
     "Version5",
     "WrongCookie",
     "WrongAck",

@@ -9,7 +9,8 @@ use Rattle.dist_core_setup.specs.{declared.setup.Setup.Setup, Rules.announced_by
 use Rattle.dist_flags.specs.Releases.{missing, required_by}
 use Rattle.dist_flags.specs.declared.release.Release.TheVariants as release
 use Rattle.dist_stream.specs.{Stream.StreamState, Turns.SaysFront, declared.turn_error.TurnError.TurnError}
-use Rattle.dist_probe.specs.{Hearing.HearsMessage, Hearing.heard_instead, Verdicts.ack_verdict, Verdicts.challenge_verdict, Verdicts.status_verdict}
+use Rattle.dist_probe.specs.{Hearing.HearsMessage, Hearing.heard_instead, Styles.is_long_and_short}
+use Rattle.dist_probe.specs.Verdicts.{ack_verdict, challenge_verdict, status_verdict}
 use Rattle.dist_probe.specs.declared.{hearing.ReceivedMessage.ReceivedMessage, verdict.ProbeVerdict.ProbeVerdict, asking.Peer.Peer, asking.Report.Report}
 use Rattle.dist_probe.specs.declared.hearing.ReceivedMessage.TheVariants as heard
 use Rattle.dist_probe.specs.declared.verdict.ProbeVerdict.TheVariants as verdict
@@ -78,11 +79,17 @@ pub record Replies (setup : Setup) (target : List ℕ)
   pub asked : Asks (reply_text setup form.New target fresh challenge) third old new turns left
   pub is : outcome ≡ outcome_of (ack_verdict (lacking setup) (own_digest setup target fresh) third)
 
--- after what was received where the challenge was due: after that of the node that was dialled a reply, where one is to be made
+-- after the challenge of the node that was dialled: no reply where one name is long and the other short, else one where one is to be made
+abbrev pub DecidesBetween : Bool → Bool → Setup → List ℕ → ℕ → ℕ → StreamState → StreamState → ℕ → ℕ → Result (Unit {0}) ProbeVerdict → Type 0
+DecidesBetween true replies setup target fresh challenge old new turns left outcome = Rests old new turns left × (outcome ≡ Err verdict.LongAndShort)
+DecidesBetween false false setup target fresh challenge old new turns left outcome = Rests old new turns left × (outcome ≡ Err verdict.Reached)
+DecidesBetween false true setup target fresh challenge old new turns left outcome = Replies setup target fresh challenge old new turns left outcome
+
+-- after what was received where the challenge was due
 abbrev pub Decides : Option ProbeVerdict → Bool → Setup → List ℕ → ℕ → ℕ → StreamState → StreamState → ℕ → ℕ → Result (Unit {0}) ProbeVerdict → Type 0
 Decides (Some v) replies setup target fresh challenge old new turns left outcome = Rests old new turns left × (outcome ≡ Err v)
-Decides None false setup target fresh challenge old new turns left outcome = Rests old new turns left × (outcome ≡ Err verdict.Reached)
-Decides None true setup target fresh challenge old new turns left outcome = Replies setup target fresh challenge old new turns left outcome
+Decides None replies setup target fresh challenge old new turns left outcome =
+    DecidesBetween (is_long_and_short setup.name target) replies setup target fresh challenge old new turns left outcome
 
 -- The status let the handshake go on: one message was received where the challenge is due, and the table says how it goes on.
 pub record GoesOn (replies : Bool) (setup : Setup) (target : List ℕ) (fresh : ℕ) (old new : StreamState) (turns left : ℕ) (report : Report) : Type 0 where

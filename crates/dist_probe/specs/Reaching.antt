@@ -44,6 +44,7 @@ reach verdict.AlreadyUp = 10
 reach (verdict.OtherName style) = 11
 reach verdict.Version5 = 11
 reach (verdict.LacksFlags party.Node flags) = 12
+reach verdict.LongAndShort = 12
 reach verdict.WrongCookie = 12
 reach verdict.WrongAck = 12
 reach verdict.Reached = 13

@@ -56,6 +56,8 @@ cause_of (verdict.PortUnreachable unreached.Reset) = codes "the connection to th
 cause_of (verdict.PortUnreachable unreached.Prohibited) =
     codes "the connection to the node's port is prohibited: a firewall or a rule of this machine answers so"
 cause_of (verdict.PortUnreachable unreached.NoAnswer) = codes "the node's port does not answer"
+cause_of (verdict.PortUnreachable unreached.HostDown) =
+    codes "the node's port cannot be reached: a router, a firewall or this machine answers that the host cannot be"
 cause_of (verdict.PortUnreachable unreached) = any_port_cause unreached
 cause_of (verdict.Silent awaited.Status zero) = codes "the connection was accepted, and nothing was said"
 cause_of (verdict.Silent awaited.Challenge zero) = codes "the node took our name, and never said its challenge"
@@ -81,9 +83,10 @@ cause_of (verdict.LacksFlags party.Node flags) = codes "every release of OTP fro
 cause_of verdict.NotOnList = codes "the node refuses our name (not_allowed)"
 cause_of verdict.AlreadyUp = codes "the node already has a connection to our name (alive)"
 cause_of (verdict.OtherName style) = codes "a node of another name answered at that port"
+cause_of verdict.LongAndShort = codes "one host part has a dot, the other has none: a node of -sname dials no name with a dot, one of -name none without"
 cause_of verdict.Version5 = codes "the node knows the handshake of version 5 alone: it is older than OTP 23"
 cause_of verdict.WrongCookie = codes "the node rejects our cookie: it closed the connection upon our reply"
-cause_of verdict.WrongAck = codes "the node took our reply, but its own digest is wrong: it has not the same cookie"
+cause_of verdict.WrongAck = codes "what answered took our reply, but its own digest is wrong: it does not know the cookie"
 cause_of verdict.NoMemory = codes "memory ran out here"
 cause_of verdict.NoDescriptors = codes "this machine, or this process, may have no more descriptors open"
 
@@ -136,7 +139,8 @@ remedy_of verdict.NotRegistered =
     codes "compare with the names that are registered there; the part before the @ has to be the same letters, " ++
     codes "and the node has to run with -name or -sname; a node with another ERL_EPMD_PORT is registered at that port (--epmd-port), " ++
     codes "one with -start_epmd false or -erl_epmd_port P nowhere (--port P), " ++
-    codes "and a node of a dynamic name (-name undefined) takes no connections: it dials"
+    codes "and a node of a dynamic name (-name undefined) or of -dist_listen false takes no connections: it dials; " ++
+    codes "after a restart of epmd, or epmd -stop NAME, a node of OTP 23 stays unregistered: restart it; a newer one is back within seconds"
 remedy_of verdict.PortRefused =
     codes "the registration may be stale, or the node listens at another address of its host (inet_dist_use_interface); " ++
     codes "a firewall that rejects looks the same; behind NAT or a forwarded port dial the port that is forwarded by --port"
@@ -150,7 +154,12 @@ remedy_of (verdict.PortUnreachable unreached.Prohibited) =
     codes "inet_dist_listen_min and inet_dist_listen_max give it a fixed range"
 remedy_of (verdict.PortUnreachable unreached.NoAnswer) =
     codes "open the node's port in the firewall; inet_dist_listen_min and inet_dist_listen_max give it a fixed range; " ++
-    codes "behind NAT or a forwarded port dial the port that is forwarded by --port"
+    codes "behind NAT or a forwarded port dial the port that is forwarded by --port; " ++
+    codes "or the node is frozen (kill -STOP) or overloaded, and takes no more connections: look at its process"
+remedy_of (verdict.PortUnreachable unreached.HostDown) =
+    codes "if the port mapper of that host has just answered, a firewall rejects this one port (admin prohibited, host unreachable): " ++
+    codes "let it pass (nft list ruleset), and give it a fixed range by inet_dist_listen_min and inet_dist_listen_max; " ++
+    codes "else is the host up, and is that its address (ip route get ADDRESS, ip neigh)?"
 remedy_of (verdict.PortUnreachable unreached) = any_port_remedy unreached
 remedy_of (verdict.Silent awaited.Status count) =
     codes "the node may be stopped, overloaded or behind a proxy, or packets are lost on the way; look at its host, " ++
@@ -183,10 +192,15 @@ remedy_of (verdict.OtherName style.Long) = codes "the node was started under ano
 remedy_of (verdict.OtherName style.Short) =
     codes "the node was started under another host part or name, a short one: dial it by the name that it says, from a node of -sname; " ++
     codes "or start it again by -name with a host part that has a dot"
+remedy_of verdict.LongAndShort =
+    codes "start both by -name with a dot in the host part, or both by -sname; without --name the probe takes a name of the node's own form, " ++
+    codes "and tries the cookie; a node of -name without that dot can dial the other, and is not dialled by it"
 remedy_of verdict.Version5 = codes "update it to OTP 23 or newer"
 remedy_of verdict.WrongCookie =
     codes "compare the cookies: erlang:get_cookie() on the node, its ~/.erlang.cookie and -setcookie " ++
     codes "(distnode cookie FILE prints a digest to compare), and erlang:get_cookie(PEER), which it may have for our name alone"
-remedy_of verdict.WrongAck = codes "something between the two answers in the node's place, or the node has another cookie for our name"
+remedy_of verdict.WrongAck =
+    codes "no node of OTP does so: it checks our reply by the cookie from which it makes its own digest; " ++
+    codes "find out which program has that port (ss -ltnp on its host): a proxy, an impostor or a broken node"
 remedy_of verdict.NoMemory = codes "free some memory"
 remedy_of verdict.NoDescriptors = codes "raise the limit of descriptors (ulimit -n), or dial fewer nodes at once"

@@ -7,6 +7,7 @@ ghost use Rattle.dist_probe.specs.Ending.{Asks, Decides, Ends, Exchanges, GoesOn
 
 use crate::hearing::{ReceivedMessage, hear, heard_instead};
 use crate::judging::{ack_verdict, challenge_verdict, status_verdict};
+use crate::names::is_long_and_short;
 use crate::verdict::ProbeVerdict;
 use dist_core_setup::{Setup, announced_by, name_frame, own_digest, reply_frame};
 use dist_flags::{Release, missing};
@@ -169,6 +170,9 @@ fn answer_challenge<S: Stream>(
         (S.meaning limited.old.stream.now) (S.meaning limited.new.stream.now) limited.old.left limited.new.left result }
     ensures loan { limited.new.stream.ghost_name ≡ limited.old.stream.ghost_name }
 {
+    if is_long_and_short(setup.name.bytes(), target.bytes()) {
+        return Err(ProbeVerdict::LongAndShort);
+    }
     if !replies {
         return Err(ProbeVerdict::Reached);
     }
@@ -237,7 +241,8 @@ fn end_refused<S: Stream>(
 /// whether both have the same cookie. `fresh` is the own challenge.
 ///
 /// The opening is the newer name. Where `replies` is false the talk ends at the node's challenge, so nothing of a cookie is
-/// shown, and the node never counts the probe as up. Where the node sends `alive`, the answer is `false`: its old connection
+/// shown, and the node never counts the probe as up; nor does it where one of the two names is long and the other short, since then
+/// neither node dials the other. Where the node sends `alive`, the answer is `false`: its old connection
 /// stays. The caller closes the connection, at once: an end that comes up is not kept.
 pub fn ask_node<S: Stream>(
     alloc: Global,

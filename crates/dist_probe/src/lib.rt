@@ -22,7 +22,7 @@ pub use bodies::{Came, read_frame_of};
 pub use hearing::{ReceivedMessage, hear, heard_instead};
 pub use judging::{ack_verdict, challenge_verdict, status_verdict};
 pub use knocking::speaks_tls;
-pub use names::{NameStyle, style_of};
+pub use names::{NameStyle, is_long_and_short, style_of};
 pub use reaching::{furthest, is_found, reach};
 pub use service::{Service, service_of};
 pub use unreached::{Unreached, mapper_verdict, port_verdict, unreached_of};

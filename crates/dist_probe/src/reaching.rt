@@ -53,6 +53,7 @@ pub fn reach(verdict: ProbeVerdict) -> u8
         | ProbeVerdict::AlreadyUp => 10,
         ProbeVerdict::OtherName(_) | ProbeVerdict::Version5 => 11,
         ProbeVerdict::LacksFlags(Party::Node, _)
+        | ProbeVerdict::LongAndShort
         | ProbeVerdict::WrongCookie
         | ProbeVerdict::WrongAck => 12,
         ProbeVerdict::Reached | ProbeVerdict::Up => 13,

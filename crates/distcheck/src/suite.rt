@@ -20,6 +20,9 @@ pub struct SuiteFile {
 // The folder of the rows beside that of the program: PREFIX/bin/distcheck has them in PREFIX/share/distcheck.
 const BESIDE: &str = "share/distcheck";
 
+// The folder of the rows where a package puts them. It counts where the system doesn't say where the program stands: without `/proc`.
+const INSTALLED: &str = "/usr/share/distcheck";
+
 // How the name of a file of rows ends.
 const ENDING: &str = ".rows";
 
@@ -46,14 +49,14 @@ fn prefix_of(file: &str) -> Option<&str> {
     Some(prefix)
 }
 
-// The folder of the rows: that of the command line, or that beside the program's.
+// The folder of the rows: that of the command line, or that beside the program's, or else that of a package.
 fn folder_of(rt: &HostRuntime, order: &CheckOrder<'_>) -> Result<String, Fault> {
     let alloc = rt.alloc();
     if let Some(folder) = order.rows {
         return Ok(folder.to_owned(alloc)?);
     }
     let Ok(program) = env::current_exe(rt) else {
-        return Err(unread(alloc, BESIDE));
+        return Ok(INSTALLED.to_owned(alloc)?);
     };
     match prefix_of(program.path_text()) {
         Some(prefix) => Ok(format!(in alloc; "{prefix}/{BESIDE}")?),

@@ -63,11 +63,6 @@ digest_in other = []
 abbrev pub upon_reply : DiallerPart → ReceivedMessage → Standing
 upon_reply part h = standing.Verdict (ack_verdict part.lacking (unwrap_or part.wanted (digest_in h)) h)
 
--- what these three mean, received in turn: each counts only where those before let the handshake go on
-abbrev pub standing_of : DiallerPart → ReceivedMessage → ReceivedMessage → ReceivedMessage → Standing
-standing_of part first second third =
-    unwrap_or (upon_status part first) (unwrap_or (upon_challenge part second) (upon_reply part third))
-
 -- ---- what is received
 
 -- the last message

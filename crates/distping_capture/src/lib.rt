@@ -1,7 +1,7 @@
 //! What a capture shows of Erlang's distribution: what was said on each connection, how it ended, and what that means.
 //!
 //! It opens no socket and has no clock: it reads the segments of TCP in a capture, and prints lines of text. The verdict on an attempt is
-//! that of the live probe upon the same bytes.
+//! made by the tables of the live probe, with the name in the challenge as the one that was dialled.
 #![tactic(auto)]
 
 mod attempt;
@@ -11,7 +11,6 @@ mod dials;
 mod facts;
 mod finder;
 mod judging;
-mod laws;
 mod lines;
 mod look;
 mod nodes;
@@ -23,6 +22,5 @@ mod replay;
 mod said;
 
 pub use judging::{DiallerPart, Standing, judge};
-pub use laws::as_the_live_probe;
 pub use outcome::AttemptOutcome;
 pub use reading::read_capture;

@@ -7,6 +7,7 @@ ghost use Rattle.distping_words.specs.declared.refusal.Refusal.TheVariants as re
 
 use crate::fault::Fault;
 use dist_program::{CookieFault, WordFault};
+use dist_secret::CookieError;
 use std::alloc::AllocError;
 use std::fmt;
 
@@ -33,10 +34,26 @@ pub fn refuse(sentence: Result<String, AllocError>) -> Refusal
     }
 }
 
+// What is printed of a file that has no cookie, if its bytes are to blame.
+fn text_of_bytes(fault: &CookieFault) -> Option<&'static str> {
+    match fault {
+        CookieFault::NoCookie(CookieError::BadByte) => Some(
+            "BadByte: the cookie's file has a byte that no Erlang cookie may have, outside 0x20 to 0x7E, or something after the cookie's line",
+        ),
+        CookieFault::NoCookie(CookieError::Empty) => Some(
+            "Empty: the cookie's file has no byte, or begins with one that no Erlang cookie may have, as the byte order mark of UTF-8 does",
+        ),
+        _ => None,
+    }
+}
+
 impl fmt::Display for Refusal {
     fn fmt<W: fmt::Write>(&self, f: &mut fmt::Formatter<W>) -> fmt::Result {
         match self {
-            Refusal::NoCookie(fault) => write!(f, "{fault}"),
+            Refusal::NoCookie(fault) => match text_of_bytes(fault) {
+                Some(text) => f.write_str(text),
+                None => write!(f, "{fault}"),
+            },
             Refusal::BadWord(sentence) => f.write_str(sentence.as_str()),
             Refusal::Fault(fault) => write!(f, "{fault}"),
         }

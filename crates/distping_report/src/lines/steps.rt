@@ -8,7 +8,7 @@ use dist_epmd_calls::LookupError;
 use dist_flags::{Dflag, Release, ReleaseShown, is_refused_by_all, oldest_refusal, release_shown};
 use dist_messages::Status;
 use dist_names::{Creation, Flags, NodeName, escape_lines};
-use dist_probe::{ProbeVerdict, Unreached, style_of};
+use dist_probe::{ProbeVerdict, Unreached, is_long_and_short};
 use distping_words::Fault;
 use std::net::SocketAddr;
 
@@ -51,13 +51,13 @@ fn lookup_text(error: LookupError) -> &'static str {
 }
 
 impl LineSink<'_> {
-    /// Warns if nodes with these two names never dial each other.
+    /// Warns if one of these two names is long and the other short.
     pub fn put_styles(self, own: &NodeName, node: &NodeName) -> Result<(), Fault> {
-        if style_of(own.bytes()) == style_of(node.bytes()) {
+        if !is_long_and_short(own.bytes(), node.bytes()) {
             return Ok(());
         }
         self.put_text(
-            "!  names     one host part has a dot, the other has none: nodes of -name and of -sname never dial each other",
+            "!  names     one host part has a dot, the other has none: a node of -sname dials no name with a dot, one of -name none without",
         )
     }
 
