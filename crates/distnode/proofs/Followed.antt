@@ -6,7 +6,7 @@ use Rattle.dist_script.specs.Fault as script
 use Rattle.dist_script_play.specs.Scenes.{IsBad, IsCut}
 use Rattle.distnode.specs.Followed.{StopsCookieAt, StopsAnswer, StopsRunAt, EndsPlay}
 use Rattle.distnode.specs.{declared.fault.Fault.Fault, Fault.status_of, Fault.fault_line, Stopped.EndsByFault, Stopped.StopsCookie, Stopped.StopsNames}
-use Rattle.distnode.specs.{RunPrinted.PrintsRunOf, RunStopped.IsNoNodesFile, RunStopped.StopsRunOf}
+use Rattle.distnode.specs.RunStopped.{IsNoNodesFile, StopsRunOf}
 use Rattle.distnode.specs.declared.fault.Fault.TheVariants as fault
 
 -- ---- a fault that ended it
@@ -54,9 +54,8 @@ run_at bytes here left a b same fault.OpenFailed stops = absurd stops.3
 run_at bytes here left a b same f stops = (left, subst (λ x. StopsRunOf x left a b f) same stops)
 
 -- of the file that was opened
-pub run_ended : (bytes here left : Option (List ℕ)) (a b c d : Option (List ℕ)) → here ≡ bytes → (PrintsRunOf here left 1 a b × (d ≡ c)) ⊎ EndsByFault (StopsRunOf here left a b) 1 c d → ((l : Option (List ℕ)) × PrintsRunOf bytes l 1 a b × (d ≡ c)) ⊎ EndsByFault (StopsRunAt bytes a b) 1 c d
-run_ended bytes here left a b c d same (inl prints) = inl (left, subst (λ x. PrintsRunOf x left 1 a b) same prints.0, prints.1)
-run_ended bytes here left a b c d same (inr by) = inr (weaken (StopsRunOf here left a b) (StopsRunAt bytes a b) 1 c d (run_at bytes here left a b same) by)
+pub run_ended : (bytes here left : Option (List ℕ)) (a b c d : Option (List ℕ)) → here ≡ bytes → EndsByFault (StopsRunOf here left a b) 1 c d → EndsByFault (StopsRunAt bytes a b) 1 c d
+run_ended bytes here left a b c d same by = weaken (StopsRunOf here left a b) (StopsRunAt bytes a b) 1 c d (run_at bytes here left a b same) by
 
 -- which is no nodes file
 pub run_refused : (bytes here left : Option (List ℕ)) (a b c d : Option (List ℕ)) → here ≡ bytes → IsNoNodesFile here left → b ≡ a → PutsFront (codes "distnode: bad nodes file\n") c d → EndsByFault (StopsRunAt bytes a b) 2 c d
@@ -64,8 +63,8 @@ run_refused bytes here left a b c d same none unprinted line =
     ended_by (StopsRunAt bytes a b) fault.BadNodesFile c d (left, (subst (λ x. IsNoNodesFile x left) same none, unprinted)) line
 
 -- which could not be opened
-pub run_unopened : (bytes : Option (List ℕ)) (a c d : Option (List ℕ)) → PutsFront (fault_line fault.OpenFailed) c d → ((l : Option (List ℕ)) × PrintsRunOf bytes l 1 a a × (d ≡ c)) ⊎ EndsByFault (StopsRunAt bytes a a) 1 c d
-run_unopened bytes a c d line = inr (ended_by (StopsRunAt bytes a a) fault.OpenFailed c d refl line)
+pub run_unopened : (bytes : Option (List ℕ)) (a c d : Option (List ℕ)) → PutsFront (fault_line fault.OpenFailed) c d → EndsByFault (StopsRunAt bytes a a) 1 c d
+run_unopened bytes a c d line = ended_by (StopsRunAt bytes a a) fault.OpenFailed c d refl line
 
 -- ---- `enact`
 

@@ -1,5 +1,5 @@
 -- What is printed in parts.
-use Rattle.std.proofs.Common.{◌≡◌, ◌∙◌, ℕ, zero, suc, ◌+◌, ◌<◌, List, [], ◌∷◌, ◌++◌, codes, Option, Some, length, take, get_or, refl, sym, ap, subst, arith, append-nil, append_assoc, add-one}
+use Rattle.std.proofs.Common.{◌≡◌, ◌∙◌, ℕ, zero, suc, ◌+◌, ◌<◌, List, [], ◌∷◌, ◌++◌, codes, Option, Some, None, length, take, get_or, refl, sym, ap, subst, arith, append-nil, append_assoc, add-one}
 use Rattle.std.proofs.KnownBytes.{Appends-nil, Appends-trans}
 use Rattle.std.specs.{List.flat_map, Io.KnownBytes.Appends, Io.KnownBytes.Consumes, Io.KnownBytes.IsAtEnd}
 use Rattle.dist_world_model.specs.World.{World}
@@ -41,24 +41,24 @@ pub held : (w : World) (a b c d : Option (List ℕ)) → Appends a b (nodes_text
 held w a b c d p q r = (nodes_text w ++ q.0 ++ codes "audit holds\n", (q.0, q.1, refl), in_three a b c d (nodes_text w) q.0 (codes "audit holds\n") p q.2 r)
 
 -- where the audit holds
-pub says_held : (cs : List Closed) (w : World) (a b : Option (List ℕ)) → IsWorldOf cs w → Puts (IsHeld w) a b → Puts (IsAudited 0 cs) a b
+pub says_held : (cs : List Closed) (w : World) (a b : Option (List ℕ)) → IsWorldOf cs w → Puts (IsHeld w) a b → Puts (IsAudited None cs) a b
 says_held cs w a b is p = (p.0, (w, is, p.1), p.2)
 
 -- where it refuses
-pub says_refused : (cs : List Closed) (e : AuditError) (a b : Option (List ℕ)) → Reports e cs → ReportsFirst e cs → Appends a b (refusal_text e cs) → Puts (IsAudited 1 cs) a b
-says_refused cs e a b reports first p = (refusal_text e cs, (e, reports, first, refl), p)
+pub says_refused : (cs : List Closed) (e : AuditError) (a b : Option (List ℕ)) → Reports e cs → ReportsFirst e cs → Appends a b (refusal_text e cs) → Puts (IsAudited (Some e) cs) a b
+says_refused cs e a b reports first p = (refusal_text e cs, (reports, first, refl), p)
 
 -- the orders, and then what is printed
-pub of_run : (status : ℕ) (fs gs : List OrderFault) (cs ds : List Closed) (a b c : Option (List ℕ)) → gs ≡ fs → ds ≡ cs → Appends a b (orders_text gs) → Puts (IsAudited status ds) b c → Puts (IsOfRun status fs cs) a c
-of_run status fs gs cs ds a b c e d p q = (orders_text fs ++ q.0, (q.0, subst (λ x. IsAudited status x q.0) d q.1, refl), Appends-trans a b c (orders_text fs) q.0 (subst (λ x. Appends a b (orders_text x)) e p) q.2)
+pub of_run : (refusal : Option AuditError) (fs gs : List OrderFault) (cs ds : List Closed) (a b c : Option (List ℕ)) → gs ≡ fs → ds ≡ cs → Appends a b (orders_text gs) → Puts (IsAudited refusal ds) b c → Puts (IsOfRun refusal fs cs) a c
+of_run refusal fs gs cs ds a b c e d p q = (orders_text fs ++ q.0, (q.0, subst (λ x. IsAudited refusal x q.0) d q.1, refl), Appends-trans a b c (orders_text fs) q.0 (subst (λ x. Appends a b (orders_text x)) e p) q.2)
 
 -- the text of a nodes file, run
-pub of_text : (file : List ℕ) (plan : Plan) (faults : List OrderFault) (closed : List Closed) (status : ℕ) (a b : Option (List ℕ)) → plan_of file ≡ Some plan → AreOfPlans plan.node closed → AreInOrder faults → AreObeyed plan faults closed → Puts (IsOfRun status faults closed) a b → PrintsRun file status a b
-of_text file plan faults closed status a b says nodes order orders put = record { plan = plan; faults = faults; closed = closed; says = says; nodes = nodes; order = order; orders = orders; text = put }
+pub of_text : (file : List ℕ) (plan : Plan) (faults : List OrderFault) (closed : List Closed) (refusal : Option AuditError) (a b : Option (List ℕ)) → plan_of file ≡ Some plan → AreOfPlans plan.node closed → AreInOrder faults → AreObeyed plan faults closed → Puts (IsOfRun refusal faults closed) a b → PrintsRun file refusal a b
+of_text file plan faults closed refusal a b says nodes order orders put = record { plan = plan; faults = faults; closed = closed; says = says; nodes = nodes; order = order; orders = orders; text = put }
 
 -- a nodes file that was read to its end, run
-pub of_file : (before after : Option (List ℕ)) (file text : List ℕ) (status : ℕ) (a b : Option (List ℕ)) → text ≡ file → Consumes before after file → IsAtEnd after → PrintsRun text status a b → PrintsRunOf before after status a b
-of_file before after file text status a b same taken end prints = (file, taken, end, subst (λ t. PrintsRun t status a b) same prints)
+pub of_file : (before after : Option (List ℕ)) (file text : List ℕ) (refusal : Option AuditError) (a b : Option (List ℕ)) → text ≡ file → Consumes before after file → IsAtEnd after → PrintsRun text refusal a b → PrintsRunOf before after refusal a b
+of_file before after file text refusal a b same taken end prints = (file, taken, end, subst (λ t. PrintsRun t refusal a b) same prints)
 
 -- no fault ends with status 0
 pub never_zero : (f : Fault) → status_of f ≡ 0 → ⊥

@@ -4,28 +4,21 @@ use Rattle.std.specs.{Result.IsErrAnd, Io.KnownBytes.Consumes, Io.KnownBytes.IsA
 use Rattle.dist_locked_book.specs.declared.closing.Closed.{Closed}
 use Rattle.dist_run_plan.specs.Plans.{plan_of}
 use Rattle.dist_run_hosts.specs.declared.order_fault.OrderFault.{OrderFault}
+use Rattle.dist_audit.specs.declared.audit_error.AuditError.{AuditError}
 use Rattle.dist_script.specs.Texts.{PutsFront}
-use Rattle.distnode.specs.{declared.fault.Fault.Fault, Fault.status_of, RunPrinted.Puts, RunPrinted.IsOfRun, RunPrinted.IsUnprinted}
+use Rattle.distnode.specs.{declared.fault.Fault.Fault, Fault.status_of, RunPrinted.Puts, RunPrinted.IsOfRun}
 use Rattle.distnode.specs.{RunStopped.StopsPrinting, RunStopped.StopsRun, RunStopped.StopsRunOf}
 use Rattle.distnode.specs.declared.fault.Fault.TheVariants as fault
 
 -- what a run printed could not be written
-pub cut_run : (faults : List OrderFault) (closed : List Closed) (status : ℕ) (made text : List ℕ) (a b : Option (List ℕ)) → Puts (IsOfRun status faults closed) (Some []) (Some made) → text ≡ made → PutsFront text a b → StopsPrinting faults closed a b fault.WriteFailed
-cut_run faults closed status made text a b puts same put = (status, made, puts, subst (λ t. PutsFront t a b) same put)
+pub cut_run : (faults : List OrderFault) (closed : List Closed) (refusal : Option AuditError) (made text : List ℕ) (a b : Option (List ℕ)) → Puts (IsOfRun refusal faults closed) (Some []) (Some made) → text ≡ made → PutsFront text a b → StopsPrinting faults closed a b fault.WriteFailed
+cut_run faults closed refusal made text a b puts same put = (refusal, made, puts, subst (λ t. PutsFront t a b) same put)
 
 -- with status 2 the text is no nodes file, and nothing of a run was printed
 pub is_bad : (file : List ℕ) (a b : Option (List ℕ)) (f : Fault) → StopsRun file a b f → status_of f ≡ 2 → (f ≡ fault.BadNodesFile) × (plan_of file ≡ None) × (b ≡ a)
 is_bad file a b fault.BadNodesFile stops two = (refl, stops.0, stops.1)
 is_bad file a b fault.BadCommandLine stops two = absurd stops
 is_bad file a b other stops two = absurd cc
-
--- a fault that stopped a run left standard output as it was, or could not write it
-pub unprinted : (file : List ℕ) (a b : Option (List ℕ)) (f : Fault) → StopsRun file a b f → IsUnprinted f a b
-unprinted file a b fault.BadNodesFile stops = stops.1
-unprinted file a b (fault.RunEnded why) stops = stops.2
-unprinted file a b fault.WriteFailed stops = tt
-unprinted file a b fault.NoMemory stops = stops
-unprinted file a b other stops = absurd stops
 
 -- of the fault that a `?` returns
 pub at_err : {X : Type 0} (P : Fault → Type 0) (r : Result X Fault) (f : Fault) → IsErrAnd r (λ g. g ≡ f) → P f → IfErr r P
@@ -38,6 +31,7 @@ at_err P (Err g) f h p = subst P (sym h) p
 pub of_stopped : (before after : Option (List ℕ)) (file text : List ℕ) (a b : Option (List ℕ)) (f : Fault) → text ≡ file → Consumes before after file → IsAtEnd after → StopsRun text a b f → StopsRunOf before after a b f
 of_stopped before after file text a b fault.BadNodesFile same taken end stops = ((file, taken, inr (end, inr (subst (λ t. plan_of t ≡ None) same stops.0))), stops.1)
 of_stopped before after file text a b (fault.RunEnded why) same taken end stops = (file, taken, end, subst (λ t. StopsRun t a b (fault.RunEnded why)) same stops)
+of_stopped before after file text a b (fault.AuditRefused e) same taken end stops = (file, taken, end, subst (λ t. StopsRun t a b (fault.AuditRefused e)) same stops)
 of_stopped before after file text a b fault.WriteFailed same taken end stops = (file, taken, end, subst (λ t. StopsRun t a b fault.WriteFailed) same stops)
 of_stopped before after file text a b fault.NoMemory same taken end stops = stops
 of_stopped before after file text a b other same taken end stops = absurd stops

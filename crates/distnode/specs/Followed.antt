@@ -1,5 +1,5 @@
 -- WHAT EACH ORDER DOES.
-use Rattle.std.specs.Prelude.{◌≡◌, ◌⊎◌, ℕ, Bool, List, Option, Result, Err}
+use Rattle.std.specs.Prelude.{◌≡◌, ◌⊎◌, ℕ, Bool, List, Option, None, Result, Err}
 use Rattle.dist_stream.specs.Stream.{StreamState}
 use Rattle.distnode.specs.{declared.order_of_words.Order.Order, declared.fault.Fault.Fault, declared.fault.Fault.TheVariants.OpenFailed}
 use Rattle.distnode.specs.{declared.fault.Fault.TheVariants.ConnectFailed, Fault.port_line, Printed.PrintsCookie, Printed.PrintsNames, Stopped.EndsByFault}
@@ -22,7 +22,7 @@ Follows files talks terminal before after order.Enact old new = Plays before aft
 Follows files talks terminal before after (order.Cookie file challenge) old new =
     (left : Option (List ℕ)) × PrintsCookie (files file.now) left challenge old new
 Follows files talks terminal before after (order.Names port) old new = PrintsAnswer terminal (talks port) old new
-Follows files talks terminal before after (order.Run file) old new = (left : Option (List ℕ)) × PrintsRunOf (files file.now) left 0 old new
+Follows files talks terminal before after (order.Run file) old new = (left : Option (List ℕ)) × PrintsRunOf (files file.now) left None old new
 
 -- a script is at fault, with status 2, or its playing was cut short, with status 1; the line of that fault was written to standard
 -- error, or a prefix of it
@@ -53,7 +53,7 @@ EndsByPort named status old new err_old err_new =
     (error : WordFault) × (named ≡ Err error) × (word_fault_status error ≡ status) × (new ≡ old) × PutsFront (port_line error) err_old err_new
 
 -- AN ORDER THAT WAS NOT DONE, and ended with this status: a fault stopped its command, and the line of the fault was written to
--- standard error, or a prefix of it; or the audit of its run refused, which was printed, and nothing was written to standard error
+-- standard error, or a prefix of it
 abbrev pub Ends : (List ℕ → Option (List ℕ)) → (ℕ → StreamState) → Bool → Result ℕ WordFault → Option (List ℕ) → Option (List ℕ) → Order
     → ℕ → Option (List ℕ) → Option (List ℕ) → Option (List ℕ) → Option (List ℕ) → Type 0
 Ends files talks terminal named before after order.Enact status old new err_old err_new =
@@ -64,5 +64,4 @@ Ends files talks terminal named before after (order.Names port) status old new e
     EndsByPort named status old new err_old err_new
     ⊎ EndsByFault (StopsAnswer terminal (talks port) old new) status err_old err_new
 Ends files talks terminal named before after (order.Run file) status old new err_old err_new =
-    ((left : Option (List ℕ)) × PrintsRunOf (files file.now) left 1 old new × (status ≡ 1) × (err_new ≡ err_old))
-    ⊎ EndsByFault (StopsRunAt (files file.now) old new) status err_old err_new
+    EndsByFault (StopsRunAt (files file.now) old new) status err_old err_new

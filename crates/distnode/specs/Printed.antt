@@ -1,6 +1,6 @@
 -- WHAT `cookie` AND `names` PRINT.
-use Rattle.std.specs.Prelude.{◌≡◌, ℕ, Bool, true, false, List, ◌∷◌, [], length, codes, decimal, Option, Ok}
-use Rattle.std.specs.{List.All, List.concat, Io.KnownBytes.Appends}
+use Rattle.std.specs.Prelude.{◌≡◌, ◌==◌, ◌||◌, ℕ, Bool, true, false, List, ◌∷◌, [], length, codes, decimal, Option, Ok}
+use Rattle.std.specs.{List.All, List.concat, List.ends_with, Io.KnownBytes.Appends}
 use Rattle.hex.specs.Hex.{encode_lower}
 use Rattle.dist_names.specs.Escaped.{escaped_lines, IsPrintableOrLineFeed}
 use Rattle.dist_secret.specs.{Digest.digest_of, Hearing.Hears}
@@ -27,8 +27,14 @@ abbrev pub answer_text : Bool → List ℕ → List ℕ
 answer_text true text = escaped_lines text
 answer_text false text = text
 
--- the text of the answer to the question for all nodes was written, after at most this many turns; no terminal acts on its bytes
+-- a text that consists of whole lines, or is empty: any other was cut off
+abbrev pub has_whole_lines : List ℕ → Bool
+has_whole_lines text = length text == 0 || ends_with ◌==◌ text (0x0A ∷ [])
+
+-- the text of the answer to the question for all nodes was written, after at most this many turns; no terminal acts on its bytes, and it
+-- ends with a line
 abbrev pub PrintsNames : Bool → StreamState → StreamState → ℕ → Option (List ℕ) → Option (List ℕ) → Type 0
 PrintsNames terminal before after turns old new =
     (port : ℕ) × (text : List ℕ) × AsksFor Names before after turns names_meant (Ok (port, text))
-    × (terminal ≡ true → All IsPrintableOrLineFeed (answer_text terminal text)) × Appends old new (answer_text terminal text)
+    × (has_whole_lines text ≡ true) × (terminal ≡ true → All IsPrintableOrLineFeed (answer_text terminal text))
+    × Appends old new (answer_text terminal text)

@@ -1,5 +1,5 @@
 -- WHAT `run` PRINTS.
-use Rattle.std.specs.Prelude.{◌≡◌, ℕ, zero, suc, List, [], ◌∷◌, ◌++◌, codes, decimal, Option, Some}
+use Rattle.std.specs.Prelude.{◌≡◌, ℕ, List, [], ◌∷◌, ◌++◌, codes, decimal, Option, Some, None}
 use Rattle.std.specs.{List.concat, List.flat_map, Io.KnownBytes.Appends, Io.KnownBytes.Consumes, Io.KnownBytes.IsAtEnd}
 use Rattle.dist_world_model.specs.World.{World}
 use Rattle.dist_locked_book.specs.declared.closing.Closed.{Closed}
@@ -8,7 +8,6 @@ use Rattle.dist_audit.specs.{declared.audit_error.AuditError.AuditError, Refusal
 use Rattle.dist_run_plan.specs.{declared.plan.Plan.Plan, Plans.plan_of}
 use Rattle.dist_run_hosts.specs.{Setups.AreOfPlans, Orders.AreObeyed, Words.order_refusal_name, declared.order_fault.OrderFault.OrderFault, Runs.AreInOrder}
 use Rattle.dist_script_play.specs.{Lines.node_text, Worlds.nodes_text, Worlds.AreAgreements}
-use Rattle.distnode.specs.{declared.fault.Fault.Fault, declared.fault.Fault.TheVariants.WriteFailed, Fault.status_of}
 
 -- a text of this kind was written
 abbrev pub Puts : (List ℕ → Type 0) → Option (List ℕ) → Option (List ℕ) → Type 0
@@ -42,19 +41,18 @@ refusal_text e closed = closed_text closed ++ refused_line e
 abbrev pub IsHeld : World → List ℕ → Type 0
 IsHeld w text = (agreements : List ℕ) × AreAgreements w agreements × (text ≡ nodes_text w ++ agreements ++ codes "audit holds\n")
 
--- WHAT IS PRINTED OF CLOSED NODES, by the exit status. With 0 it is the text of one world that has these nodes; its ends that are up
--- hold the digests of the cookies with which these nodes were set up. With 1 it is the audit's first refusal.
-abbrev pub IsAudited : ℕ → List Closed → List ℕ → Type 0
-IsAudited zero closed text = (w : World) × IsWorldOf closed w × IsHeld w text
-IsAudited (suc zero) closed text = (e : AuditError) × Reports e closed × ReportsFirst e closed × (text ≡ refusal_text e closed)
-IsAudited (suc (suc status)) closed text = ⊥
+-- WHAT IS PRINTED OF CLOSED NODES, by the audit's refusal. Without one it is the text of one world that has these nodes; its ends that are
+-- up hold the digests of the cookies with which these nodes were set up. A refusal is the audit's first, and stands there.
+abbrev pub IsAudited : Option AuditError → List Closed → List ℕ → Type 0
+IsAudited None closed text = (w : World) × IsWorldOf closed w × IsHeld w text
+IsAudited (Some e) closed text = Reports e closed × ReportsFirst e closed × (text ≡ refusal_text e closed)
 
 -- THE TEXT OF A RUN: the orders that made no dial, and what is printed of its closed nodes
-abbrev pub IsOfRun : ℕ → List OrderFault → List Closed → List ℕ → Type 0
-IsOfRun status faults closed text = (said : List ℕ) × IsAudited status closed said × (text ≡ orders_text faults ++ said)
+abbrev pub IsOfRun : Option AuditError → List OrderFault → List Closed → List ℕ → Type 0
+IsOfRun refusal faults closed text = (said : List ℕ) × IsAudited refusal closed said × (text ≡ orders_text faults ++ said)
 
--- WHAT `run` PRINTS, by the exit status: the text of a run of the nodes file
-pub record PrintsRun (file : List ℕ) (status : ℕ) (old new : Option (List ℕ)) : Type 0 where
+-- WHAT `run` PRINTS, by the audit's refusal: the text of a run of the nodes file
+pub record PrintsRun (file : List ℕ) (refusal : Option AuditError) (old new : Option (List ℕ)) : Type 0 where
   -- the plan in the file
   pub plan : Plan
   -- the orders that made no dial
@@ -70,17 +68,8 @@ pub record PrintsRun (file : List ℕ) (status : ℕ) (old new : Option (List �
   -- each order of the file made its dial once, or is one of these and made none; no node made another dial
   pub orders : AreObeyed plan faults closed
   -- just their text was written
-  pub text : Puts (IsOfRun status faults closed) old new
+  pub text : Puts (IsOfRun refusal faults closed) old new
 
 -- the same for a nodes file that was read to its end
-abbrev pub PrintsRunOf : Option (List ℕ) → Option (List ℕ) → ℕ → Option (List ℕ) → Option (List ℕ) → Type 0
-PrintsRunOf before after status old new = (file : List ℕ) × Consumes before after file × IsAtEnd after × PrintsRun file status old new
-
--- nothing was written, unless a write failed
-abbrev pub IsUnprinted : Fault → Option (List ℕ) → Option (List ℕ) → Type 0
-IsUnprinted WriteFailed old new = Unit {0}
-IsUnprinted e old new = new ≡ old
-
--- a fault of status 1 ended the command, and nothing was printed
-abbrev pub PrintsNothing : Option (List ℕ) → Option (List ℕ) → Type 0
-PrintsNothing old new = (e : Fault) × (status_of e ≡ 1) × IsUnprinted e old new
+abbrev pub PrintsRunOf : Option (List ℕ) → Option (List ℕ) → Option AuditError → Option (List ℕ) → Option (List ℕ) → Type 0
+PrintsRunOf before after refusal old new = (file : List ℕ) × Consumes before after file × IsAtEnd after × PrintsRun file refusal old new

@@ -1,12 +1,15 @@
 -- WHAT A FAULT LEAVES: why a command ended early, and what was then written to standard output and standard error.
-use Rattle.std.specs.Prelude.{◌≡◌, ℕ, Bool, true, List, Option, Ok, Err}
+use Rattle.std.specs.Prelude.{◌≡◌, ℕ, Bool, true, false, List, Option, Ok, Err}
 use Rattle.dist_secret.specs.Hearing.{Hears}
 use Rattle.dist_stream.specs.Stream.{StreamState}
 use Rattle.dist_epmd.specs.declared.message.Request.TheVariants.{Names}
 use Rattle.dist_epmd_calls.specs.Asking.{AsksFor, names_meant}
+use Rattle.std.specs.{List.All, Io.KnownBytes.Appends}
+use Rattle.dist_names.specs.Escaped.{IsPrintableOrLineFeed}
 use Rattle.dist_script.specs.Texts.{PutsFront}
-use Rattle.distnode.specs.declared.fault.Fault.TheVariants.{WriteFailed, NoCookie, NoAnswer, NoMemory}
+use Rattle.distnode.specs.declared.fault.Fault.TheVariants.{WriteFailed, NoCookie, NoAnswer, AnswerCut, NoMemory}
 use Rattle.distnode.specs.{declared.fault.Fault.Fault, Fault.status_of, Fault.fault_line, Printed.cookie_line, Printed.answer_text}
+use Rattle.distnode.specs.Printed.{has_whole_lines}
 
 -- A FAULT OF THIS STATUS ENDED A COMMAND: one that stops it in this way. Its line was written to standard error, or, if that failed, a
 -- prefix of it
@@ -23,10 +26,13 @@ StopsCookie before after challenge old new WriteFailed = (cookie : List ℕ) × 
 StopsCookie before after challenge old new NoMemory = (cookie : List ℕ) × Hears before after (Ok cookie) × (new ≡ old)
 StopsCookie before after challenge old new other = ⊥
 
--- WHAT STOPS `names`: the question has no answer; or it has this one, but just a prefix of its text was written, or memory ran out for the
--- escape of it
+-- WHAT STOPS `names`: the question has no answer; or it has this one, whose text was written and ends inside a line; or just a prefix of it
+-- was written; or memory ran out for the escape of it
 abbrev pub StopsNames : Bool → StreamState → StreamState → ℕ → Option (List ℕ) → Option (List ℕ) → Fault → Type 0
 StopsNames terminal before after turns old new (NoAnswer error) = AsksFor Names before after turns names_meant (Err error) × (new ≡ old)
+StopsNames terminal before after turns old new AnswerCut =
+    (port : ℕ) × (text : List ℕ) × AsksFor Names before after turns names_meant (Ok (port, text)) × (has_whole_lines text ≡ false)
+    × (terminal ≡ true → All IsPrintableOrLineFeed (answer_text terminal text)) × Appends old new (answer_text terminal text)
 StopsNames terminal before after turns old new WriteFailed =
     (port : ℕ) × (text : List ℕ) × AsksFor Names before after turns names_meant (Ok (port, text)) × PutsFront (answer_text terminal text) old new
 StopsNames terminal before after turns old new NoMemory =

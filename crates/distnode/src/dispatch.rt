@@ -1,6 +1,6 @@
 //! Calls the command of an order.
 
-ghost use Rattle.std.specs.{Prelude.◌≡◌, Prelude.◌≤◌, Prelude.◌⊎◌, Prelude.Option, Prelude.List, Prelude.ℕ, Io.KnownBytes.Keeps};
+ghost use Rattle.std.specs.{Prelude.◌≡◌, Prelude.◌≤◌, Prelude.◌⊎◌, Prelude.Option, Prelude.None, Prelude.List, Prelude.ℕ, Io.KnownBytes.Keeps};
 ghost use Rattle.distnode.specs.Followed.{PrintsAnswer, Follows, StopsCookieAt, StopsAnswer, StopsRunAt, EndsByPort, Ends};
 ghost use Rattle.distnode.specs.{Printed.PrintsCookie, Stopped.EndsByFault, RunPrinted.PrintsRunOf};
 
@@ -93,11 +93,10 @@ fn follow_run<S: System, R: Machine, W: Write, E: Write>(
     err: &mut E,
 ) -> u8
     ensures status { result ≤ 2 }
-    ensures done { result ≡ 0 → (left : Option (List ℕ)) × PrintsRunOf (S.bytes_at system.now path.now) left 0 (W.contents out.old) (W.contents out.new) }
+    ensures done { result ≡ 0 → (left : Option (List ℕ)) × PrintsRunOf (S.bytes_at system.now path.now) left None (W.contents out.old) (W.contents out.new) }
     ensures silent { result ≡ 0 → E.contents err.new ≡ E.contents err.old }
-    ensures ended { result ≡ 1 → ((left : Option (List ℕ))
-        × PrintsRunOf (S.bytes_at system.now path.now) left 1 (W.contents out.old) (W.contents out.new) × (E.contents err.new ≡ E.contents err.old))
-        ⊎ EndsByFault (StopsRunAt (S.bytes_at system.now path.now) (W.contents out.old) (W.contents out.new)) 1 (E.contents err.old) (E.contents err.new) }
+    ensures ended { result ≡ 1 → EndsByFault (StopsRunAt (S.bytes_at system.now path.now) (W.contents out.old) (W.contents out.new))
+        1 (E.contents err.old) (E.contents err.new) }
     ensures refused { result ≡ 2 → EndsByFault (StopsRunAt (S.bytes_at system.now path.now) (W.contents out.old) (W.contents out.new))
         2 (E.contents err.old) (E.contents err.new) }
 {

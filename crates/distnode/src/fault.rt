@@ -3,9 +3,10 @@
 ghost use Rattle.std.specs.Prelude.{◌≡◌};
 ghost use Rattle.dist_program.specs.Sentences.{word_fault_status};
 ghost use Rattle.dist_script.specs.Texts.{PutsFront};
-ghost use Rattle.distnode.specs.Fault.{status_of, fault_text, line_of, fault_line, port_line, fault_of, fault_of_text};
+ghost use Rattle.distnode.specs.Fault.{status_of, fault_text, audit_fault_text, line_of, fault_line, port_line, fault_of, fault_of_text};
 ghost use Rattle.distnode.specs.declared.fault.Fault.TheVariants.{NoMemory};
 
+use dist_audit::AuditError;
 use dist_epmd_calls::LookupError;
 use dist_program::{TextError, WordFault};
 use dist_run_hosts::RunError;
@@ -35,6 +36,10 @@ pub enum Fault {
     ConnectFailed,
     /// The port mapper did not answer the question.
     NoAnswer(LookupError),
+    /// The port mapper's answer was printed, and ends inside a line.
+    AnswerCut,
+    /// The run of the nodes was printed, and the audit refused it.
+    AuditRefused(AuditError),
     /// No memory was left.
     NoMemory,
 }
@@ -75,6 +80,21 @@ impl From<ScriptFault> for Fault {
     }
 }
 
+// Why the audit refused a run: the refusal's name, and what the audit needs if a node outside the file may have taken part.
+fn audit_fault_text(error: AuditError) -> &'static str
+    ensures { result.now ≡ audit_fault_text error }
+{
+    match error {
+        AuditError::Unpaired => {
+            "Unpaired: the audit needs the history of every node that took part, and a node outside the file keeps none"
+        }
+        AuditError::NotSent => {
+            "NotSent: the audit needs the history of every node that took part, and a node outside the file keeps none"
+        }
+        _ => error.name(),
+    }
+}
+
 impl Fault {
     /// The exit status: 2 if the user's input is at fault, else 1.
     pub fn status(self) -> u8
@@ -86,7 +106,7 @@ impl Fault {
         }
     }
 
-    /// The text on standard error: the fault's name, or that of the error in it.
+    /// The text on standard error: the fault's name, or that of the error in it; of a refused audit also what the audit needs.
     pub fn text(self) -> &'static str
         ensures { result.now ≡ fault_text self }
     {
@@ -100,6 +120,8 @@ impl Fault {
             Fault::NoCookie(error) => error.name(),
             Fault::ConnectFailed => "ConnectFailed",
             Fault::NoAnswer(error) => error.name(),
+            Fault::AnswerCut => "Ended",
+            Fault::AuditRefused(error) => audit_fault_text(error),
             Fault::NoMemory => "NoMemory",
         }
     }

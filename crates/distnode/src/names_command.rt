@@ -2,7 +2,7 @@
 
 ghost use Rattle.std.specs.{Prelude.◌≡◌, Prelude.◌≤◌, Prelude.IfErr, Prelude.IfOk, Prelude.OnOk, Prelude.true, List.All};
 ghost use Rattle.dist_names.specs.Escaped.{IsPrintableOrLineFeed};
-ghost use Rattle.distnode.specs.{Fault.status_of, Printed.PrintsNames, Printed.answer_text, Stopped.EndsByFault, Stopped.StopsNames};
+ghost use Rattle.distnode.specs.{Fault.status_of, Printed.PrintsNames, Printed.answer_text, Printed.has_whole_lines, Stopped.EndsByFault, Stopped.StopsNames};
 
 use crate::fault::Fault;
 use crate::output::write_text;
@@ -30,8 +30,15 @@ fn answer_text(alloc: Global, text: ByteString, is_terminal: bool) -> Result<Vec
     }
 }
 
+// Whether a text consists of whole lines, or is empty.
+fn has_whole_lines(text: &[u8]) -> bool
+    ensures { result ≡ has_whole_lines text.now }
+{
+    text.is_empty() || text.ends_with(b"\n")
+}
+
 // Asks, and prints the answer.
-#[tactic(auto, using(crate::proofs::Stopped::all_names, crate::proofs::Stopped::cut_names))]
+#[tactic(auto, using(crate::proofs::Stopped::all_names, crate::proofs::Stopped::part_of_names, crate::proofs::Stopped::cut_names))]
 fn perform<S: Stream, W: Write>(
     alloc: Global,
     stream: &mut S,
@@ -48,18 +55,23 @@ fn perform<S: Stream, W: Write>(
         Ok(answer) => answer,
         Err(error) => return Err(Fault::NoAnswer(error)),
     };
+    let is_whole = has_whole_lines(text.as_slice());
     let Ok(bytes) = answer_text(alloc, text, is_terminal) else {
         return Err(Fault::NoMemory);
     };
-    match write_text(out, bytes.as_slice()) {
-        Ok(()) => Ok(()),
-        Err(_) => Err(Fault::WriteFailed),
+    let Ok(()) = write_text(out, bytes.as_slice()) else {
+        return Err(Fault::WriteFailed);
+    };
+    if is_whole {
+        Ok(())
+    } else {
+        Err(Fault::AnswerCut)
     }
 }
 
 /// Asks a port mapper for the nodes that it knows, and prints the text of its answer: unchanged, or on a terminal with each line escaped.
-/// Returns the exit status: 0, or 1 for a fault, which is reported on `err`: the question failed, a write did, or memory ran out for the
-/// escaped answer.
+/// Returns the exit status: 0, or 1 for a fault, which is reported on `err`: the question failed, the text ended inside a line, a write
+/// failed, or memory ran out for the escaped answer.
 pub fn names<S: Stream, W: Write, E: Write>(
     alloc: Global,
     stream: &mut S,
@@ -73,7 +85,7 @@ pub fn names<S: Stream, W: Write, E: Write>(
     ensures silent { result ≡ 0 → E.contents err.new ≡ E.contents err.old }
 
     // With status 1 a fault ended it, whose line was written to `err`: the question has no answer, for the first reason that holds, and
-    // nothing was printed; or just a prefix of the answer was.
+    // nothing was printed; or the answer was, and ends inside a line; or just a prefix of it was.
     ensures fault { result ≡ 1 → EndsByFault
         (StopsNames is_terminal (S.meaning stream.old) (S.meaning stream.new) MOST_TURNS (W.contents out.old) (W.contents out.new))
         1 (E.contents err.old) (E.contents err.new) }

@@ -1,10 +1,10 @@
 //! The command `run`: runs the nodes of a nodes file on this host.
 
-ghost use Rattle.std.specs.Prelude.{◌≡◌, ◌≤◌, ◌⊎◌, ℕ, List, Option, Some, None, IfOk, IfErr, OnOk, codes};
+ghost use Rattle.std.specs.Prelude.{◌≡◌, ◌≤◌, ℕ, List, Option, Some, None, IfOk, IfErr, OnOk, codes};
 ghost use Rattle.std.specs.Io.KnownBytes.{Appends};
 ghost use Rattle.dist_script.specs.Texts.{PutsFront};
 ghost use Rattle.distnode.specs.RunPrinted.{order_line, orders_text, closed_text, refused_line, refusal_text, Puts, IsHeld, IsAudited, IsOfRun, PrintsRun};
-ghost use Rattle.distnode.specs.RunPrinted.{PrintsRunOf, PrintsNothing};
+ghost use Rattle.distnode.specs.RunPrinted.{PrintsRunOf};
 ghost use Rattle.distnode.specs.{Stopped.EndsByFault, RunStopped.IsNoNodesFile, RunStopped.StopsPrinting, RunStopped.StopsRun, RunStopped.StopsRunOf};
 ghost use Rattle.dist_run_plan.specs.Plans as plans;
 
@@ -111,54 +111,62 @@ fn print_refusal<W: Write>(
     print_error(out, error)
 }
 
-// Audits closed nodes, and prints the result. Returns the exit status.
+// Audits closed nodes, and prints the result. Returns why the audit refused them, if it did.
 #[tactic(auto, using(crate::proofs::Printing::says_held, crate::proofs::Printing::says_refused))]
-fn print_audit<W: Write>(alloc: Global, out: &mut W, all: &[Closed]) -> Result<u8, ScriptFault>
-    ensures status { IfOk result (λ status. status ≤ 1) }
-    ensures printed { IfOk result (λ status. Puts (IsAudited status all.now) (W.contents out.old) (W.contents out.new)) }
+fn print_audit<W: Write>(
+    alloc: Global,
+    out: &mut W,
+    all: &[Closed],
+) -> Result<Option<AuditError>, ScriptFault>
+    ensures { IfOk result (λ refusal. Puts (IsAudited refusal all.now) (W.contents out.old) (W.contents out.new)) }
 {
     match audit(alloc, all) {
         Ok(world) => {
             print_world(alloc, out, &world)?;
-            Ok(0)
+            Ok(None)
         }
         Err(error) => match print_refusal(out, all, error) {
-            Ok(()) => Ok(1),
+            Ok(()) => Ok(Some(error)),
             Err(_) => Err(ScriptFault::WriteFailed),
         },
     }
 }
 
-// Prints the orders that made no dial, and the audit of the nodes. Returns the exit status.
-fn print_ran<W: Write>(alloc: Global, out: &mut W, ran: &Ran) -> Result<u8, ScriptFault>
-    ensures status { IfOk result (λ status. status ≤ 1) }
-    ensures printed { IfOk result (λ status. Puts (IsOfRun status ran.now.faults.items ran.now.closed.items) (W.contents out.old) (W.contents out.new)) }
+// Prints the orders that made no dial, and the audit of the nodes. Returns why the audit refused them, if it did.
+fn print_ran<W: Write>(
+    alloc: Global,
+    out: &mut W,
+    ran: &Ran,
+) -> Result<Option<AuditError>, ScriptFault>
+    ensures { IfOk result (λ refusal. Puts (IsOfRun refusal ran.now.faults.items ran.now.closed.items) (W.contents out.old) (W.contents out.new)) }
 {
     let Ok(()) = print_faults(out, ran.faults.as_slice()) else {
         return Err(ScriptFault::WriteFailed);
     };
-    let status = print_audit(alloc, out, ran.closed.as_slice())?;
-    Ok(status)
+    let refusal = print_audit(alloc, out, ran.closed.as_slice())?;
+    Ok(refusal)
 }
 
-// Prints the result of a run. Returns the exit status.
+// Prints the result of a run. A refused audit is a fault, once it is printed.
 #[tactic(auto, using(crate::proofs::RunStopped::cut_run))]
-fn put_ran<W: Write>(alloc: Global, ran: &Ran, out: &mut W) -> Result<u8, Fault>
-    ensures status { IfOk result (λ status. status ≤ 1) }
-    ensures printed { IfOk result (λ status. Puts (IsOfRun status ran.now.faults.items ran.now.closed.items) (W.contents out.old) (W.contents out.new)) }
+fn put_ran<W: Write>(alloc: Global, ran: &Ran, out: &mut W) -> Result<(), Fault>
+    ensures printed { OnOk result (Puts (IsOfRun None ran.now.faults.items ran.now.closed.items) (W.contents out.old) (W.contents out.new)) }
     ensures stopped { IfErr result (StopsPrinting ran.now.faults.items ran.now.closed.items (W.contents out.old) (W.contents out.new)) }
 {
     let mut text = Vec::new(alloc);
-    let Ok(status) = print_ran(alloc, &mut text, ran) else {
+    let Ok(refusal) = print_ran(alloc, &mut text, ran) else {
         return Err(Fault::NoMemory);
     };
-    match write_text(out, text.as_slice()) {
-        Ok(()) => Ok(status),
-        Err(_) => Err(Fault::WriteFailed),
+    let Ok(()) = write_text(out, text.as_slice()) else {
+        return Err(Fault::WriteFailed);
+    };
+    match refusal {
+        None => Ok(()),
+        Some(error) => Err(Fault::AuditRefused(error)),
     }
 }
 
-// Runs the nodes of a text, audits the result, and prints it. Returns the exit status.
+// Runs the nodes of a text, audits the result, and prints it. A refused audit is a fault, once it is printed.
 #[tactic(auto, using(crate::proofs::Printing::of_text))]
 fn perform<R: Machine, G: Gate + Sync, W: Write>(
     rt: &R,
@@ -166,9 +174,8 @@ fn perform<R: Machine, G: Gate + Sync, W: Write>(
     text: &str,
     gate: &G,
     out: &mut W,
-) -> Result<u8, Fault>
-    ensures status { IfOk result (λ status. status ≤ 1) }
-    ensures printed { IfOk result (λ status. PrintsRun text.now status (W.contents out.old) (W.contents out.new)) }
+) -> Result<(), Fault>
+    ensures printed { OnOk result (PrintsRun text.now None (W.contents out.old) (W.contents out.new)) }
     ensures stopped { IfErr result (StopsRun text.now (W.contents out.old) (W.contents out.new)) }
 {
     let plan = plan_in(alloc, text)?;
@@ -183,7 +190,7 @@ fn perform<R: Machine, G: Gate + Sync, W: Write>(
 /// that made no dial, then the result of the audit. If the audit holds: for each node its line and its table, for each pair that is up
 /// what it agrees on, all from the audit's world, and `audit holds`. If it refuses: the tables of the closed nodes and `audit refused`.
 /// Returns the exit status: 0 if the audit holds, 2 for a text that is not a nodes file, 1 for a refused audit or another fault. A
-/// fault is reported on `err`; nothing was printed then, unless a write failed.
+/// fault is reported on `err`; nothing was printed then, unless the audit refused or a write failed.
 #[tactic(auto, using(crate::proofs::Printing::never_zero))]
 pub fn run_nodes<R: Machine, G: Gate + Sync, W: Write, E: Write>(
     rt: &R,
@@ -197,17 +204,12 @@ pub fn run_nodes<R: Machine, G: Gate + Sync, W: Write, E: Write>(
 
     // With status 0 the audit holds for the nodes of the text, each closed as it was set up there. Each order of the text made its dial
     // once or has its line. What was printed is the text of the world that the audit found.
-    ensures printed { result ≡ 0 → PrintsRun text.now 0 (W.contents out.old) (W.contents out.new) }
-
-    // With status 1 the audit refused, and the nodes as they were closed were printed, and why; or a fault ended the run, and nothing
-    // was printed, unless the write failed.
-    ensures refused { result ≡ 1 → PrintsRun text.now 1 (W.contents out.old) (W.contents out.new)
-        ⊎ PrintsNothing (W.contents out.old) (W.contents out.new) }
-
-    // The line of a fault is written to `err`. If the audit ended the run, whether it holds or refused, nothing is.
+    ensures printed { result ≡ 0 → PrintsRun text.now None (W.contents out.old) (W.contents out.new) }
     ensures silent { result ≡ 0 → E.contents err.new ≡ E.contents err.old }
-    ensures ended { result ≡ 1 → (PrintsRun text.now 1 (W.contents out.old) (W.contents out.new) × (E.contents err.new ≡ E.contents err.old))
-        ⊎ EndsByFault (StopsRun text.now (W.contents out.old) (W.contents out.new)) 1 (E.contents err.old) (E.contents err.new) }
+
+    // With status 1 a fault ended the run, whose line was written to `err`. If the audit refused, the nodes as they were closed were
+    // printed, and why; else nothing was, unless the write failed.
+    ensures ended { result ≡ 1 → EndsByFault (StopsRun text.now (W.contents out.old) (W.contents out.new)) 1 (E.contents err.old) (E.contents err.new) }
 
     // Status 2 is only for a text that is not a nodes file. Then nothing is printed, and `err` says so.
     ensures bad { result ≡ 2 → plans.plan_of text.now ≡ None }
@@ -215,7 +217,7 @@ pub fn run_nodes<R: Machine, G: Gate + Sync, W: Write, E: Write>(
     ensures bad_line { result ≡ 2 → PutsFront (codes "distnode: bad nodes file\n") (E.contents err.old) (E.contents err.new) }
 {
     match perform(rt, alloc, text, gate, out) {
-        Ok(status) => status,
+        Ok(()) => 0,
         Err(fault) => fault.report_to(err),
     }
 }
@@ -230,13 +232,9 @@ pub fn run_file<R: Machine, F: Read, W: Write, E: Write>(
     err: &mut E,
 ) -> u8
     ensures status { result ≤ 2 }
-    ensures printed { result ≡ 0 → PrintsRunOf (F.remaining file.old) (F.remaining file.new) 0 (W.contents out.old) (W.contents out.new) }
-    ensures refused { result ≡ 1 → PrintsRunOf (F.remaining file.old) (F.remaining file.new) 1 (W.contents out.old) (W.contents out.new)
-        ⊎ PrintsNothing (W.contents out.old) (W.contents out.new) }
+    ensures printed { result ≡ 0 → PrintsRunOf (F.remaining file.old) (F.remaining file.new) None (W.contents out.old) (W.contents out.new) }
     ensures silent { result ≡ 0 → E.contents err.new ≡ E.contents err.old }
-    ensures ended { result ≡ 1 → (PrintsRunOf (F.remaining file.old) (F.remaining file.new) 1 (W.contents out.old) (W.contents out.new)
-        × (E.contents err.new ≡ E.contents err.old))
-        ⊎ EndsByFault (StopsRunOf (F.remaining file.old) (F.remaining file.new) (W.contents out.old) (W.contents out.new))
+    ensures ended { result ≡ 1 → EndsByFault (StopsRunOf (F.remaining file.old) (F.remaining file.new) (W.contents out.old) (W.contents out.new))
         1 (E.contents err.old) (E.contents err.new) }
     ensures bad { result ≡ 2 → IsNoNodesFile (F.remaining file.old) (F.remaining file.new) }
     ensures bad_out { result ≡ 2 → W.contents out.new ≡ W.contents out.old }

@@ -1,26 +1,13 @@
-use Rattle.std.proofs.Common.{◌∙◌, inl, inr, refl, sym, subst}
+use Rattle.std.proofs.Common.{◌∙◌, sym, subst}
 use Rattle.dist_script.specs.Texts.{PutsFront}
-use Rattle.distnode.specs.{Fault.fault_line, RunPrinted.PrintsRun}
-use Rattle.distnode.proofs.RunStopped.{is_bad, unprinted}
+use Rattle.distnode.specs.Fault.{fault_line}
+use Rattle.distnode.proofs.RunStopped.{is_bad}
 use Rattle.distnode.proofs.run.run_nodes.Goals as goal
-
-pub returns-in-Ok-clause-refused : goal.returns-in-Ok-clause-refused
-returns-in-Ok-clause-refused g c =
-    λ one. inl (subst (λ s. PrintsRun c.args.text.now s (g.W.Write.contents c.args.out.now) (g.W.Write.contents c.perform.new.out)) one c.in-Ok.ensures.printed)
-
-pub returns-in-Err-clause-refused : goal.returns-in-Err-clause-refused
-returns-in-Err-clause-refused g c =
-    λ one. inr (c.in-Err.fault, sym c.report_to.ensures.status ∙ one, unprinted _ _ _ _ c.in-Err.ensures.stopped)
-
--- the audit refused, and standard error was left alone
-pub returns-in-Ok-clause-ended : goal.returns-in-Ok-clause-ended
-returns-in-Ok-clause-ended g c =
-    λ one. inl (subst (λ s. PrintsRun c.args.text.now s (g.W.Write.contents c.args.out.now) (g.W.Write.contents c.perform.new.out)) one c.in-Ok.ensures.printed, refl)
 
 -- the fault that was reported
 pub returns-in-Err-clause-ended : goal.returns-in-Err-clause-ended
 returns-in-Err-clause-ended g c =
-    λ one. inr (record { cause = c.in-Err.fault; stops = c.in-Err.ensures.stopped; status_is = sym c.report_to.ensures.status ∙ one; line = c.report_to.ensures.line })
+    λ one. record { cause = c.in-Err.fault; stops = c.in-Err.ensures.stopped; status_is = sym c.report_to.ensures.status ∙ one; line = c.report_to.ensures.line }
 
 -- with status 2 it is a bad nodes file
 pub returns-in-Err-clause-bad : goal.returns-in-Err-clause-bad
