@@ -72,7 +72,7 @@ closed(Why, Peer) ->
         'WrongDigest' ->
             error_logger:error_msg("** Connection attempt from node ~ts rejected. Invalid challenge reply. **~n",
                                    [distnode_access:quoted(Peer)]);
-        'Refused' -> error_logger:error_msg("** Connection attempt from disallowed node ~ts ** ~n", [distnode_access:quoted(Peer)]);
+        'Refused' -> distnode_access:report_refused(Peer);
         _ -> ok
     end,
     exit(shutdown).

@@ -2,7 +2,7 @@
 %% What this emulator says of a peer before a step is made: the cookie for it, the cookie for all others, and whether the
 %% allow list names it. It is asked by the process of a connection, since auth and net_kernel are asked for it.
 -module(distnode_access).
--export([of_peer/2, usual/0, named_in/1, report/2, quoted/1]).
+-export([of_peer/2, usual/0, named_in/1, report/2, report_refused/1, quoted/1]).
 -export_type([access/0, cookie/0]).
 
 -type cookie() :: {ok, binary()} | {error, atom()}.
@@ -51,6 +51,14 @@ report(Peer, Code) ->
         "Cookie" ++ _ -> say("the cookie for node ~ts can't be used: ~s", [quoted(Peer), Code]);
         "Name" ++ _ -> say("the name of node ~ts or of this node can't be used: ~s", [quoted(Peer), Code]);
         _ -> say("node ~ts: ~s", [quoted(Peer), Code])
+    end.
+
+%% The node has refused the name that this peer has said. OTP takes letters beyond ASCII, as Latin-1, and the library doesn't.
+-spec report_refused(binary() | none) -> ok.
+report_refused(Peer) ->
+    case [C || Peer =/= none, <<C>> <= Peer, C < 16#21 orelse C > 16#7E] of
+        [] -> error_logger:error_msg("** Connection attempt from disallowed node ~ts ** ~n", [quoted(Peer)]);
+        _ -> say("the name of node ~ts has characters other than printable ASCII", [quoted(Peer)])
     end.
 
 say(Text, Arguments) -> error_logger:error_msg("** Connection attempt refused, " ++ Text ++ " **~n", Arguments).

@@ -2,19 +2,19 @@
 %% What the carriers over IPv4 and IPv6, TCP and TLS have in common, beside the processes of connections: distnode_accept,
 %% distnode_setup. Transport is distnode_tcp or distnode_tls, Driver is inet_tcp or inet6_tcp, Standard is OTP's own carrier.
 -module(distnode_carrier).
--export([childspecs/1, renamed/2, accept/3, accept_loop/5, setup/4, hs_data/2, setopts/3, setup_options/0, heap_words/0]).
+-export([childspecs/2, renamed/2, accept/3, accept_loop/5, setup/4, hs_data/2, setopts/3, setup_options/0, heap_words/0]).
 
 -include_lib("kernel/include/net_address.hrl").
 -include_lib("kernel/include/dist_util.hrl").
 
-%% net_sup starts these before net_kernel.
-childspecs(Transport) ->
+%% net_sup starts these before net_kernel. Of two carriers at once the first starts the core, which is that of both.
+childspecs(Carrier, Transport) ->
     {ok, Transport:childspecs() ++
-         [#{id => distnode_core, start => {distnode_core, start_link, []}, restart => permanent, shutdown => 2000,
+         [#{id => Carrier, start => {distnode_core, start_link, []}, restart => permanent, shutdown => 2000,
             type => worker, modules => [distnode_core]}]}.
 
-%% An address or an answer of the standard carrier over TCP, under this carrier's protocol: by it net_kernel finds who accepts.
-renamed(Transport, #net_address{} = Address) -> Address#net_address{protocol = Transport:protocol()};
+%% An address or an answer of the standard carrier over TCP, with the transport for its protocol: by it net_kernel finds who accepts.
+renamed(Transport, #net_address{} = Address) -> Address#net_address{protocol = Transport};
 renamed(Transport, {ok, {Socket, Address, Creation}}) -> {ok, {Socket, renamed(Transport, Address), Creation}};
 renamed(_, Error) -> Error.
 
@@ -24,14 +24,16 @@ setup_options() -> [{min_heap_size, heap_words()} | dist_util:net_ticker_spawn_o
 
 heap_words() -> 2586.
 
+%% What a connection needs is loaded before the first one comes: strangers may hold all descriptors later.
 accept(Transport, Driver, Listen) ->
+    _ = code:ensure_modules_loaded([Transport, distnode_accept, distnode_access, distnode_script, distnode_setup, distnode_shake, dist_util]),
     spawn_opt(?MODULE, accept_loop, [Transport, Driver, self(), Listen, distnode_core:begun_anew()], [link, {priority, max}]).
 
 %% A connection is of the node that was there before it was accepted: net_kernel hands both on as one. A later node doesn't take it.
 accept_loop(Transport, Driver, Kernel, Listen, Begun) ->
     case Driver:accept(Listen) of
         {ok, Socket} ->
-            Kernel ! {accept, self(), {Socket, Begun}, Driver:family(), Transport:protocol()},
+            Kernel ! {accept, self(), {Socket, Begun}, Driver:family(), Transport},
             hand_over(Driver, Kernel, Socket),
             ?MODULE:accept_loop(Transport, Driver, Kernel, Listen, begun_anew(Driver, Listen, Begun));
         Error -> exit(Error)
@@ -58,7 +60,8 @@ close_waiting(Driver, Listen) ->
 hand_over(Driver, Kernel, Socket) ->
     receive
         {Kernel, controller, Pid} ->
-            _ = Driver:controlling_process(Socket, Pid),
+            %% It may have ended, and the socket is this process's then.
+            _ = [Driver:close(Socket) || Driver:controlling_process(Socket, Pid) =/= ok],
             Pid ! {self(), controller},
             ok;
         {Kernel, unsupported_protocol} -> exit(unsupported_protocol)

@@ -19,11 +19,10 @@
 -type received() :: {more, [binary()]} | {closed, [binary()], Why :: atom(), Received :: atom()} | {ready, info()} | {error, atom()}.
 -export_type([own_end/0, info/0, received/0]).
 
-%% own: the cookies that the node has for peers while they have ends, and when each was lent; usual: for all others. dials: the access of
-%% each peer that is wanted. shown: the ends that came up, by the monitors of their controllers; held: the callers that wait until such an
-%% end is gone.
+%% own: the cookies that the node has for peers while they have ends, and when each was lent; usual: for all others. shown: the
+%% ends that came up, by the monitors of their controllers; held: the callers that wait until such an end is gone.
 -record(st, {node :: reference() | undefined, flags = 0, links = distnode_links:new(), watched = #{}, shown = #{}, held = [],
-             usual :: binary() | undefined, own = #{}, dials = #{}, is_limited = false, forgotten = 0, counts = #{}}).
+             usual :: binary() | undefined, own = #{}, is_limited = false, forgotten = 0, counts = #{}}).
 
 %% Causes are forgotten each so many ends; the library keeps cookies of their own for so many peers.
 -define(FORGET_EACH, 65536).
@@ -33,7 +32,12 @@
 %% peer that has a cookie of its own, {{cookie, Peer}, Cookie}; and how often the node has begun anew, {begun_anew, Times}.
 -define(TABLE, ?MODULE).
 
-start_link() -> gen_server:start_link({local, ?MODULE}, ?MODULE, [], []).
+%% `ignore` where another carrier has started it.
+start_link() ->
+    case gen_server:start_link({local, ?MODULE}, ?MODULE, [], []) of
+        {error, {already_started, _}} -> ignore;
+        Started -> Started
+    end.
 
 %% How often the node has begun anew.
 -spec begun_anew() -> non_neg_integer().
@@ -145,10 +149,9 @@ init([]) ->
             {ok, #st{}}
     end.
 
-handle_call({want, #{peer := Peer} = Access}, {Pid, _}, St0) ->
+handle_call({want, Access}, {Pid, _}, St0) ->
     case with_node(St0) of
-        {ok, St} ->
-            {reply, ok, publish(after_report({want, Peer, Pid}, watch(Pid, St#st{dials = (St#st.dials)#{Peer => Access}})))};
+        {ok, St} -> {reply, ok, publish(after_report({want, Access, Pid}, watch(Pid, St)))};
         {error, Code} ->
             Pid ! {distnode, {failed, Code}},
             {reply, ok, St0}
@@ -260,7 +263,7 @@ act({lose, Id, Peer, Why}, St) ->
     %% A step of its process may have closed it, which has not been reported to this process yet.
     _ = distnode_nif:lost(St#st.node, Id, why(Why)),
     take_back(Peer, note({lost, Why}, St));
-act({dial, Peer}, St) -> dial(Peer, St).
+act({dial, Access}, St) -> dial(Access, St).
 
 kill(none, St) -> St;
 kill(Pid, St) ->
@@ -270,8 +273,7 @@ kill(Pid, St) ->
 why(ended) -> 1;
 why(gave_up) -> 4.
 
-dial(Peer, #st{dials = Dials} = St0) ->
-    #{Peer := Access} = Dials,
+dial(#{peer := Peer} = Access, St0) ->
     case suit(Access, St0) of
         {ok, St} -> take_back(Peer, dialled(Peer, distnode_nif:dial(St#st.node, Peer), St));
         {{error, Code}, St} -> after_report({refused, Peer, Code}, St)
@@ -325,7 +327,7 @@ begin_anew(#st{node = Node} = St0) ->
     _ = ets:update_counter(?TABLE, begun_anew, 1),
     true = ets:delete(?TABLE, node),
     true = ets:match_delete(?TABLE, {{cookie, '_'}, '_'}),
-    St#st{node = undefined, own = #{}, dials = #{}, shown = #{}, held = []}.
+    St#st{node = undefined, own = #{}, shown = #{}, held = []}.
 
 %% Who came up before the node was dropped, and is not known here yet.
 came_up_last(#st{node = Node} = St) ->

@@ -4,7 +4,7 @@
 -export([childspecs/0, listen/2, accept/1, accept_connection/5, setup/5, close/1, select/1, address/0,
          is_node_name/1, setopts/2, getopts/2]).
 
-childspecs() -> distnode_carrier:childspecs(?TRANSPORT).
+childspecs() -> distnode_carrier:childspecs(?MODULE, ?TRANSPORT).
 
 listen(Name, Host) -> distnode_carrier:renamed(?TRANSPORT, ?OVER_TCP:listen(Name, Host)).
 

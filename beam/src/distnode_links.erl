@@ -20,10 +20,11 @@
 
 -type id() :: distnode_nif:id().
 -type peer() :: distnode_nif:peer().
+-type access() :: distnode_access:access().
 -type stage() :: shaking | ready | admitted | up.
 
 -record(link, {owner :: pid(), peer = none :: peer() | none, stage = shaking :: stage(), giver = none :: pid() | none}).
--record(want, {setup :: pid(), how = asking :: asking | {dialling, id()} | waiting}).
+-record(want, {setup :: pid(), access :: access(), how = asking :: asking | {dialling, id()} | waiting}).
 %% held: what a process has, so that its end is dealt with without a look at all ends.
 -record(links, {ends = #{} :: #{id() => #link{}},
                 wants = #{} :: #{peer() => #want{}},
@@ -31,7 +32,7 @@
 -opaque links() :: #links{}.
 
 -type event() ::
-    {want, peer(), Setup :: pid()} |          % net_kernel wants this peer; or a setup asks again
+    {want, access(), Setup :: pid()} |        % net_kernel wants the peer of this access; or a setup asks again
     {dialled, peer(), id()} |                 % what became of the action {dial, Peer}: a new end,
     {busy, peer(), Up :: id() | none} |       % no end, since the peer has one, and which one is up,
     {refused, peer(), Code :: atom()} |       % or no end, for another reason
@@ -50,14 +51,14 @@
     {send, pid(), term()} |                   % a message {distnode, Term}: {dial, Id}, {closed, Id, Why}, {failed, Code}, again
     {kill, pid()} |                           % its end is to go, and net_kernel holds it: its socket goes with it
     {lose, id(), peer() | none, Why :: atom()} | % report it to the node
-    {dial, peer()}.                           % have the node dial, and report what became of it
+    {dial, access()}.                         % have the node dial, and report what became of it
 -type answer() :: ok | {give, Setup :: pid()} | retry | gone.
 
 -spec new() -> links().
 new() -> #links{}.
 
 -spec event(event(), links()) -> {answer(), [action()], links()}.
-event({want, Peer, Setup}, L) -> want(Peer, Setup, L);
+event({want, Access, Setup}, L) -> want(Access, Setup, L);
 event({dialled, Peer, Id}, L) -> dialled(Peer, Id, L);
 event({busy, Peer, Up}, L) -> busy(Peer, Up, L);
 event({refused, Peer, Code}, L) -> refused(Peer, Code, L);
@@ -92,9 +93,9 @@ wanted(#links{wants = Wants}) -> [{Peer, Setup, How} || {Peer, #want{setup = Set
 %% ---- a setup wants a peer
 
 %% A setup that was given an end while it asked wants nothing more. One that another has replaced is over at net_kernel.
-want(Peer, Setup, L) ->
+want(#{peer := Peer} = Access, Setup, L) ->
     case [Id || {end_of, Id} <- holdings(Setup, L), peer(Id, L) =:= Peer, stage(Id, L) =/= shaking] of
-        [] -> {ok, [{dial, Peer}], put_want(Peer, #want{setup = Setup}, L)};
+        [] -> {ok, [{dial, Access}], put_want(Peer, #want{setup = Setup, access = Access}, L)};
         [_ | _] -> {ok, [], L}
     end.
 
@@ -229,7 +230,7 @@ lose(Id, Why, L) ->
 %% An end with this peer is over: a setup that waits for it may dial now.
 again(Peer, L) ->
     case want_of(Peer, L) of
-        #want{how = waiting} -> [{dial, Peer}];
+        #want{how = waiting, access = Access} -> [{dial, Access}];
         _ -> []
     end.
 

@@ -161,11 +161,12 @@ foreseen(Flags, Creation, #{flags := Own} = Script) when Flags band ?DFLAG_MANDA
     Script#{common => Own band (Flags bor ?MANDATORY_DFLAGS_25), creation => Creation};
 foreseen(Flags, Creation, #{flags := Own} = Script) -> Script#{common => Own band Flags, creation => Creation}.
 
-%% dist_util announces what the node has announced. It would do otherwise of a hidden dial or of another global group.
+%% dist_util announces what the node has announced: one set of flags, for all peers. It would do otherwise of a hidden dial, and of a peer
+%% outside of a hidden global group.
 challenged(Flags, Challenge, #{flags := Flags} = Script) -> keep(Script#{challenge => Challenge});
-challenged(Flags, _, #{flags := Own, peer := Peer}) ->
-    error_logger:error_msg("** distnode: flags ~.16B for node ~ts, and ~.16B were announced **~n",
-                           [Flags, distnode_access:quoted(Peer), Own]),
+challenged(_, _, #{peer := Peer}) ->
+    error_logger:error_msg("** Connection attempt refused, node ~ts is outside of the hidden global group (global_groups) of this node, "
+                           "and distnode shows this node to all of its peers or to none **~n", [distnode_access:quoted(Peer)]),
     exit(distnode_other_flags).
 
 admitted(#{id := Id} = Script) ->

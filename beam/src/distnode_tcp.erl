@@ -6,8 +6,8 @@
 
 -include_lib("kernel/include/dist_util.hrl").
 
-%% By it net_kernel finds who accepts.
-protocol() -> distnode.
+%% What net_kernel:node_info/1 has of a peer, as with OTP's carrier.
+protocol() -> tcp.
 
 %% What net_sup starts for it.
 childspecs() -> [].

@@ -7,7 +7,7 @@
 
 -include_lib("kernel/include/dist_util.hrl").
 
-protocol() -> distnode_tls.
+protocol() -> tls.
 
 childspecs() ->
     {ok, Specs} = inet_tls_dist:childspecs(),

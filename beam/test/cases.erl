@@ -44,6 +44,9 @@ common(Mapper) ->
      {"ping_and_calls", fun ping_and_calls/0},
      {"many_messages", fun many_messages/0},
      {"over_ipv6", fun over_ipv6/0},
+     {"two_carriers", fun() -> with_tls("0", fun two_carriers/0) end},
+     {"addresses_as_of_ordinary_nodes", fun addresses/0},
+     {"dials_leave_nothing", fun dials_leave_nothing/0},
      {"crossing_dials", fun() -> crossing(ours, ours, 60) end},
      {"crossing_dials_ordinary_lesser", fun() -> crossing(otp, ours, 40) end},
      {"crossing_dials_ordinary_greater", fun() -> crossing(ours, otp, 40) end},
@@ -61,21 +64,25 @@ common(Mapper) ->
      {"nodes_after_a_cookie_change", fun() -> after_a_change(fun came/2, 1100, Mapper) end},
      {"all_cookies_are_lent", fun all_lent/0},
      {"names_in_the_log", fun() -> names_in_the_log(Mapper) end},
+     {"name_beyond_ascii", fun() -> beyond_ascii(Mapper) end},
      {"started_at_run_time", fun started_at_run_time/0},
      {"allow_list_at_run_time", fun allow_list/0},
      {"veto_before_acknowledgement", fun() -> veto(Mapper) end},
      {"hidden", fun hidden/0},
+     {"hidden_group", fun hidden_group/0},
      {"nodes_without_a_name", fun nameless/0},
      {"long_and_short_names", fun() -> [named_hosts(Length) || Length <- [long, short]] end},
      {"own_networks", fun own_networks/0},
      {"global", fun global_names/0},
      {"ticks", fun ticks/0},
      {"strangers", fun() -> strangers(Mapper) end},
+     {"strangers_before_any_peer", fun() -> with_tls("0", fun() -> strangers_first(Mapper) end) end},
      {"impostor", fun() -> impostor(Mapper) end},
      {"numbers_run_out", fun() -> numbers_run_out(Mapper) end},
      {"orders_swept", fun() -> with_tls("0", fun() -> order_sweeps:some(Mapper) end) end},
      {"embedded_release", fun embedded_release/0},
      {"killed_core", fun killed_core/0},
+     {"recording_elsewhere", fun recording_elsewhere/0},
      {"library_at_run_time", fun library_at_run_time/0},
      {"unfit_library", fun unfit_library/0},
      {"unfit_archive", fun unfit_archive/0}].
@@ -167,6 +174,62 @@ over_ipv6() ->
                  apart(B, A),
                  true = connect(B, A),
                  agreed([A, B])
+         end).
+
+%% Two carriers have one core. As with those of OTP, the one that comes second doesn't register the node's name once more.
+two_carriers() ->
+    Tls = case code:which(ssl) of
+              non_existing -> [];
+              _ -> [{"d", ours_and_tls, ["-ssl_dist_optfile", test_certificates:options("node") | ?QUIET]}]
+          end,
+    with([{"b", ours, ?QUIET}, {"o", otp, ?QUIET}, {"a", ours_and_6, ?QUIET} | Tls],
+         fun([B, O | Both]) ->
+                 [begin
+                      true = connect(X, Y),
+                      both_up(X, Y),
+                      agreed([Two, B]),
+                      apart(X, Y)
+                  end || Two <- Both, Other <- [B, O], {X, Y} <- [{Two, Other}, {Other, Two}]],
+                 {said, "~b nodes with two carriers", [length(Both)]}
+         end).
+
+%% A peer's address is what OTP's carrier would have of it: host, protocol and family.
+addresses() ->
+    with([{"a", ours, ?QUIET}, {"b", ours, ?QUIET}, {"o", otp, ?QUIET}, {"p", otp, ?QUIET}],
+         fun([A, B, O, P]) ->
+                 true = connect(O, P),
+                 Ordinary = address(O, P),
+                 [begin
+                      true = connect(X, Y),
+                      both_up(X, Y),
+                      [Ordinary = address(Of, Other) || {Of, Other} <- [{X, Y}, {Y, X}]],
+                      apart(X, Y)
+                  end || {X, Y} <- [{A, B}, {A, O}, {O, A}]]
+         end).
+
+address(Of, Peer) ->
+    {ok, Info} = c(Of, net_kernel, node_info, [n(Peer)]),
+    {net_address, {{127, 0, 0, 1}, _}, Host, Protocol, Family} = proplists:get_value(address, Info),
+    {Host, Protocol, Family}.
+
+%% A dial that has ended leaves neither its peer's name nor a cookie at the core.
+dials_leave_nothing() ->
+    with([{"a", ours, ?QUIET}, {"b", ours, ?QUIET}],
+         fun([A, B]) ->
+                 Dial = fun(I) ->
+                                Name = list_to_atom("nobody" ++ integer_to_list(I) ++ "@127.0.0.1"),
+                                true = c(A, erlang, set_cookie, [Name, 'a_cookie_of_its_own']),
+                                false = c(A, net_kernel, connect_node, [Name])
+                        end,
+                 Size = fun() -> erts_debug:flat_size(c(A, sys, get_state, [distnode_core])) end,
+                 true = connect(A, B),
+                 apart(A, B),
+                 Dial(0),
+                 agreed([A]),
+                 Before = Size(),
+                 [Dial(I) || I <- lists:seq(1, 200)],
+                 agreed([A]),
+                 true = test_nodes:wait(fun() -> case Size() of Now when Now =< Before -> true; Now -> {Before, Now} end end, 5000)
          end).
 
 %% Both sides connect at one moment, give or take 0.2 milliseconds: both answer true, and both hold the same connection.
@@ -514,6 +577,18 @@ names_in_the_log(Mapper) ->
                  nomatch = re:run(Log, "^=ERROR REPORT==== forged", [multiline])
          end).
 
+%% OTP takes a name with a letter of Latin-1, and the library doesn't: the log says so, in words of its own.
+beyond_ascii(Mapper) ->
+    with([{"a", ours, ?QUIET}],
+         fun([A]) ->
+                 Socket = other_side:connect(other_side:port_of("a", Mapper)),
+                 ok = other_side:say_name(Socket, ?FLAGS, <<"e@b1", 16#E9>>),
+                 <<"not_allowed">> = other_side:status(Socket),
+                 other_side:close(Socket),
+                 true = test_nodes:has_logged(A, "the name of node 'e@b1.*' has characters other than printable ASCII"),
+                 nomatch = re:run(test_nodes:log(A), "disallowed")
+         end).
+
 %% The distribution begins and ends at run time, more than once, and under another name too.
 started_at_run_time() ->
     with([{"r", {later, ours}, ?QUIET}, {"b", ours, ?QUIET}, {"o", otp, ?QUIET}],
@@ -584,6 +659,21 @@ hidden() ->
                  apart(A, O),
                  false = c(A, net_kernel, hidden_connect_node, [n(O)]),
                  agreed([H, A])
+         end).
+
+%% The nodes of a hidden global group are shown to one another. A node here is shown to all of its peers or to none, so it refuses those
+%% outside of the group, to which OTP's carrier hides it, and says why.
+hidden_group() ->
+    Group = ["-kernel", "global_groups", "[{g,hidden,['a@127.0.0.1','b@127.0.0.1','p@127.0.0.1']}]" | ?QUIET],
+    with([{"a", ours, Group}, {"b", ours, Group}, {"p", otp, Group}, {"c", ours, ?QUIET}, {"o", otp, ?QUIET}],
+         fun([A, B, P | Outside]) ->
+                 [begin true = connect(X, Y), both_up(X, Y) end || {X, Y} <- [{A, B}, {P, A}, {B, P}]],
+                 [[_, _] = c(X, erlang, nodes, []) || X <- [A, B, P]],
+                 [begin
+                      [false = connect(X, Y) || {X, Y} <- [{A, Other}, {Other, A}]],
+                      true = test_nodes:has_logged(A, ["node '", atom_to_list(n(Other)), "' is outside of the hidden global group"])
+                  end || Other <- Outside],
+                 agreed([A, B, hd(Outside)])
          end).
 
 %% Nodes that are given their names by the first one that they dial, as erl -remsh starts them.
@@ -693,6 +783,22 @@ strangers(Mapper) ->
                  [other_side:close(Socket) || Socket <- Silent ++ Named],
                  agreed([A, B]),
                  true = c(A, erlang, system_info, [atom_count]) - Atoms < 20
+         end).
+
+%% Strangers hold all descriptors of a node before its first peer comes: it has loaded by then what a connection needs.
+strangers_first(Mapper) ->
+    with([{"a", {limited, ours}, ["-kernel", "net_setuptime", "2" | ?QUIET]}, {"b", ours, ?QUIET}, {"o", otp, ?QUIET}],
+         fun([A, B, O]) ->
+                 Port = other_side:port_of("a", Mapper),
+                 Strangers = [other_side:connect(Port) || _ <- lists:seq(1, 400)],
+                 [other_side:close(Socket) || Socket <- Strangers],
+                 [begin
+                      true = test_nodes:wait(fun() -> connect(X, Y) end, 20000),
+                      both_up(X, Y),
+                      apart(X, Y)
+                  end || {X, Y} <- [{B, A}, {O, A}, {A, B}]],
+                 agreed([A, B]),
+                 nomatch = re:run(test_nodes:log(A), "undef|Error in process")
          end).
 
 stranger(Port, Name) ->
@@ -865,6 +971,18 @@ killed_core() ->
                       true = test_nodes:wait(fun() -> c(B, erlang, nodes, []) =:= [] end, 5000)
                   end || {Kind, Victim} <- [{ours, distnode_core}, {otp, net_kernel}]],
                  agreed([B])
+         end).
+
+%% A recording is a regular file: a FIFO that nobody reads would hold the emulator up. The node starts without a recording.
+recording_elsewhere() ->
+    Fifo = filename:join(os:getenv("LOGS"), "fifo"),
+    "" = os:cmd("mkfifo " ++ Fifo),
+    with([{Short, ours, ["-kernel", "distnode_recording", [$", File, $"] | ?QUIET]} || {Short, File} <- [{"a", Fifo}, {"b", "/dev/null"}]],
+         fun([A, B]) ->
+                 true = test_nodes:has_logged(A, "nothing is recorded, since .*/fifo is no regular file"),
+                 true = test_nodes:has_logged(B, "nothing is recorded, since /dev/null is no regular file"),
+                 true = connect(A, B),
+                 agreed([A, B])
          end).
 
 %% The library's module is loaded anew from other folders while a peer is connected: one calls load/0, one leaves that to its first call;

@@ -205,7 +205,7 @@ end_dial({connecting, _, Dialler}, Pid, W0) ->
 
 again(Pid, Peer, W) -> want(Pid, Peer, put_proc(Pid, {setup, Peer, {await, none}}, W)).
 
-want(Pid, Peer, W) -> mail(Pid, [{want, Peer, Pid}], W).
+want(Pid, Peer, W) -> mail(Pid, [{want, #{peer => Peer, cookie => {ok, <<"test">>}, allowed => all}, Pid}], W).
 
 %% ---- a setup's own dial: it comes up with the peer's acknowledgement
 
@@ -372,7 +372,7 @@ do({lose, Id, _, _}, #w{node = Node} = W) ->
             true = lists:member(Id, mailed(closed, W)),
             W
     end;
-do({dial, Peer}, W) -> dial(Peer, W).
+do({dial, #{peer := Peer}}, W) -> dial(Peer, W).
 
 mail(Pid, Events, #w{mail = Mail} = W) -> W#w{mail = Mail ++ [{Pid, Events}]}.
 

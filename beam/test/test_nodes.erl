@@ -22,7 +22,8 @@ port_mapper() ->
     {Port, OsPid}.
 
 %% Several at once: [{Short, Kind, Arguments}] with ours | otp | ours6 | otp6, those with a 6 over IPv6; {short | long, ours | otp} with
-%% a host that has a name of one part or of several; {limited, Kind}, with 200 descriptors; {later, Kind}, which has no name yet;
+%% a host that has a name of one part or of several; ours_and_6, ours_and_tls: with two carriers; {limited, Kind}, with 200 descriptors;
+%% {later, Kind}, which has no name yet;
 %% {program, Command, Environment}, a node that another program starts, with the name Short: the environment is a function of the port
 %% that its agent connects to; or {Root, Kind}: of the Erlang that is installed below that folder, which has this test's files under
 %% the same names.
@@ -112,6 +113,8 @@ carrier(ours) -> carrier(os:getenv("EBIN"));
 carrier(ours6) -> ["-proto_dist", protocol("distnode6"), "-pa", os:getenv("EBIN")];
 carrier(otp) -> ["-proto_dist", protocol("inet")];
 carrier(otp6) -> ["-proto_dist", protocol("inet6")];
+carrier(ours_and_6) -> ["-proto_dist", "distnode", "distnode6", "-pa", os:getenv("EBIN")];
+carrier(ours_and_tls) -> ["-proto_dist", "distnode", "distnode_tls", "-pa", os:getenv("EBIN")];
 carrier(release) -> ["-proto_dist", protocol("distnode")];
 carrier(Ebin) -> ["-proto_dist", protocol("distnode"), "-pa", Ebin].
 
