@@ -26,7 +26,8 @@ heap_words() -> 2586.
 
 %% What a connection needs is loaded before the first one comes: strangers may hold all descriptors later.
 accept(Transport, Driver, Listen) ->
-    _ = code:ensure_modules_loaded([Transport, distnode_accept, distnode_access, distnode_script, distnode_setup, distnode_shake, dist_util]),
+    _ = code:ensure_modules_loaded([distnode_accept, distnode_access, distnode_address, distnode_script, distnode_setup, distnode_shake,
+                                    Transport, dist_util]),
     spawn_opt(?MODULE, accept_loop, [Transport, Driver, self(), Listen, distnode_core:begun_anew()], [link, {priority, max}]).
 
 %% A connection is of the node that was there before it was accepted: net_kernel hands both on as one. A later node doesn't take it.

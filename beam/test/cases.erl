@@ -785,12 +785,17 @@ strangers(Mapper) ->
                  true = c(A, erlang, system_info, [atom_count]) - Atoms < 20
          end).
 
-%% Strangers hold all descriptors of a node before its first peer comes: it has loaded by then what a connection needs.
+%% Strangers hold all descriptors of a node before its first peer comes: what a connection needs is loaded by then. Code that their
+%% processes asked for would be read when no descriptor is left.
 strangers_first(Mapper) ->
     with([{"a", {limited, ours}, ["-kernel", "net_setuptime", "2" | ?QUIET]}, {"b", ours, ?QUIET}, {"o", otp, ?QUIET}],
          fun([A, B, O]) ->
                  Port = other_side:port_of("a", Mapper),
-                 Strangers = [other_side:connect(Port) || _ <- lists:seq(1, 400)],
+                 ok = c(A, sys, suspend, [code_server]),
+                 Strangers = [other_side:connect(Port) || _ <- lists:seq(1, 220)],
+                 true = test_nodes:wait(fun() -> c(A, test_agent, has_no_descriptor, []) end, 10000),
+                 ok = c(A, sys, resume, [code_server]),
+                 [_ | _] = c(A, code, get_path, []),
                  [other_side:close(Socket) || Socket <- Strangers],
                  [begin
                       true = test_nodes:wait(fun() -> connect(X, Y) end, 20000),
