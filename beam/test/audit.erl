@@ -9,6 +9,7 @@
 %% tables, the connections of all pairs, and the sockets of those that net_kernel shows.
 -module(audit).
 -export([main/1]).
+-export([names/0, emulator/3, act/2, made_alike/1, all_connect/1, shown/1, recording/1, audit/2, said/1, is_refused/3]).
 
 -define(QUIET, ["-connect_all", "false", "-kernel", "prevent_overlapping_partitions", "false"]).
 -define(NAMES, ["a", "b", "c", "d"]).
@@ -82,16 +83,19 @@ answer_of(Driver, Wait) ->
     end.
 
 %% One of the four has few numbers, and its node begins anew now and then.
-emulator("d") -> emulator("d", ["-kernel", "distnode_most_ends", "30"]);
-emulator(Name) -> emulator(Name, []).
+emulator("d") -> emulator("d", ours, ["-kernel", "distnode_most_ends", "30"]);
+emulator(Name) -> emulator(Name, ours, []).
 
-emulator(Name, Arguments) ->
+emulator(Name, Kind, Arguments) ->
     File = log(io_lib:format("~s.~b.recording", [Name, erlang:unique_integer([positive])])),
-    test_nodes:start(Name, ours, Arguments ++ ["-kernel", "distnode_recording", [$", File, $"] | ?QUIET]).
+    test_nodes:start(Name, Kind, Arguments ++ ["-kernel", "distnode_recording", [$", File, $"] | ?QUIET]).
 
-%% Each has a file of its own: the last line of one that was killed may be cut short.
+%% Each has a file of its own, below the folder of its Erlang: the last line of one that was killed may be cut short.
 recording(Name) ->
-    lists:append(lists:sort([begin {ok, Lines} = distnode_recording:read(File), Lines end || File <- filelib:wildcard(log(Name ++ ".*.recording"))])).
+    Files = [File || Root <- ["" | string:lexemes(os:getenv("ROOTS", ""), " ")], File <- filelib:wildcard(Root ++ log(Name ++ ".*.recording"))],
+    lists:append(lists:sort([begin {ok, Lines} = distnode_recording:read(File), Lines end || File <- Files])).
+
+names() -> ?NAMES.
 
 drive(_, Node, 0, _) -> Node;
 drive(Name, Node, Left, Kills) ->
@@ -100,9 +104,11 @@ drive(Name, Node, Left, Kills) ->
             test_nodes:kill(Node),
             drive(Name, emulator(Name), Left - 1, Kills);
         false ->
-            act(Node, rand:uniform(100), peer(one_of(?NAMES -- [Name]))),
+            act(Name, Node),
             receive after rand:uniform(8) - 1 -> drive(Name, Node, Left - 1, Kills) end
     end.
+
+act(Name, Node) -> act(Node, rand:uniform(100), peer(one_of(?NAMES -- [Name]))).
 
 %% Some of the connects wait for the next full 16 milliseconds, where they meet others.
 act(Node, Kind, Peer) when Kind =< 40 -> begin_call(Node, net_kernel, connect_node, [Peer]);
@@ -129,7 +135,7 @@ made_alike(Nodes) ->
 all_connect(Nodes) ->
     true = test_nodes:wait(fun() ->
                                    [test_nodes:call(X, net_kernel, connect_node, [test_nodes:name(Y)]) || X <- Nodes, Y <- Nodes, X < Y],
-                                   [length(test_nodes:call(Node, erlang, nodes, [])) || Node <- Nodes] =:= [3, 3, 3, 3]
+                                   [length(test_nodes:call(Node, erlang, nodes, [connected])) || Node <- Nodes] =:= [3, 3, 3, 3]
                            end, 20000),
     is_at_rest(Nodes).
 
@@ -230,11 +236,12 @@ own_end(Node, Id, #world{lives = Lives}) -> {Node, map_get(Node, Lives), Id}.
 begins(Node, Creation, Cookie, Setup, #world{nodes = Nodes, lives = Lives} = W) when not is_map_key(Node, Nodes) ->
     happen("begin ~b ~b", [Node, Creation], W#world{nodes = Nodes#{Node => {Setup, Cookie}}, lives = Lives#{Node => 1}});
 begins(Node, Creation, Cookie, Setup, #world{nodes = Nodes, lives = Lives} = W0) ->
-    {Setup, Usual} = map_get(Node, Nodes),
-    W = happen("begin ~b ~b", [Node, Creation], happen("halt ~b", [Node], W0#world{lives = Lives#{Node := map_get(Node, Lives) + 1}})),
-    case Cookie of
-        Usual -> W;
-        _ -> happen("usual_cookie ~b ~s", [Node, Cookie], W)
+    W = happen("halt ~b", [Node], W0#world{lives = Lives#{Node := map_get(Node, Lives) + 1}}),
+    case {map_get(Node, Nodes), Setup} of
+        {{Setup, Cookie}, _} -> happen("begin ~b ~b", [Node, Creation], W);
+        {{Setup, _}, _} -> happen("usual_cookie ~b ~s", [Node, Cookie], happen("begin ~b ~b", [Node, Creation], W));
+        {_, {Name, Flags, Required}} ->
+            happen("begin_as ~b ~s ~s ~.16b ~b require ~.16b", [Node, Name, Cookie, Flags, Creation, Required], W)
     end.
 
 %% A connection to a peer that never takes its first frame leads to that node, whatever became of it.

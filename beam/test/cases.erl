@@ -76,7 +76,7 @@ common(Mapper) ->
      {"global", fun global_names/0},
      {"ticks", fun ticks/0},
      {"strangers", fun() -> strangers(Mapper) end},
-     {"strangers_before_any_peer", fun() -> with_tls("0", fun() -> strangers_first(Mapper) end) end},
+     {"stranger_at_the_last_descriptor", fun() -> with_tls("0", fun() -> last_descriptor(Mapper) end) end},
      {"impostor", fun() -> impostor(Mapper) end},
      {"numbers_run_out", fun() -> numbers_run_out(Mapper) end},
      {"orders_swept", fun() -> with_tls("0", fun() -> order_sweeps:some(Mapper) end) end},
@@ -785,23 +785,18 @@ strangers(Mapper) ->
                  true = c(A, erlang, system_info, [atom_count]) - Atoms < 20
          end).
 
-%% Strangers hold all descriptors of a node before its first peer comes: what a connection needs is loaded by then. Code that their
-%% processes asked for would be read when no descriptor is left.
-strangers_first(Mapper) ->
-    with([{"a", {limited, ours}, ["-kernel", "net_setuptime", "2" | ?QUIET]}, {"b", ours, ?QUIET}, {"o", otp, ?QUIET}],
+%% A stranger takes the last descriptor of a node before its first peer comes: by then it has loaded what a connection needs, and the
+%% stranger hears what it would hear at any time.
+last_descriptor(Mapper) ->
+    with([{"a", {limited, ours}, ?QUIET}, {"b", ours, ?QUIET}, {"o", otp, ?QUIET}],
          fun([A, B, O]) ->
                  Port = other_side:port_of("a", Mapper),
-                 ok = c(A, sys, suspend, [code_server]),
-                 Strangers = [other_side:connect(Port) || _ <- lists:seq(1, 220)],
-                 true = test_nodes:wait(fun() -> c(A, test_agent, has_no_descriptor, []) end, 10000),
-                 ok = c(A, sys, resume, [code_server]),
-                 [_ | _] = c(A, code, get_path, []),
-                 [other_side:close(Socket) || Socket <- Strangers],
-                 [begin
-                      true = test_nodes:wait(fun() -> connect(X, Y) end, 20000),
-                      both_up(X, Y),
-                      apart(X, Y)
-                  end || {X, Y} <- [{B, A}, {O, A}, {A, B}]],
+                 ok = c(A, test_agent, take_descriptors, [1]),
+                 Socket = stranger(Port, <<"last">>),
+                 <<"ok">> = other_side:status(Socket),
+                 ok = c(A, test_agent, give_descriptors, []),
+                 other_side:close(Socket),
+                 [begin true = connect(X, Y), both_up(X, Y), apart(X, Y) end || {X, Y} <- [{B, A}, {O, A}, {A, B}]],
                  agreed([A, B]),
                  nomatch = re:run(test_nodes:log(A), "undef|Error in process")
          end).

@@ -4,7 +4,8 @@
 -module(test_agent).
 -export([main/1, row/1, gone_with_its_controller/1, connect_at/2, is_idle/0, is_asked/1, is_agreed/0, sink/0, flood/2, watch/1, is_down/1]).
 -export([stay_up/2, traffic/2]).
--export([up_end/1, is_held/1, has_no_descriptor/0, libraries/0, traffic_observed/2, reconnect/2, memory/0, crowd/2, crowd_closed/0, change_cookie_once_asked/2]).
+-export([up_end/1, is_held/1, take_descriptors/1, give_descriptors/0, libraries/0, traffic_observed/2, reconnect/2, memory/0]).
+-export([crowd/2, crowd_closed/0, change_cookie_once_asked/2]).
 
 main([Port]) ->
     spawn(fun() ->
@@ -83,11 +84,24 @@ is_held(Id) ->
     {messages, Messages} = process_info(whereis(distnode_core), messages),
     [] =/= [held || {'$gen_call', _, {end_shown, Shown}} <- Messages, Shown =:= Id].
 
-has_no_descriptor() ->
-    case prim_file:read_file("/dev/null") of
-        {error, emfile} -> true;
-        Other -> Other
-    end.
+%% All of this emulator's descriptors but so many are taken, until they are given back.
+take_descriptors(Left) ->
+    Self = self(),
+    Pid = spawn(fun() ->
+                        Files = open_files(file:open("/dev/null", [read, raw])),
+                        [ok = file:close(File) || File <- lists:sublist(Files, Left)],
+                        Self ! {self(), taken},
+                        receive {give, From} -> [file:close(File) || File <- lists:nthtail(Left, Files)], From ! given end
+                end),
+    true = register(descriptors, Pid),
+    receive {Pid, taken} -> ok end.
+
+open_files({ok, File}) -> [File | open_files(file:open("/dev/null", [read, raw]))];
+open_files({error, emfile}) -> [].
+
+give_descriptors() ->
+    descriptors ! {give, self()},
+    receive given -> ok end.
 
 %% The folders of the libraries that are in memory, where that can be seen.
 libraries() ->
