@@ -185,7 +185,7 @@ static ERL_NIF_TERM done(ErlNifEnv *env, kept *k, const char *call, int argc, co
 }
 
 /* The descriptor of a regular file to be appended to, or -1. Another file might hold the emulator up: a FIFO does while nobody reads it. */
-static int opened_regular(const char *name) {
+static int open_regular(const char *name) {
     struct stat is;
     int file = open(name, O_WRONLY | O_CREAT | O_APPEND | O_CLOEXEC | O_NONBLOCK, 0600);
     if (file < 0 || (!fstat(file, &is) && S_ISREG(is.st_mode))) return file;
@@ -199,7 +199,7 @@ static ERL_NIF_TERM nif_recording(ErlNifEnv *env, int argc, const ERL_NIF_TERM a
     char file[4096];
     (void)argc;
     if (enif_get_string(env, argv[0], file, sizeof file, ERL_NIF_LATIN1) <= 0) return enif_make_badarg(env);
-    if (s->recording < 0) s->recording = opened_regular(file);
+    if (s->recording < 0) s->recording = open_regular(file);
     return s->recording >= 0 ? a_ok : a_error;
 }
 
