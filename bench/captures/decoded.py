@@ -11,6 +11,7 @@ MAPPER = 4389
 MAPPER_KINDS = {110: "NAMES_REQ", 118: "ALIVE2_X_RESP", 119: "PORT2_RESP", 120: "ALIVE2_REQ", 121: "ALIVE2_RESP", 122: "PORT_PLEASE2_REQ"}
 LEFT_OUT = "left out"
 SLOW = 3_500_000_000
+SECOND = 1_000_000_000
 # What dist.hrl of OTP 29 calls the bits.
 FLAGS = dict(enumerate("PUBLISHED ATOM_CACHE EXTENDED_REFERENCES DIST_MONITOR FUN_TAGS DIST_MONITOR_NAME HIDDEN_ATOM_CACHE NEW_FUN_TAGS "
                        "EXTENDED_PIDS_PORTS EXPORT_PTR_TAG BIT_BINARIES NEW_FLOATS UNICODE_IO DIST_HDR_ATOM_CACHE SMALL_ATOM_TAGS".split()))
@@ -257,6 +258,8 @@ def end_lines(connection, now):
     how = ", and still when the capture ended" if connection.ended is None else f", then {'reset' if is_reset else 'closed'} by {side}"
     yield connection.heading()
     yield f"   end       up for {seconds(ended - connection.up_at())} seconds{how}"
+    if connection.ended and ended - connection.up_at() < SECOND:
+        yield "!  at once   the connection ended within a second of the acknowledgement"
 
 
 def mapper_lines(connection):

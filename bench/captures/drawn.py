@@ -66,6 +66,11 @@ class Drawn:
     def say(self, side, text):
         return self.send(side, ACK, text)
 
+    def stray(self, side, distance):
+        """Sends a reset whose number is so far from the right one."""
+        other = "a" if side == "d" else "d"
+        self.line.put(packet(self.ends[side], self.ends[other], self.next[side] + distance, 0, RESET, b""))
+
     def close(self, side):
         self.send(side, FIN | ACK)
         return self.send("a" if side == "d" else "d", FIN | ACK)
@@ -221,6 +226,143 @@ def other_ack(line):
     talk.begin(A)
     talk.agree(B, cookie=b"other")
     talk.close("d")
+
+
+@play
+def lost_ack(line):
+    """a and b come up, and the capture lacks the acknowledgement. Then b closes."""
+    talk = line.dial(1, 2, 5012)
+    talk.begin(A)
+    talk.agree(B)
+    line.packets.pop()
+    talk.close("a")
+
+
+@play
+def stray_reset(line):
+    """A reset comes between the reply and the acknowledgement whose number is far from what a awaits, and another one when they are up."""
+    talk = line.dial(1, 2, 5012)
+    talk.begin(A)
+    talk.say("a", challenge(FLAGS, 17, CREATIONS[B], B))
+    talk.say("d", reply(b"secret", 17, 18))
+    talk.stray("a", 300_000_000)
+    talk.say("a", ack(b"secret", 18))
+    talk.stray("d", 500_000_000)
+    line.wait(2)
+    talk.close("d")
+
+
+def dial_in_vain(line, port):
+    """Six SYNs of host 1 to a port of host 2, without an answer."""
+    made = packet((address_of(1), 6100), (address_of(2), port), 7, 0, SYN, b"")
+    for seconds in (0, 1, 2, 4, 8, 16):
+        line.wait(seconds)
+        line.put(made)
+
+
+@play
+def no_answer(line):
+    """A port mapper gives the port of b, and what a sends there has no answer: a node of OTP gives up without a word."""
+    look_up(line, b"b", found(b"b", 5012))
+    dial_in_vain(line, 5012)
+
+
+@play
+def one_direction(line):
+    """What host 1 sends to a port mapper, in a capture of that direction alone."""
+    dial_in_vain(line, int(MAPPER))
+
+
+@play
+def split(line):
+    """The network is cut between a and b, which are up: a sends a tick again and again, and nothing comes from b."""
+    talk = line.dial(1, 2, 5012)
+    talk.begin(A)
+    talk.agree(B)
+    line.wait(12)
+    talk.say("a", bytes(4))
+    talk.send("d", ACK)
+    tick = talk.say("d", bytes(4))
+    for seconds in (0.2, 0.4, 0.8, 1.6, 3.2, 6.4):
+        line.wait(seconds)
+        line.put(tick)
+
+
+@play
+def moved(line):
+    """a is gone without an end, and comes up at host 3. After a minute b resets the old connection."""
+    old = line.dial(1, 2, 5012)
+    old.begin(A)
+    old.agree(B)
+    line.wait(8)
+    new = line.dial(3, 2, 5012)
+    new.say("d", name(FLAGS, 5, A))
+    new.say("a", status(b"ok"))
+    new.agree(B)
+    line.wait(1)
+    new.say("d", bytes(4))
+    new.say("a", bytes(4))
+    line.wait(51)
+    old.send("a", RESET)
+    new.close("d")
+
+
+@play
+def other_at_port(line):
+    """A port mapper gives a port for b, and c is there. a leaves."""
+    look_up(line, b"b", found(b"b", 5012))
+    talk = line.dial(1, 2, 5012)
+    talk.begin(A)
+    talk.say("a", challenge(FLAGS, 17, CREATIONS[C], C))
+    talk.close("d")
+
+
+@play
+def mapper_silent(line):
+    """A port mapper says nothing, until who asks it for b closes."""
+    talk = line.dial(1, 2, int(MAPPER))
+    talk.say("d", frame(b"zb"))
+    talk.send("a", ACK)
+    line.wait(8)
+    talk.close("d")
+
+
+@play
+def tls_to_plain(line):
+    """What dials b speaks TLS, and b, which does not, closes after 7 seconds."""
+    look_up(line, b"b", found(b"b", 5012))
+    talk = line.dial(1, 2, 5012)
+    talk.say("d", b"\x16\x03\x01\x00\x05\x01\x00\x00\x01\x00")
+    talk.send("a", ACK)
+    line.wait(7)
+    talk.close("a")
+
+
+@play
+def late_end(line):
+    """The capture begins with the status, and a leaves upon the challenge."""
+    talk = line.dial(1, 2, 5012)
+    talk.begin(A)
+    talk.say("a", challenge(FLAGS, 17, CREATIONS[B], B))
+    del line.packets[:-2]
+    talk.close("d")
+
+
+def other_packet(protocol, payload, fragment=0):
+    """A packet of IPv4 from host 1 to host 2 that is no segment of TCP."""
+    ends = [bytes(int(part) for part in address_of(host).split(".")) for host in (1, 2)]
+    return struct.pack(">BBHHHBBH", 0x45, 0, 20 + len(payload), 0, fragment, 64, protocol, 0) + b"".join(ends) + payload
+
+
+@play
+def left_out(line):
+    """Tunnels (VXLAN, GRE, IP in IP), a fragment of a segment, and what has nothing to do with it (ICMP)."""
+    line.put(other_packet(17, struct.pack(">HHHH", 5000, 4789, 8, 0)))
+    line.put(other_packet(17, struct.pack(">HHHH", 5000, 4789, 8, 0)))
+    line.put(other_packet(47, bytes(4)))
+    line.put(other_packet(4, other_packet(1, bytes(8))))
+    line.put(other_packet(6, bytes(20), fragment=1))
+    line.put(other_packet(1, bytes(8)))
 
 
 def perform(title):

@@ -98,3 +98,21 @@ pub some_front : (bytes : List ℕ) (i : ℕ) → i < length bytes → slice_get
 some_front [] i lt e = omega arith
 some_front (b ∷ bytes) zero lt e = absurd cc
 some_front (b ∷ bytes) (suc i) lt e = some_front bytes i (omega arith) e
+
+-- the byte at the front of what is known, one place on
+pub leading_steps : (known : List (Option ℕ)) (i b : ℕ) → known_at known i ≡ Some b → leading (drop i known) ≡ b ∷ leading (drop (i + 1) known)
+leading_steps [] i b e = let h : None ≡ Some b = e in absurd cc
+leading_steps (o ∷ known) zero b e = let h : o ≡ Some b = e in rw h refl
+leading_steps (o ∷ known) (suc i) b e = let n : suc i + 1 ≡ suc (i + 1) = omega arith in rw n (leading_steps known i b e)
+
+pub leading_ends : (known : List (Option ℕ)) (i : ℕ) → known_at known i ≡ None → leading (drop i known) ≡ []
+leading_ends [] zero e = refl
+leading_ends [] (suc i) e = refl
+leading_ends (o ∷ known) zero e = leading_none (o ∷ known) e
+leading_ends (o ∷ known) (suc i) e = leading_ends known i e
+
+pub leading_long : (m : ℕ) (known : List (Option ℕ)) → ((i : ℕ) → i < m → known_at known i ≡ None → ⊥) → m ≤ length (leading known)
+leading_long zero known h = omega arith
+leading_long (suc m) [] h = absurd (h 0 (omega arith) refl)
+leading_long (suc m) (None ∷ known) h = absurd (h 0 (omega arith) refl)
+leading_long (suc m) (Some b ∷ known) h = omega (arith, leading_long m known (λ i lt e. h (suc i) (omega arith) e))

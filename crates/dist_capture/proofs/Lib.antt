@@ -1,7 +1,11 @@
 pub mod Known
 pub mod Sequences
 pub mod Arrivals
+pub mod Laying
+pub mod Ending
+pub mod Closing
 pub mod Walks
 pub mod Units
 pub mod Growing
 pub mod Passing
+pub mod Counted

@@ -1,9 +1,9 @@
 -- The bytes of a packet are in its unit.
 use Rattle.std.proofs.Common.{◌≡◌, ℕ, ◌+◌, ◌-◌, ◌≤◌, Bool, true, false, cond, List, length, take, drop, Option, Some, None, Result, Ok, Err, refl, arith, IfOk}
-use Rattle.std.proofs.Common.{slice_get, nat_lt, ◌==◌, ltb-false}
-use Rattle.dist_capture.specs.Formats.{◌>>=◌, number, is_section, section_order, packet, tick_of, clock_of, interface_unit, captured_length, enhanced_by}
-use Rattle.dist_capture.specs.Formats.{enhanced_unit, simple_by, simple, block, IsWithin}
-use Rattle.dist_capture.specs.declared.{fault.CaptureFault.CaptureFault, fault.CaptureFault.TheVariants.Malformed, format.ByteOrder.ByteOrder, unit.Unit.Unit}
+use Rattle.std.proofs.Common.{slice_get, nat_le, nat_lt, ◌^◌, ◌==◌, ltb-false}
+use Rattle.dist_capture.specs.Formats.{◌>>=◌, number, is_section, section_order, packet, tick_of, clock_of, interface_unit, described, captured_length, enhanced_by}
+use Rattle.dist_capture.specs.Formats.{named_interface, enhanced_unit, simple_by, simple, block, IsWithin}
+use Rattle.dist_capture.specs.declared.{fault.CaptureFault.CaptureFault, fault.CaptureFault.TheVariants.Malformed, fault.CaptureFault.TheVariants.TooManyInterfaces, format.ByteOrder.ByteOrder, unit.Unit.Unit}
 use Rattle.dist_capture.specs.declared.format.Interface.{Interface}
 use Rattle.dist_capture.specs.declared.unit.Unit.TheVariants as unit
 
@@ -35,6 +35,11 @@ enhanced_within : (order : ByteOrder) (bytes : List ℕ) (interface : Option Int
 enhanced_within order bytes None le = tt
 enhanced_within order bytes (Some interface) le = packet_within _ interface.link 28 (number order 20 bytes) (length bytes - 32) (length bytes) (omega arith)
 
+named_within : (order : ByteOrder) (is_obsolete : Bool) (interfaces : List Interface) (bytes : List ℕ) → Within (length bytes) (enhanced_unit order is_obsolete interfaces bytes)
+named_within order is_obsolete interfaces bytes =
+    let which = named_interface order is_obsolete bytes in
+    long_within (length bytes) 32 bytes (nat_lt (length bytes) 32) Malformed (enhanced_by order bytes (slice_get interfaces which)) refl (enhanced_within order bytes (slice_get interfaces which))
+
 simple_within : (order : ByteOrder) (bytes : List ℕ) (interface : Option Interface) → 16 ≤ length bytes → Within (length bytes) (simple_by order bytes interface)
 simple_within order bytes None le = tt
 simple_within order bytes (Some interface) le = packet_within 0 interface.link 12 (captured_length interface.most (number order 8 bytes)) (length bytes - 16) (length bytes) (omega arith)
@@ -48,9 +53,9 @@ block_within order interfaces bytes =
     let n = length bytes in
     either_within n (nat_lt n 12) (Err Malformed) _ tt
     (either_within n (is_section bytes) _ _ (then_within n (section_order bytes) _ (λ own. tt))
-    (either_within n (number order 0 bytes == 1) (interface_unit order bytes) _ (described_within n order bytes)
+    (either_within n (number order 0 bytes == 1) (described order interfaces bytes) _ (either_within n (nat_le (2 ^ 16) (length interfaces)) (Err TooManyInterfaces) _ tt (described_within n order bytes))
     (either_within n (number order 0 bytes == 3) (simple order interfaces bytes) _
     (long_within n 16 bytes (nat_lt n 16) Malformed (simple_by order bytes (slice_get interfaces 0)) refl (simple_within order bytes (slice_get interfaces 0)))
-    (either_within n (number order 0 bytes == 6) (enhanced_unit order interfaces bytes) (Ok unit.Other)
-    (long_within n 32 bytes (nat_lt n 32) Malformed (enhanced_by order bytes (slice_get interfaces (number order 8 bytes))) refl (enhanced_within order bytes (slice_get interfaces (number order 8 bytes))))
-    tt))))
+    (either_within n (number order 0 bytes == 2) (enhanced_unit order true interfaces bytes) _ (named_within order true interfaces bytes)
+    (either_within n (number order 0 bytes == 6) (enhanced_unit order false interfaces bytes) (Ok unit.Other) (named_within order false interfaces bytes)
+    tt)))))

@@ -1,8 +1,8 @@
 -- Files of pcap and pcapng: one unit after another (draft-ietf-opsawg-pcap, draft-ietf-opsawg-pcapng).
 use Rattle.std.specs.Prelude.{⊤, ◌≤◌, ℕ, zero, suc, ◌+◌, ◌-◌, ◌*◌, ◌/◌, ◌%◌, ◌^◌, min, Bool, true, false, ◌||◌, not, List, [], length, take, drop}
-use Rattle.std.specs.Prelude.{Option, Some, None, Result, Ok, Err, nat_lt, slice_index, slice_get, ◌==◌, if◌then◌else◌}
+use Rattle.std.specs.Prelude.{Option, Some, None, Result, Ok, Err, nat_le, nat_lt, slice_index, slice_get, ◌==◌, if◌then◌else◌}
 use Rattle.std.specs.Int.{w16, w32, from_be_bytes, from_le_bytes}
-use Rattle.dist_capture.specs.declared.fault.CaptureFault.TheVariants.{NotACapture, Malformed, TooLong, UnknownClock}
+use Rattle.dist_capture.specs.declared.fault.CaptureFault.TheVariants.{NotACapture, Malformed, TooLong, TooManyInterfaces, UnknownClock}
 use Rattle.dist_capture.specs.declared.format.Format.TheVariants.{Unknown, Pcap, Pcapng}
 use Rattle.dist_capture.specs.Parts.{part, four}
 use Rattle.dist_capture.specs.declared.{fault.CaptureFault.CaptureFault, format.ByteOrder.ByteOrder, format.ByteOrder.TheVariants.Big}
@@ -106,6 +106,10 @@ interface_unit order bytes =
     else clock_of 64 order (take (length bytes - 20) (drop 16 bytes)) >>= (λ digits. tick_of digits >>= (λ tick.
     Ok (unit.Described (record { link = half order 8 bytes; tick = tick; most = number order 12 bytes }))))
 
+-- one more interface of a section, which has at most 2^16, our own choice
+abbrev pub described : ByteOrder → List Interface → List ℕ → Result Unit CaptureFault
+described order interfaces bytes = if nat_le (2 ^ 16) (length interfaces) then Err TooManyInterfaces else interface_unit order bytes
+
 -- the time of a packet, in units of its interface
 abbrev pub stamp : ByteOrder → List ℕ → ℕ
 stamp order bytes = 2 ^ 32 * number order 12 bytes + number order 16 bytes
@@ -116,8 +120,13 @@ enhanced_by order bytes None = Err Malformed
 enhanced_by order bytes (Some interface) =
     packet (min (stamp order bytes * interface.tick) (2 ^ 64 - 1)) interface.link 28 (number order 20 bytes) (length bytes - 32)
 
-abbrev pub enhanced_unit : ByteOrder → List Interface → List ℕ → Result Unit CaptureFault
-enhanced_unit order interfaces bytes = if nat_lt (length bytes) 32 then Err Malformed else enhanced_by order bytes (slice_get interfaces (number order 8 bytes))
+-- which interface it names: by four bytes, in the Packet Block, which is obsolete, by two
+abbrev pub named_interface : ByteOrder → Bool → List ℕ → ℕ
+named_interface order is_obsolete bytes = if is_obsolete then half order 8 bytes else number order 8 bytes
+
+abbrev pub enhanced_unit : ByteOrder → Bool → List Interface → List ℕ → Result Unit CaptureFault
+enhanced_unit order is_obsolete interfaces bytes =
+    if nat_lt (length bytes) 32 then Err Malformed else enhanced_by order bytes (slice_get interfaces (named_interface order is_obsolete bytes))
 
 -- a packet of the first interface, without a time: all of it, or as much as its interface captures
 abbrev pub captured_length : ℕ → ℕ → ℕ
@@ -134,9 +143,10 @@ abbrev pub block : ByteOrder → List Interface → List ℕ → Result Unit Cap
 block order interfaces bytes =
     if nat_lt (length bytes) 12 then Err Malformed
     else if is_section bytes then section_order bytes >>= (λ own. Ok (unit.Section own))
-    else if number order 0 bytes == 1 then interface_unit order bytes
+    else if number order 0 bytes == 1 then described order interfaces bytes
     else if number order 0 bytes == 3 then simple order interfaces bytes
-    else if number order 0 bytes == 6 then enhanced_unit order interfaces bytes
+    else if number order 0 bytes == 2 then enhanced_unit order true interfaces bytes
+    else if number order 0 bytes == 6 then enhanced_unit order false interfaces bytes
     else Ok unit.Other
 
 -- the first unit of a file

@@ -32,4 +32,4 @@ datagram_of link bytes =
     else if link == 276 then typed_packet 0 20 bytes
     else if link == 0 || link == 108 then behind 4 bytes
     else if is_raw link then Ok bytes
-    else Err UnknownLink
+    else Err (UnknownLink link)

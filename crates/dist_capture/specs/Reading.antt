@@ -1,7 +1,8 @@
 -- A reader of a capture, to which the file comes in pieces.
-use Rattle.std.specs.Prelude.{◌≡◌, ℕ, ◌⊎◌, Bool, true, false, ◌||◌, List, [], ◌∷◌, ◌++◌, length, take, drop, Option, Some, None}
+use Rattle.std.specs.Prelude.{◌≡◌, ℕ, ◌+◌, ◌⊎◌, Bool, true, false, ◌||◌, List, [], ◌∷◌, ◌++◌, length, take, drop, Option, Some, None}
 use Rattle.std.specs.Prelude.{option_to_list, Result, Ok, Err, nat_lt, if◌then◌else◌}
-use Rattle.dist_capture.specs.{Parts.part, Tcp.Said, Tcp.segment_of, Tcp.place_of, Counting.counted, Formats.awaited_length, Formats.unit_of, Formats.◌>>=◌}
+use Rattle.dist_capture.specs.{Parts.part, Tcp.Said, Tcp.segment_of, Tcp.place_of, Counting.counted, Counting.nothing_skipped}
+use Rattle.dist_capture.specs.{Formats.awaited_length, Formats.unit_of, Formats.◌>>=◌}
 use Rattle.dist_capture.specs.declared.{fault.CaptureFault.CaptureFault, format.Format.Format, format.Format.TheVariants.Unknown}
 use Rattle.dist_capture.specs.declared.{format.Format.TheVariants.Pcap, format.Format.TheVariants.Pcapng, format.Interface.Interface}
 use Rattle.dist_capture.specs.declared.{segment.Segment.Segment, skipped.Skipped.Skipped, skipped.SkippedCounts.SkippedCounts, unit.Unit.Unit}
@@ -89,6 +90,8 @@ view_of s = (
     from = place_of s.from;
     to = place_of s.to;
     sequence = s.sequence;
+    acknowledges = s.acknowledges;
+    window = s.window;
     is_fin = s.is_fin;
     is_syn = s.is_syn;
     is_reset = s.is_reset;
@@ -127,7 +130,7 @@ unread = record {
   format = Unknown;
   interfaces = [];
   pending = [];
-  counts = record { unknown_link = 0; cut_short = 0; other_protocol = 0; fragment = 0; malformed = 0 };
+  counts = nothing_skipped;
 }
 
 -- no unit can be read any more
@@ -141,3 +144,12 @@ pub data Was : Reading → List ℕ → List (ℕ × Said) → Type 0 where
       → Was r stream segments → Was (with_bytes r piece) (stream ++ piece) segments
   Asked : (r later : Reading) (stream : List ℕ) (segments others : List (ℕ × Said))
       → Was r stream segments → Reads r others later → Was later stream (segments ++ others)
+
+-- whether a unit is a packet, and how many packets a run over a capture has read
+abbrev pub packet_count : Unit → ℕ
+packet_count (unit.Packet time link at len) = 1
+packet_count _ = 0
+
+abbrev pub packets : (r later : Reading) (segments : List (ℕ × Said)) → Reads r segments later → ℕ
+packets r later segments (Done s) = 0
+packets r later segments (Next s mid end segment others all gives rest is) = packet_count gives.says + packets mid end others rest

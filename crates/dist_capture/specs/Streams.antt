@@ -1,11 +1,11 @@
 -- The bytes of one direction of a connection, put in order by their sequence numbers (RFC 9293, 3.4): numbers modulo 2^32, each of which
 -- stands for the byte within 2^31 of the one that is awaited.
-use Rattle.std.specs.Prelude.{ℕ, ◌+◌, ◌-◌, ◌%◌, ◌^◌, Bool, ◌&&◌, not, max, List, [], ◌∷◌, ◌++◌, length, drop, map, Option, Some, None, nat_lt, nat_le}
-use Rattle.std.specs.Prelude.{slice_get, slice_index_or, ◌==◌, if◌then◌else◌}
+use Rattle.std.specs.Prelude.{ℕ, ◌+◌, ◌-◌, ◌%◌, ◌^◌, Bool, ◌&&◌, ◌||◌, not, max, List, [], ◌∷◌, ◌++◌, length, drop, map, Option, Some, None, nat_lt, nat_le}
+use Rattle.std.specs.Prelude.{is_some, slice_get, slice_index_or, ◌==◌, if◌then◌else◌}
 use Rattle.std.specs.List.{range_with_len}
 
 pub record Gathering : Type 0 where
-  -- the sequence number of the byte that is awaited
+  -- the sequence number of the byte that is awaited (RCV.NXT of RFC 9293, 3.3.1)
   pub next : ℕ
   -- the bytes in front of it, in order, that were not taken away
   pub ready : List ℕ
@@ -36,6 +36,10 @@ abbrev pub leading : List (Option ℕ) → List ℕ
 leading [] = []
 leading (None ∷ known) = []
 leading (Some b ∷ known) = b ∷ leading known
+
+-- the last place is of a byte that is known, if there is one
+abbrev pub ends_known : List (Option ℕ) → Bool
+ends_known known = length known == 0 || is_some (known_at known (length known - 1))
 
 -- how far a sequence number is past another
 abbrev pub past : ℕ → ℕ → ℕ

@@ -1,5 +1,5 @@
 -- TCP segments (RFC 9293, 3.1).
-use Rattle.std.specs.Prelude.{ℕ, ◌-◌, ◌*◌, ◌/◌, ◌%◌, Bool, List, length, drop, Result, Ok, Err, nat_lt, slice_index, ◌==◌, if◌then◌else◌}
+use Rattle.std.specs.Prelude.{ℕ, ◌-◌, ◌*◌, ◌/◌, ◌%◌, Bool, List, length, drop, Option, Some, None, Result, Ok, Err, nat_lt, slice_index, ◌==◌, if◌then◌else◌}
 use Rattle.dist_capture.specs.{Parts.two, Parts.four, Parts.◌>>=◌, Link.datagram_of, Network.numbers_of, Network.Carried, Network.segment_in}
 use Rattle.dist_capture.specs.declared.skipped.Skipped.{Skipped, TheVariants.CutShort, TheVariants.Malformed}
 use Rattle.dist_capture.specs.declared.{segment.Endpoint.Endpoint, tcp.FoundSegment.FoundSegment}
@@ -14,6 +14,10 @@ pub record Said : Type 0 where
   pub from : Place
   pub to : Place
   pub sequence : ℕ
+  -- the next sequence number that the sender awaits from the other side, if the ACK bit is set
+  pub acknowledges : Option ℕ
+  -- how many bytes the sender is ready to take, not scaled
+  pub window : ℕ
   pub is_fin : Bool
   pub is_syn : Bool
   pub is_reset : Bool
@@ -26,6 +30,10 @@ pub record Said : Type 0 where
 abbrev pub is_set : ℕ → List ℕ → Bool
 is_set bit segment = slice_index segment 13 / bit % 2 == 1
 
+-- the number that is ack_number, which counts only with the ACK bit
+abbrev pub ack_number : List ℕ → Option ℕ
+ack_number segment = if is_set 16 segment then Some (four 8 segment) else None
+
 -- where the payload begins
 abbrev pub header_of : List ℕ → ℕ
 header_of segment = 4 * (slice_index segment 12 / 16)
@@ -36,6 +44,8 @@ said c = record {
   from = record { address = c.source; port = two 0 c.segment };
   to = record { address = c.target; port = two 2 c.segment };
   sequence = four 4 c.segment;
+  acknowledges = ack_number c.segment;
+  window = two 14 c.segment;
   is_fin = is_set 1 c.segment;
   is_syn = is_set 2 c.segment;
   is_reset = is_set 4 c.segment;
@@ -67,6 +77,8 @@ view_of f = record {
   from = place_of f.from;
   to = place_of f.to;
   sequence = f.sequence;
+  acknowledges = f.acknowledges;
+  window = f.window;
   is_fin = f.is_fin;
   is_syn = f.is_syn;
   is_reset = f.is_reset;

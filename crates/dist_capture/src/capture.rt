@@ -46,6 +46,8 @@ fn copy(alloc: Global, time: u64, found: FoundSegment<'_>) -> Result<Segment, Al
         from: found.from,
         to: found.to,
         sequence: found.sequence,
+        acknowledges: found.acknowledges,
+        window: found.window,
         is_syn: found.is_syn,
         is_ack: found.is_ack,
         is_fin: found.is_fin,

@@ -18,6 +18,9 @@ pub enum CaptureFault {
     /// A packet or a block has more than 16,777,216 bytes, our own choice.
     #[error("a packet of the capture has more than 16777216 bytes")]
     TooLong,
+    /// A section of pcapng describes more than 65,536 interfaces, our own choice.
+    #[error("a section of the capture describes more than 65536 interfaces")]
+    TooManyInterfaces,
     /// An interface counts the time in other units than a second or a decimal fraction of it down to a nanosecond.
     #[error("an interface of the capture counts the time in units that are not known")]
     UnknownClock,

@@ -2,11 +2,12 @@
 //! connection make.
 //!
 //! Over bytes alone: no input or output, no clock, no randomness. Every function is total: bytes of any kind give an answer and no
-//! fault. Fragments of IP are counted and not put together, checksums are not looked at (where a network card makes them, a capture
-//! has wrong ones), and nothing is guessed: a stream ends at its first gap.
+//! fault. Each packet gives a segment or is counted once: fragments of IP are not put together, and tunnels (VXLAN, GRE, IP in IP) are not
+//! looked into. Checksums are not looked at (where a network card makes them, a capture has wrong ones), and nothing is guessed: a
+//! stream ends at its first gap.
 //!
 //! Sources: draft-ietf-opsawg-pcap and draft-ietf-opsawg-pcapng (files), the list of link types of tcpdump.org (links), RFC 791
-//! (IPv4), RFC 8200 (IPv6), RFC 9293 (TCP).
+//! (IPv4), RFC 8200 (IPv6), RFC 9293 (TCP), RFC 7348 (VXLAN), RFC 2784 (GRE), RFC 2003, RFC 2473 and RFC 4213 (IP in IP).
 #![tactic(auto)]
 
 mod capture;
@@ -16,6 +17,7 @@ mod laws;
 mod link;
 mod network;
 mod parts;
+mod places;
 mod segment;
 mod skipped;
 mod stream;
@@ -24,7 +26,7 @@ mod unit;
 
 pub use capture::Capture;
 pub use fault::CaptureFault;
-pub use laws::{any_order, any_pieces};
+pub use laws::{any_order, any_pieces, each_counted};
 pub use segment::{Endpoint, Segment};
 pub use skipped::{Skipped, SkippedCounts};
 pub use stream::SegmentStream;

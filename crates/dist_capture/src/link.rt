@@ -65,6 +65,6 @@ pub fn datagram_of(link: u32, bytes: &[u8]) -> Result<&[u8], Skipped>
         COOKED_2 => typed_packet(bytes, 0, 20),
         NULL | LOOP => behind(bytes, 4),
         12 | 101 | 228 | 229 => Ok(bytes),
-        _ => Err(Skipped::UnknownLink),
+        _ => Err(Skipped::UnknownLink(link)),
     }
 }

@@ -1,16 +1,20 @@
 //! IP packets.
 
 ghost use Rattle.std.specs.Prelude.{◌≡◌, ◌≤◌, ◌^◌, ◌<◌, ◌-◌, length, take, drop};
-ghost use Rattle.dist_capture.specs.Network.{numbers_of, carried, in_ipv4, is_extension, upper, in_ipv6, segment_in, shown};
+ghost use Rattle.dist_capture.specs.Network.{numbers_of, is_vxlan, unread, carried, in_ipv4, is_extension, upper, in_ipv6, segment_in, shown};
 
 use crate::parts::{part, two};
 use crate::skipped::Skipped;
 use std::net::IpAddr;
 
-// The protocol that is TCP, and the header of a fragment.
+// The protocols that are TCP and UDP, and the header of a fragment.
 const TCP: u8 = 6;
 
+const UDP: u8 = 17;
+
 const FRAGMENT: u8 = 44;
+// The UDP port of VXLAN.
+const VXLAN: u16 = 4789;
 
 /// An IP packet that carries a TCP segment.
 #[derive(Clone, Copy)]
@@ -21,6 +25,27 @@ pub struct Datagram<'a> {
     pub size: usize,
     // Those that were captured.
     pub segment: &'a [u8],
+}
+
+// Whether what a protocol carries, from a place on, is a UDP datagram to the port of VXLAN.
+fn is_vxlan(protocol: u8, at: usize, bytes: &[u8]) -> bool
+    ensures { result ≡ is_vxlan protocol at bytes.now }
+{
+    protocol == UDP && bytes.len() >= 4 && at <= bytes.len() - 4 && two(bytes, at + 2) == VXLAN
+}
+
+// Why what another protocol than TCP carries, from a place on, gives no segment.
+fn unread(protocol: u8, at: usize, bytes: &[u8]) -> Skipped
+    ensures { result ≡ unread protocol at bytes.now }
+{
+    if is_vxlan(protocol, at, bytes) {
+        return Skipped::Vxlan;
+    }
+    match protocol {
+        47 => Skipped::Gre,
+        4 | 41 => Skipped::IpInIp,
+        _ => Skipped::OtherProtocol,
+    }
 }
 
 // The packet whose segment is the bytes from a place to an end.
@@ -59,11 +84,11 @@ fn in_ipv4(bytes: &[u8]) -> Result<Datagram<'_>, Skipped>
     if header < 20 {
         return Err(Skipped::Malformed);
     }
-    if bytes[9] != TCP {
-        return Err(Skipped::OtherProtocol);
-    }
     if two(bytes, 6) % 0x4000 != 0 {
         return Err(Skipped::Fragment);
+    }
+    if bytes[9] != TCP {
+        return Err(unread(bytes[9], header, bytes));
     }
     let source: [u8; 4] = part(bytes, 12);
     let target: [u8; 4] = part(bytes, 16);
@@ -112,8 +137,11 @@ fn in_ipv6(bytes: &[u8]) -> Result<Datagram<'_>, Skipped>
     if header == FRAGMENT {
         return Err(Skipped::Fragment);
     }
+    if is_extension(header) {
+        return Err(Skipped::ManyHeaders);
+    }
     if header != TCP {
-        return Err(Skipped::OtherProtocol);
+        return Err(unread(header, at, bytes));
     }
     let source: [u8; 16] = part(bytes, 8);
     let target: [u8; 16] = part(bytes, 24);

@@ -18,6 +18,10 @@ pub struct Segment {
     pub to: Endpoint,
     /// The sequence number of the first byte of the payload, or of the SYN.
     pub sequence: u32,
+    /// The next sequence number that the sender awaits from the other side, in a segment with ACK.
+    pub acknowledges: Option<u32>,
+    /// How many bytes the sender is ready to take, not scaled: a segment behind a SYN may count in greater units (RFC 7323, 2).
+    pub window: u16,
     pub is_syn: bool,
     pub is_ack: bool,
     pub is_fin: bool,

@@ -1,8 +1,9 @@
 //! The stream of one direction of a connection.
 
-ghost use Rattle.std.specs.Prelude.{◌≡◌, ◌<◌, ◌+◌, ◌^◌, [], length, is_some, position, IfOk, OnOk, OnErr};
-ghost use Rattle.dist_capture.specs.Streams.{awaiting, taken, consumed, new_part, is_near, laid, leading, byte_at, first_of, known_at};
+ghost use Rattle.std.specs.Prelude.{◌≡◌, ◌<◌, ◌+◌, ◌%◌, ◌^◌, [], length, slice_get, is_some, position, IfOk, OnOk, OnErr};
+ghost use Rattle.dist_capture.specs.Streams.{awaiting, taken, consumed, new_part, is_near, laid, leading, settled, first_of, known_at};
 
+use crate::places::BytePlaces;
 use dist_frames::ByteQueue;
 use std::alloc::{AllocError, Global};
 use std::marker::Model;
@@ -17,17 +18,21 @@ pub struct SegmentStream {
     // The bytes in front of it that were not taken away.
     ready: ByteQueue,
     // What is known of the bytes from it on.
-    waiting: Vec<Option<u8>>,
+    places: BytePlaces,
     // How far a byte may be behind a gap.
     most: usize,
 }
 
 impl Model for SegmentStream {
-    ghost use Rattle.dist_capture.specs.Streams.{Gathering};
+    ghost use Rattle.std.specs.Prelude.{◌≡◌, true, false, is_some};
+    ghost use Rattle.dist_capture.specs.Streams.{Gathering, known_at, ends_known};
 
     ghost Value = { Gathering };
 
-    ghost view = { λ s. record { next = s.next; ready = s.ready; waiting = s.waiting.items; most = s.most } };
+    ghost view = { λ s. record { next = s.next; ready = s.ready; waiting = s.places; most = s.most } };
+
+    // The awaited byte is not known, and the last one is.
+    ghost invariant = { λ s. (is_some (known_at s.places 0) ≡ false) × (ends_known s.places ≡ true) };
 }
 
 // The new bytes of a segment, and how far behind the awaited byte they begin.
@@ -50,52 +55,24 @@ fn known_at(known: &[Option<u8>], i: usize) -> Option<u8>
     if i < known.len() { known[i] } else { None }
 }
 
-// The byte that a segment has at a place.
-fn byte_at(place: usize, bytes: &[u8], i: usize) -> Option<u8>
-    ensures { result ≡ byte_at place bytes.now i }
-{
-    if i < place {
-        return None;
-    }
-    bytes.get(i - place).copied()
-}
-
-// What is known of a byte once a segment came.
-fn first_of(known: &[Option<u8>], place: usize, bytes: &[u8], i: usize) -> Option<u8>
-    ensures { result ≡ first_of (known_at known.now i) (byte_at place bytes.now i) }
+// What is known of a byte once a segment came that begins at the awaited one.
+fn known_with(known: &[Option<u8>], bytes: &[u8], i: usize) -> Option<u8>
+    ensures { result ≡ first_of (known_at known.now i) (slice_get bytes.now i) }
 {
     match known_at(known, i) {
         Some(byte) => Some(byte),
-        None => byte_at(place, bytes, i),
+        None => bytes.get(i).copied(),
     }
 }
 
-// What is known once a segment came.
-fn lay(
-    alloc: Global,
-    known: &[Option<u8>],
-    place: usize,
-    bytes: &[u8],
-) -> Result<Vec<Option<u8>>, AllocError>
-    requires { place < 2 ^ 32 }
-    ensures { IfOk result (λ all. all.items ≡ laid place bytes.now known.now) }
+// The bytes up to the first that is not known once a segment came that begins at the awaited one.
+fn leading(alloc: Global, known: &[Option<u8>], bytes: &[u8]) -> Result<Vec<u8>, AllocError>
+    ensures { IfOk result (λ front. front.items ≡ leading (laid 0 bytes.now known.now)) }
 {
-    let len = known.len().max(place + bytes.len());
-    let mut all = Vec::with_capacity(alloc, len)?;
-    for i in 0..len {
-        all.push(first_of(known, place, bytes, i))?;
-    }
-    Ok(all)
-}
-
-// The bytes up to the first that is not known.
-fn leading(alloc: Global, known: &[Option<u8>]) -> Result<Vec<u8>, AllocError>
-    ensures { IfOk result (λ front. front.items ≡ leading known.now) }
-{
-    let mut front = Vec::new(alloc);
-    for byte in known {
-        match byte {
-            Some(byte) => front.push(*byte)?,
+    let mut front = Vec::with_capacity(alloc, bytes.len())?;
+    for i in 0..known.len().max(bytes.len()) {
+        match known_with(known, bytes, i) {
+            Some(byte) => front.push(byte)?,
             None => return Ok(front),
         }
     }
@@ -112,14 +89,32 @@ impl SegmentStream {
             alloc,
             next: first,
             ready: ByteQueue::new(alloc),
-            waiting: Vec::new(alloc),
+            places: BytePlaces::new(alloc),
             most,
         }
     }
 
+    // So many more bytes are in order.
+    fn advance(&mut self, count: usize)
+        ensures { self.new ≡ record self.old { next = (self.old.next + count) % 2 ^ 32 } }
+    {
+        self.next = self.next.wrapping_add((count % 0x1_0000_0000) as u32);
+    }
+
+    // Takes bytes that begin at the awaited one, where others wait behind them.
+    fn close_gap(&mut self, bytes: &[u8]) -> Result<(), AllocError>
+        ensures ok { OnOk result (self.new ≡ settled self.old (laid 0 bytes.now self.old.waiting)) }
+        ensures err { OnErr result (self.new ≡ self.old) }
+    {
+        let front = leading(self.alloc, self.places.as_slice(), bytes)?;
+        self.ready.extend(&front)?;
+        self.places.drop_front(front.len());
+        self.advance(front.len());
+        Ok(())
+    }
+
     /// Takes the bytes of a segment at their sequence number. Returns whether they were near enough; `false` where they were dropped. An
     /// `Err` changes nothing.
-    #[tactic(auto, using(crate::proofs::Known::leading_short))]
     pub fn take(&mut self, sequence: u32, bytes: &[u8]) -> Result<bool, AllocError>
         ensures ok { OnOk result (self.new ≡ taken self.old sequence bytes.now) }
         ensures kept { IfOk result (λ kept. kept ≡ is_near self.old.most (new_part self.old.next sequence bytes.now)) }
@@ -132,12 +127,14 @@ impl SegmentStream {
         if bytes.is_empty() {
             return Ok(true);
         }
-        let known = lay(self.alloc, &self.waiting, place, bytes)?;
-        let front = leading(self.alloc, &known)?;
-        let waiting = Vec::from_slice(self.alloc, &known[front.len()..])?;
-        self.ready.extend(&front)?;
-        self.waiting = waiting;
-        self.next = self.next.wrapping_add((front.len() % 0x1_0000_0000) as u32);
+        if place > 0 {
+            self.places.lay(place, bytes)?;
+        } else if self.places.len() == 0 {
+            self.ready.extend(bytes)?;
+            self.advance(bytes.len());
+        } else {
+            self.close_gap(bytes)?;
+        }
         Ok(true)
     }
 
@@ -155,10 +152,37 @@ impl SegmentStream {
         self.ready.drop_front(count);
     }
 
-    /// How many bytes are missing behind those that are ready, where others wait behind them.
+    /// The sequence number of the next byte that is missing or to come, modulo 2^32 (RCV.NXT of RFC 9293, 3.3.1, for one who sees what the
+    /// capture has). Once a segment was taken, a FIN or RST in it stands behind a gap if the number of the byte behind its payload is not
+    /// this one.
+    pub fn next_number(&self) -> u32
+        ensures { result ≡ self.now.next }
+    {
+        self.next
+    }
+
+    /// How many bytes it keeps: those that are ready, and behind the first gap all places up to the last byte that came, of which a
+    /// missing one takes as much memory as another.
+    pub fn waiting(&self) -> usize
+        ensures { result ≡ length self.now.ready + length self.now.waiting }
+    {
+        self.ready().len() + self.places.as_slice().len()
+    }
+
+    /// Whether bytes wait behind a gap.
+    pub fn has_gap(&self) -> bool
+        ensures { result ≡ is_some (position is_some self.now.waiting) }
+    {
+        self.places.len() > 0
+    }
+
+    /// How many bytes are missing behind those that are ready, where others wait behind them. It takes the longer the wider the gap is.
     pub fn gap(&self) -> Option<usize>
         ensures { result ≡ position is_some self.now.waiting }
     {
-        self.waiting.iter().position(|byte| byte.is_some())
+        self.places
+            .as_slice()
+            .iter()
+            .position(|byte| byte.is_some())
     }
 }

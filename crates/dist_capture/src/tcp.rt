@@ -1,7 +1,7 @@
 //! TCP segments of packets.
 
-ghost use Rattle.std.specs.Prelude.{◌≡◌, length};
-ghost use Rattle.dist_capture.specs.{Network.view_of as carried_by, Tcp.is_set, Tcp.said_by, Tcp.segment_of, Tcp.shown};
+ghost use Rattle.std.specs.Prelude.{◌≡◌, ◌≤◌, length};
+ghost use Rattle.dist_capture.specs.{Network.view_of as carried_by, Tcp.ack_number, Tcp.is_set, Tcp.said_by, Tcp.segment_of, Tcp.shown};
 
 use crate::link::datagram_of;
 use crate::network::{Datagram, segment_in};
@@ -15,6 +15,8 @@ pub struct FoundSegment<'a> {
     pub from: Endpoint,
     pub to: Endpoint,
     pub sequence: u32,
+    pub acknowledges: Option<u32>,
+    pub window: u16,
     pub is_fin: bool,
     pub is_syn: bool,
     pub is_reset: bool,
@@ -23,6 +25,18 @@ pub struct FoundSegment<'a> {
     pub payload: &'a [u8],
     /// How many bytes of the payload the capture cut off.
     pub missing: usize,
+}
+
+// The number that a header acknowledges.
+fn ack_number(header: &[u8]) -> Option<u32>
+    requires { 20 ≤ length header.now }
+    ensures { result ≡ ack_number header.now }
+{
+    if header[13] / 16 % 2 == 1 {
+        Some(four(header, 8))
+    } else {
+        None
+    }
 }
 
 // The segment that an IP packet carries.
@@ -54,6 +68,8 @@ fn said_by(datagram: Datagram<'_>) -> Result<FoundSegment<'_>, Skipped>
             port: two(bytes, 2),
         },
         sequence: four(bytes, 4),
+        acknowledges: ack_number(bytes),
+        window: two(bytes, 14),
         is_fin: flags % 2 == 1,
         is_syn: flags / 2 % 2 == 1,
         is_reset: flags / 4 % 2 == 1,

@@ -11,6 +11,8 @@ use crate::parts::four;
 
 // The longest unit that is taken, in bytes. Our own choice.
 const MOST: u32 = 16_777_216;
+// The most interfaces of a section. Our own choice.
+const MOST_INTERFACES: usize = 65_536;
 // How many options of an interface are looked at. Our own choice: there are fewer than 20 kinds.
 const MOST_OPTIONS: u32 = 64;
 
@@ -221,17 +223,24 @@ fn interface_at(interfaces: &[Interface], which: usize) -> Option<Interface>
     interfaces.get(which).copied()
 }
 
+// A packet that names its interface: by four bytes, in the blocks that are obsolete by two.
 fn enhanced_unit(
     order: ByteOrder,
+    is_obsolete: bool,
     interfaces: &[Interface],
     bytes: &[u8],
 ) -> Result<Unit, CaptureFault>
-    ensures { result ≡ enhanced_unit order interfaces.now bytes.now }
+    ensures { result ≡ enhanced_unit order is_obsolete interfaces.now bytes.now }
 {
     if bytes.len() < 32 {
         return Err(CaptureFault::Malformed);
     }
-    let Some(interface) = interface_at(interfaces, order.number(bytes, 8) as usize) else {
+    let which = if is_obsolete {
+        order.half(bytes, 8) as usize
+    } else {
+        order.number(bytes, 8) as usize
+    };
+    let Some(interface) = interface_at(interfaces, which) else {
         return Err(CaptureFault::Malformed);
     };
     packet(
@@ -279,9 +288,11 @@ fn block(order: ByteOrder, interfaces: &[Interface], bytes: &[u8]) -> Result<Uni
         return Ok(Unit::Section(own));
     }
     match order.number(bytes, 0) {
+        1 if interfaces.len() >= MOST_INTERFACES => Err(CaptureFault::TooManyInterfaces),
         1 => interface_unit(order, bytes),
         3 => simple(order, interfaces, bytes),
-        6 => enhanced_unit(order, interfaces, bytes),
+        2 => enhanced_unit(order, true, interfaces, bytes),
+        6 => enhanced_unit(order, false, interfaces, bytes),
         _ => Ok(Unit::Other),
     }
 }

@@ -2,7 +2,7 @@
 -- out about one node.
 use Rattle.std.specs.Prelude.{◌≡◌, ℕ, ◌+◌, ◌-◌, ◌*◌, ◌/◌, ◌^◌, ◌==◌, Bool, List, [], ◌∷◌, codes, count_by, length, map, min, if◌then◌else◌}
 use Rattle.dist_names.specs.Order.{same_name}
-use Rattle.dist_probe.specs.Words.{verdict_word}
+use Rattle.dist_talk.specs.Words.{verdict_word}
 use Rattle.dist_cluster.specs.Pairs.{pair_word, pairing_of}
 use Rattle.dist_cluster.specs.declared.{pairs.Half.Half, summary.Summary.Summary, summary.WordCount.WordCount}
 
@@ -26,17 +26,19 @@ how_many halves word = min (pair_count (makes_pair word) halves) (2 ^ 64 - 1)
 -- the words of verdicts, in the order of their variants
 abbrev pub verdict_words : List (List ℕ)
 verdict_words =
-    codes "Up" ∷ codes "Reached" ∷ codes "NoHost" ∷ codes "ResolverSilent" ∷ codes "MapperRefused" ∷ codes "MapperUnreachable"
-    ∷ codes "MapperFault" ∷ codes "NotRegistered" ∷ codes "PortRefused" ∷ codes "PortUnreachable" ∷ codes "Silent" ∷ codes "Gone"
-    ∷ codes "Reset" ∷ codes "Foreign" ∷ codes "Unexpected" ∷ codes "OwnName" ∷ codes "Busy" ∷ codes "LacksFlags" ∷ codes "NotOnList"
-    ∷ codes "AlreadyUp" ∷ codes "OtherName" ∷ codes "LongAndShort" ∷ codes "Version5" ∷ codes "WrongCookie" ∷ codes "WrongAck"
-    ∷ codes "NoMemory" ∷ codes "NoDescriptors" ∷ []
+    codes "Up" ∷ codes "Finished" ∷ codes "Dropped" ∷ codes "Reached" ∷ codes "Answered" ∷ codes "NoHost" ∷ codes "ResolverSilent"
+    ∷ codes "MapperRefused" ∷ codes "MapperUnreachable" ∷ codes "MapperFault" ∷ codes "NotRegistered" ∷ codes "NameInUse"
+    ∷ codes "PortRefused" ∷ codes "PortUnreachable" ∷ codes "NoCaller" ∷ codes "Silent" ∷ codes "Gone" ∷ codes "Reset"
+    ∷ codes "NoName" ∷ codes "Left" ∷ codes "Stopped" ∷ codes "Withdrawn" ∷ codes "Foreign" ∷ codes "Unexpected" ∷ codes "OwnName"
+    ∷ codes "Busy" ∷ codes "LacksFlags" ∷ codes "NotOnList" ∷ codes "AlreadyUp" ∷ codes "OtherName" ∷ codes "LongAndShort"
+    ∷ codes "Version5" ∷ codes "WantsName" ∷ codes "Dynamic" ∷ codes "WrongCookie" ∷ codes "WrongAck" ∷ codes "Unfinished"
+    ∷ codes "NothingFound" ∷ codes "NoMemory" ∷ codes "NoDescriptors" ∷ []
 
 -- the words of pairs, in the order in which they are looked for
 abbrev pub pair_words : List (List ℕ)
 pair_words =
-    codes "SameName" ∷ codes "LongAndShort" ∷ codes "NotReached" ∷ codes "LacksFlags" ∷ codes "OtherCookies" ∷ codes "Unsure"
-    ∷ codes "Agree" ∷ []
+    codes "SameName" ∷ codes "LongAndShort" ∷ codes "NotReached" ∷ codes "LacksFlags" ∷ codes "OtherKinds" ∷ codes "OtherCookies"
+    ∷ codes "Unsure" ∷ codes "Agree" ∷ []
 
 -- those of the words that occur, and how many have each
 abbrev pub tallied : (List ℕ → ℕ) → List (List ℕ) → List (List ℕ × ℕ)

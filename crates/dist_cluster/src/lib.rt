@@ -24,7 +24,7 @@ pub use laws::{
     what_is_kept_of_latencies,
 };
 pub use name_lines::name_in_line;
-pub use pairs::{Half, Pairing, pairing_of};
+pub use pairs::{AddressKinds, Half, Pairing, pairing_of};
 pub use statuses::first_of;
 pub use summary::{Summary, WordCount};
 pub use targets::{Group, MOST_NODES, Target, USUAL, target_of, word_in};

@@ -1,13 +1,22 @@
 //! What can be said of two nodes from outside, once both were dialled.
 
 ghost use Rattle.std.specs.Prelude.{◌≡◌, ◌≢◌, ◌↔◌, IsTrue};
-ghost use Rattle.dist_probe.specs.Styles.{is_long_and_short};
+ghost use Rattle.dist_talk.specs.Styles.{is_long_and_short};
 ghost use Rattle.dist_names.specs.Order.{same_name};
-ghost use Rattle.dist_cluster.specs.Pairs.{behind_cookies, behind_flags, is_bad, lacks, pair_cause, pairing_of, pair_status, pair_word};
+ghost use Rattle.dist_cluster.specs.Pairs.{behind_cookies, behind_flags, behind_kinds, is_bad, lacks, pairing_of, pair_status, pair_word, share_kind};
 
 use dist_flags::{missing, release_of};
 use dist_names::{Flags, NodeName};
-use dist_probe::{ProbeVerdict, is_long_and_short};
+use dist_talk::{HandshakeVerdict, is_long_and_short};
+
+/// By which kinds of address a node is reached.
+#[derive(Clone, Copy, Debug, PartialEq, Eq)]
+pub struct AddressKinds {
+    /// By IPv4.
+    pub ipv4: bool,
+    /// By IPv6.
+    pub ipv6: bool,
+}
 
 /// What a probe found out about one node.
 #[derive(Clone, Copy)]
@@ -16,8 +25,10 @@ pub struct Half<'a> {
     pub node: &'a NodeName,
     /// The flags that it announces, where it sent them under that name.
     pub flags: Option<Flags>,
+    /// By which kinds of address it is reached.
+    pub kinds: AddressKinds,
     /// What the probe came to.
-    pub verdict: ProbeVerdict,
+    pub verdict: HandshakeVerdict,
 }
 
 /// What can be said of two nodes from outside: the first of these that holds.
@@ -31,6 +42,8 @@ pub enum Pairing {
     NotReached,
     /// The first lacks flags that the second's release requires, or the other way round.
     LacksFlags(Flags, Flags),
+    /// One is reached by IPv4 alone, the other by IPv6 alone.
+    OtherKinds,
     /// One accepts the cookie that was tried, and the other does not.
     OtherCookies,
     /// Nothing was found against the pair, and not both accepted the cookie.
@@ -46,28 +59,46 @@ fn lacks(first: Flags, second: Flags) -> Flags
     missing(first, release_of(second).required())
 }
 
+// Whether two nodes are reached by one kind of address.
+fn share_kind(first: AddressKinds, second: AddressKinds) -> bool
+    ensures { result ≡ share_kind first second }
+{
+    (first.ipv4 && second.ipv4) || (first.ipv6 && second.ipv6)
+}
+
 // What the cookies show.
-fn behind_cookies(first: ProbeVerdict, second: ProbeVerdict) -> Pairing
+fn behind_cookies(first: HandshakeVerdict, second: HandshakeVerdict) -> Pairing
     ensures { result ≡ behind_cookies first second }
 {
     match (first, second) {
-        (ProbeVerdict::Up, ProbeVerdict::Up) => Pairing::Agree,
-        (ProbeVerdict::Up, ProbeVerdict::WrongCookie)
-        | (ProbeVerdict::WrongCookie, ProbeVerdict::Up) => { Pairing::OtherCookies }
+        (HandshakeVerdict::Up, HandshakeVerdict::Up) => Pairing::Agree,
+        (HandshakeVerdict::Up, HandshakeVerdict::WrongCookie(_))
+        | (HandshakeVerdict::WrongCookie(_), HandshakeVerdict::Up) => { Pairing::OtherCookies }
         _ => Pairing::Unsure,
     }
 }
 
-// What the flags show, and where they show nothing, the cookies.
-fn behind_flags(first: Option<Flags>, second: Option<Flags>, cookies: Pairing) -> Pairing
-    ensures { result ≡ behind_flags first second cookies }
+// What the addresses show, and where they show nothing, the cookies.
+fn behind_kinds(first: &Half<'_>, second: &Half<'_>) -> Pairing
+    ensures { result ≡ behind_kinds first.now second.now }
+{
+    if share_kind(first.kinds, second.kinds) {
+        behind_cookies(first.verdict, second.verdict)
+    } else {
+        Pairing::OtherKinds
+    }
+}
+
+// What the flags show, and where they show nothing, this.
+fn behind_flags(first: Option<Flags>, second: Option<Flags>, others: Pairing) -> Pairing
+    ensures { result ≡ behind_flags first second others }
 {
     let (Some(first), Some(second)) = (first, second) else {
         return Pairing::NotReached;
     };
     let (of_first, of_second) = (lacks(first, second), lacks(second, first));
     if of_first.0 == 0 && of_second.0 == 0 {
-        cookies
+        others
     } else {
         Pairing::LacksFlags(of_first, of_second)
     }
@@ -83,8 +114,7 @@ pub fn pairing_of(first: &Half<'_>, second: &Half<'_>) -> Pairing
     if is_long_and_short(first.node.bytes(), second.node.bytes()) {
         return Pairing::LongAndShort;
     }
-    let cookies = behind_cookies(first.verdict, second.verdict);
-    behind_flags(first.flags, second.flags, cookies)
+    behind_flags(first.flags, second.flags, behind_kinds(first, second))
 }
 
 impl Pairing {
@@ -97,6 +127,7 @@ impl Pairing {
             Pairing::LongAndShort => "LongAndShort",
             Pairing::NotReached => "NotReached",
             Pairing::LacksFlags(..) => "LacksFlags",
+            Pairing::OtherKinds => "OtherKinds",
             Pairing::OtherCookies => "OtherCookies",
             Pairing::Unsure => "Unsure",
             Pairing::Agree => "Agree",
@@ -104,15 +135,15 @@ impl Pairing {
     }
 
     /// What it means, in a sentence without a full stop.
-    pub fn cause(self) -> &'static str
-        ensures { result.now ≡ pair_cause self }
-    {
+    pub fn cause(self) -> &'static str {
         match self {
             Pairing::SameName => "two nodes of one name never connect",
             Pairing::LongAndShort =>
                 "one host part has a dot, the other has none: a node of -sname dials no name with a dot, one of -name none without",
             Pairing::NotReached => "not both answered, so nothing is known of the pair",
             Pairing::LacksFlags(..) => "one lacks flags that the other's release asks for",
+            Pairing::OtherKinds =>
+                "one is reached by IPv4 alone, the other by IPv6 alone: a node dials by the kind of its -proto_dist alone",
             Pairing::OtherCookies =>
                 "they have different cookies: one takes ours, the other does not",
             Pairing::Unsure =>
@@ -135,6 +166,7 @@ impl Pairing {
     {
         match self {
             Pairing::NotReached | Pairing::Unsure | Pairing::Agree => 0,
+            Pairing::OtherKinds => 3,
             Pairing::SameName | Pairing::LacksFlags(..) => 8,
             Pairing::LongAndShort => 9,
             Pairing::OtherCookies => 10,

@@ -8,20 +8,29 @@ use dist_names::is_same_text;
 use std::alloc::{AllocError, Global};
 
 /// The words of verdicts, in the order of their variants.
-const VERDICTS: [&str; 27] = [
+const VERDICTS: [&str; 40] = [
     "Up",
+    "Finished",
+    "Dropped",
     "Reached",
+    "Answered",
     "NoHost",
     "ResolverSilent",
     "MapperRefused",
     "MapperUnreachable",
     "MapperFault",
     "NotRegistered",
+    "NameInUse",
     "PortRefused",
     "PortUnreachable",
+    "NoCaller",
     "Silent",
     "Gone",
     "Reset",
+    "NoName",
+    "Left",
+    "Stopped",
+    "Withdrawn",
     "Foreign",
     "Unexpected",
     "OwnName",
@@ -32,18 +41,23 @@ const VERDICTS: [&str; 27] = [
     "OtherName",
     "LongAndShort",
     "Version5",
+    "WantsName",
+    "Dynamic",
     "WrongCookie",
     "WrongAck",
+    "Unfinished",
+    "NothingFound",
     "NoMemory",
     "NoDescriptors",
 ];
 
 /// The words of pairs, in the order in which they are looked for.
-const PAIRS: [&str; 7] = [
+const PAIRS: [&str; 8] = [
     "SameName",
     "LongAndShort",
     "NotReached",
     "LacksFlags",
+    "OtherKinds",
     "OtherCookies",
     "Unsure",
     "Agree",

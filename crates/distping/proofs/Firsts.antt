@@ -1,7 +1,7 @@
 -- The first status that is not 0.
 use Rattle.std.proofs.Common.{◌≡◌, ℕ, List, [], ◌∷◌, ◌++◌, sym, arith}
 use Rattle.dist_cluster.specs.{Statuses.first_of, declared.pairs.Half.Half}
-use Rattle.dist_probe.specs.Words.{status_of}
+use Rattle.dist_talk.specs.Words.{status_of}
 use Rattle.distping.specs.Order.{first_status}
 
 -- behind a status comes none

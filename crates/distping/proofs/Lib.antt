@@ -1,6 +1,7 @@
 mod Apart
+mod Ends
 mod Firsts
 mod Fronts
-pub mod OneEnd
 mod Order
-pub mod Showing
+mod Trying
+mod Ways

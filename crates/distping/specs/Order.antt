@@ -1,7 +1,7 @@
 -- The order of the results of nodes that were dialled at once.
 use Rattle.std.specs.Prelude.{ℕ, List, [], ◌∷◌, map}
 use Rattle.dist_cluster.specs.{Statuses.first_of, declared.pairs.Half.Half}
-use Rattle.dist_probe.specs.Words.{status_of}
+use Rattle.dist_talk.specs.Words.{status_of}
 use Rattle.distping.specs.declared.reply.DialReply.{DialReply}
 
 -- the names of the nodes of these results

@@ -2,14 +2,14 @@
 use Rattle.std.specs.Prelude.{Bool, if◌then◌else◌}
 use Rattle.dist_epmd_calls.specs.declared.lookup_error.LookupError.{LookupError}
 use Rattle.dist_epmd_calls.specs.declared.lookup_error.LookupError.TheVariants as lookup
-use Rattle.dist_probe.specs.declared.verdict.Unresolved.TheVariants as unresolved
-use Rattle.dist_probe.specs.declared.verdict.ProbeVerdict.{ProbeVerdict}
-use Rattle.dist_probe.specs.declared.verdict.ProbeVerdict.TheVariants as verdict
+use Rattle.dist_talk.specs.declared.verdict.Unresolved.TheVariants as unresolved
+use Rattle.dist_talk.specs.declared.verdict.HandshakeVerdict.{HandshakeVerdict}
+use Rattle.dist_talk.specs.declared.verdict.HandshakeVerdict.TheVariants as verdict
 use Rattle.dist_program.specs.declared.host_error.HostError.{HostError}
 use Rattle.dist_program.specs.declared.host_error.HostError.TheVariants as host
 
 -- the host has no address: that of `--address`, if it is given, or that of the node's name
-abbrev pub host_verdict : Bool → HostError → ProbeVerdict
+abbrev pub host_verdict : Bool → HostError → HandshakeVerdict
 host_verdict has_address host.NoName = verdict.NoHost (if has_address then unresolved.NoAddress else unresolved.NoName)
 host_verdict has_address host.Failed = verdict.NoHost unresolved.Failed
 host_verdict has_address host.Silent = verdict.ResolverSilent
@@ -17,7 +17,7 @@ host_verdict has_address host.NoDescriptors = verdict.NoDescriptors
 host_verdict has_address host.NoMemory = verdict.NoMemory
 
 -- the port mapper was reached, and gave no registration
-abbrev pub lookup_verdict : LookupError → ProbeVerdict
+abbrev pub lookup_verdict : LookupError → HandshakeVerdict
 lookup_verdict lookup.NotThere = verdict.NotRegistered
 lookup_verdict lookup.NoMemory = verdict.NoMemory
 lookup_verdict other = verdict.MapperFault other

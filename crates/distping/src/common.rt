@@ -5,6 +5,7 @@ ghost use Rattle.std.specs.Prelude.{◌≡◌};
 use dist_names::NodeName;
 use dist_program::{Addresses, Resolving, lookup_host};
 use dist_secret::Cookie;
+use dist_talk::NoCookie;
 use distping_report::{Dial, LineSink, Listed};
 use distping_words::Wanted;
 
@@ -19,8 +20,8 @@ pub struct Context<'a, R: Resolving> {
     pub listed: &'a Listed,
     /// What the command line asks for.
     pub wanted: &'a Wanted<'a>,
-    /// The cookie that is tried.
-    pub cookie: Option<&'a Cookie>,
+    /// The cookie that is tried, or why there is none.
+    pub cookie: Result<&'a Cookie, NoCookie>,
 }
 
 impl<'a, R: Resolving> Context<'a, R> {
@@ -46,6 +47,7 @@ impl<'a, R: Resolving> Context<'a, R> {
         ensures own { result.own.now ≡ own.now }
         ensures node { result.node.now ≡ node.now }
         ensures choices { result.choices ≡ self.now.wanted.now.choices }
+        ensures cookie { result.cookie ≡ self.now.cookie }
     {
         Dial {
             rt: self.rt,

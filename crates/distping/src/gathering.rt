@@ -2,7 +2,7 @@
 //! mapper may send anything: if it sends more than is dialled or shown, the number of the rest is printed.
 
 ghost use Rattle.std.specs.Prelude.{◌≡◌, IfOk};
-ghost use Rattle.dist_probe.specs.Words.{status_of};
+ghost use Rattle.dist_talk.specs.Words.{status_of};
 
 use crate::common::Context;
 use crate::grouping::is_among;
@@ -10,8 +10,8 @@ use crate::links::{Names, ask_census, no_dial};
 use crate::nodes::Nodes;
 use dist_cluster::{Group, Target, first_of, name_in_line};
 use dist_names::{NameError, NodeName};
-use dist_probe::ProbeVerdict;
 use dist_program::Resolving;
+use dist_talk::HandshakeVerdict;
 use distping_report::{LeftOut, LineSink, MOST_SHOWN, ProbeOutcome};
 use distping_words::{Fault, Wanted};
 
@@ -94,7 +94,7 @@ impl Gathering<'_> {
         lines.put_more_left_out(self.group, self.left_out)?;
         if self.named == 0 {
             lines.put_names(b"")?;
-            let verdict = ProbeVerdict::NotRegistered;
+            let verdict = HandshakeVerdict::NotRegistered;
             return self.put_nobody(&no_dial(lines.alloc, Some(names.address), verdict));
         }
         lines.put_known(self.wanted.choices.mapper_port, self.named)?;

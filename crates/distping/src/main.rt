@@ -15,12 +15,17 @@ mod reply;
 mod together;
 mod watching;
 
+ghost use Rattle.std.specs.Prelude.{IfOk};
+ghost use Rattle.distping.specs.Coming.{EndsWith};
+
 use common::Context;
 use comparing::compare;
 use dist_cluster::first_of;
+use dist_messages::Side;
 use dist_names::NodeName;
 use dist_program::{HostError, Resolving, lookup_host, mapper_port, read_words, report};
 use dist_secret::Cookie;
+use dist_talk::{NoCookie, OwnSide, Terms, Viewpoint};
 use distping_capture::read_capture;
 use distping_report::{Caller, LineSink, Listed, Listen};
 use distping_words::{
@@ -69,7 +74,7 @@ Of several nodes it also reports what can be reported of each two of them: of mo
 
 Status: 0 up, 1 a fault here, 2 a bad command line, 3 the host's name, 4 the port mapper, 5 the registration,
 6 the node's port, 7 what listens there, 8 what the node allows, 9 the node's name, 10 the cookie,
-11 a change that --watch saw.
+11 a change that --watch saw, 12 there was no cookie to try, or nothing in the capture.
 ";
 
 /// The version of the program, and of what it speaks.
@@ -127,7 +132,7 @@ fn carry_out<'x, R: Resolving + Sync>(
         resolver,
         listed: &Listed::nothing(rt.alloc()),
         wanted,
-        cookie,
+        cookie: cookie.ok_or(no_cookie(&wanted.choices)),
     };
     match (wanted.choices.listen, &wanted.name) {
         (Some(port), Some(name)) => listen(&context, port, name),
@@ -140,6 +145,14 @@ fn cookie_read(rt: &HostRuntime, choices: &Choices<'_>) -> Result<Option<Cookie>
     match choices.cookie {
         CookieSource::Home if choices.capture.is_some() => Ok(None),
         _ => Ok(cookie_of(rt, choices)?),
+    }
+}
+
+// Why there is no cookie, where there is none.
+fn no_cookie(choices: &Choices<'_>) -> NoCookie {
+    match choices.cookie {
+        CookieSource::Nowhere => NoCookie::Asked,
+        _ => NoCookie::Missing,
     }
 }
 
@@ -173,24 +186,34 @@ fn listen<R: Resolving>(context: &Context<'_, R>, port: u16, name: &NodeName) ->
     let choices = context.wanted.choices;
     let place = place_of(context)?;
     let fresh = draw_challenge(context.rt)?;
-    let setup = setup_of(context.rt, name, choices.flags, context.cookie)?;
+    let setup = setup_of(context.rt, name, choices.flags, context.cookie.ok())?;
+    let terms = Terms {
+        viewpoint: Viewpoint::Acceptor,
+        target: Some(name.bytes()),
+        cookie: context.cookie,
+    };
     let one = Listen {
-        setup: &setup,
+        own: OwnSide {
+            side: Side::Acceptor,
+            setup: &setup,
+            terms,
+            fresh,
+        },
         port,
         place,
-        fresh,
-        compares: context.cookie.is_some(),
         choices,
     };
     print_connection(context.rt, context.screen(), &one)
 }
 
 // Takes one connection, prints the result, and returns its status.
-fn print_connection(rt: &HostRuntime, lines: LineSink<'_>, one: &Listen<'_>) -> Result<u8, Fault> {
+fn print_connection(rt: &HostRuntime, lines: LineSink<'_>, one: &Listen<'_>) -> Result<u8, Fault>
+    ensures { IfOk result (EndsWith one.now) }
+{
     let mut caller = Caller::nobody();
-    let taken = take_connection(rt, one, lines, &mut caller)?;
-    lines.put_connection(one, &caller, taken)?;
-    Ok(taken.status())
+    let verdict = take_connection(rt, one, lines, &mut caller)?;
+    lines.put_connection(one, &caller, verdict)?;
+    Ok(verdict.status())
 }
 
 // Finds the nodes, and watches them or probes each once.

@@ -1,14 +1,15 @@
 //! Probes one node, and prints the result.
 
 ghost use Rattle.std.specs.Prelude.{◌≡◌, IfOk};
+ghost use Rattle.distping.specs.Coming.{ComesTo, ProbeComesTo};
 
 use crate::common::Context;
 use crate::links::probe;
-use dist_cluster::{Half, Target, USUAL};
+use dist_cluster::{AddressKinds, Half, Target, USUAL};
 use dist_names::NodeName;
-use dist_probe::ProbeVerdict;
 use dist_program::{Addresses, Resolving};
-use distping_report::{Dial, Found, LineSink};
+use dist_talk::{HandshakeVerdict, is_found};
+use distping_report::{Dial, LineSink, ProbeOutcome};
 use distping_words::{Fault, Wanted, parse_name};
 use std::alloc::Global;
 
@@ -28,19 +29,31 @@ fn own_name(alloc: Global, wanted: &Wanted<'_>, node: &NodeName) -> Result<NodeN
     }
 }
 
-// What is kept of a probe. The flags of a node with another name are ignored.
-fn half_of<'n>(node: &'n NodeName, found: &Found, verdict: ProbeVerdict) -> Half<'n>
+// Whether the node is reached, or may be, by an address of this kind: one was not tried, or the node was found there.
+fn is_reached(outcome: &ProbeOutcome, is_ipv4: bool) -> bool {
+    let verdicts = &outcome.verdicts;
+    outcome.addresses.iter().enumerate().any(|(at, address)| {
+        address.is_ipv4() == is_ipv4 && verdicts.get(at).is_none_or(|verdict| is_found(*verdict))
+    })
+}
+
+// What is kept of a probe. The flags of a node with another name are ignored, and so is the half of them that an older challenge has.
+fn half_of<'n>(node: &'n NodeName, outcome: &ProbeOutcome) -> Half<'n>
     ensures node { result.node.now ≡ node.now }
-    ensures verdict { result.verdict ≡ verdict }
+    ensures verdict { result.verdict ≡ outcome.now.verdict }
 {
-    let flags = match (verdict, &found.peer) {
-        (ProbeVerdict::OtherName(_), _) | (_, None) => None,
-        (_, Some(peer)) => Some(peer.flags),
+    let flags = match (outcome.verdict, outcome.found.peer()) {
+        (HandshakeVerdict::OtherName(_), _) | (_, None) => None,
+        (_, Some(peer)) => peer.creation.map(|_| peer.flags),
     };
     Half {
         node,
         flags,
-        verdict,
+        kinds: AddressKinds {
+            ipv4: is_reached(outcome, true),
+            ipv6: is_reached(outcome, false),
+        },
+        verdict: outcome.verdict,
     }
 }
 
@@ -50,11 +63,12 @@ fn dial_and_print<'n>(
     addresses: Addresses,
     node: &'n NodeName,
 ) -> Result<Half<'n>, Fault>
-    ensures { IfOk result (λ half. half.node.now ≡ node.now) }
+    ensures node { IfOk result (λ half. half.node.now ≡ node.now) }
+    ensures comes { IfOk result (λ half. ComesTo dial.now half.verdict) }
 {
     let outcome = probe(dial, addresses)?;
     dial.lines.put_probe(dial, &outcome)?;
-    Ok(half_of(node, &outcome.found, outcome.verdict))
+    Ok(half_of(node, &outcome))
 }
 
 /// Prints the heading of a node (all have one unless a single node is asked for), probes the node, prints the result, and returns what is kept of it.
@@ -63,7 +77,8 @@ pub fn print_probe<'n, R: Resolving>(
     lines: LineSink<'_>,
     node: &'n NodeName,
 ) -> Result<Half<'n>, Fault>
-    ensures { IfOk result (λ half. half.node.now ≡ node.now) }
+    ensures node { IfOk result (λ half. half.node.now ≡ node.now) }
+    ensures comes { IfOk result (λ half. ProbeComesTo node.now context.now.cookie half.verdict) }
 {
     if !matches!(context.wanted.targets.as_slice(), [Target::Node(_)]) {
         lines.put_heading(node.bytes())?;
@@ -77,7 +92,9 @@ pub fn print_probe<'n, R: Resolving>(
 pub fn verdict_upon<R: Resolving>(
     context: &Context<'_, R>,
     node: &NodeName,
-) -> Result<ProbeVerdict, Fault> {
+) -> Result<HandshakeVerdict, Fault>
+    ensures comes { IfOk result (ProbeComesTo node.now context.now.cookie) }
+{
     let own = own_name(context.rt.alloc(), context.wanted, node)?;
     let dial = context.make_dial(LineSink::on_screen(context.rt, true), &own, node);
     Ok(probe(&dial, context.addresses(node))?.verdict)

@@ -7,7 +7,7 @@
 ghost use Rattle.std.specs.Prelude.{◌≡◌, ◌++◌, ◌∷◌, [], ◌<◌, length, IfOk, OnOk, slice_index_or};
 ghost use Rattle.std.specs.Result.{ForOk};
 ghost use Rattle.dist_cluster.specs.Statuses.{first_of};
-ghost use Rattle.dist_probe.specs.Words.{status_of};
+ghost use Rattle.dist_talk.specs.Words.{status_of};
 ghost use Rattle.distping.specs.Order.{first_status, names_in, names_of};
 
 use crate::common::Context;

@@ -7,9 +7,9 @@ use crate::grouping::split_group;
 use crate::probing::verdict_upon;
 use dist_cluster::{Latencies, Observation, Watch};
 use dist_names::{ByteString, NodeName};
-use dist_probe::ProbeVerdict;
 use dist_program::{Resolving, deadline_in};
 use dist_stream::time_left;
+use dist_talk::HandshakeVerdict;
 use distping_report::{Answers, LineSink, Seen, now_seconds};
 use distping_words::{Fault, Rhythm};
 use std::alloc::{AllocError, Global};
@@ -29,7 +29,7 @@ struct Course {
 }
 
 // The text by which verdicts are compared: word and cause.
-fn verdict_text(alloc: Global, verdict: ProbeVerdict) -> Result<ByteString, AllocError> {
+fn verdict_text(alloc: Global, verdict: HandshakeVerdict) -> Result<ByteString, AllocError> {
     let mut text = Vec::from_slice(alloc, verdict.name().as_bytes())?;
     text.extend_from_slice(b": ")?;
     text.extend_from_slice(verdict.cause().as_bytes())?;

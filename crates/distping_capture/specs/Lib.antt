@@ -1,4 +1,4 @@
-pub mod Judging
-pub mod CookieCheck
-pub mod Outcomes
+pub mod Attempts
 pub mod Crossings
+pub mod Exits
+pub mod Objects

@@ -1,127 +1,153 @@
-//! What is concluded of one attempt to connect.
+//! What an attempt to connect came to.
 
-use crate::connection::{CapturedConnection, Traffic};
-use crate::cookie_check::{CookieCheck, Digests, check_cookie};
-use crate::facts::Facts;
-use crate::judging::judge;
-use crate::outcome::{AttemptOutcome, Leaving, PATIENCE, outcome_of};
-use crate::replay::{Replay, ReplayEnd};
-use crate::said::CapturedMessage;
-use dist_cluster::USUAL;
-use dist_frames::write_short;
-use dist_messages::Side;
-use dist_names::short_part;
-use dist_probe::{ProbeVerdict, mapper_verdict, port_verdict};
-use dist_secret::Cookie;
-use dist_stream::Limited;
-use std::alloc::{AllocError, Global};
+ghost use Rattle.std.specs.Prelude.{◌≡◌};
+ghost use Rattle.distping_capture.specs.Attempts.{verdict_on};
 
-// The most reads of a judgement: three for each of three messages, and one that finds nothing.
-const READS: usize = 10;
+use crate::connection::{CapturedConnection, PATIENCE, other_side};
+use crate::flow::FlowEnd;
+use crate::traffic::Traffic;
+use dist_epmd_calls::LookupError;
+use dist_messages::{Message, Side};
+use dist_talk::{
+    Handshake, HandshakeEnd, HandshakeVerdict, HowEnded, Missing, NextBody, SentContent,
+    SentMessage, Standing, Terms, mapper_verdict, next_body, port_verdict,
+};
+use std::alloc::Global;
 
-// The bytes that the accepting side sent: the frames of its messages, and what stands behind them.
-fn accepted_bytes(
-    alloc: Global,
-    said: &[CapturedMessage],
-    rest: &[u8],
-) -> Result<Vec<u8>, AllocError> {
-    let mut bytes = Vec::new(alloc);
-    for message in said {
-        if message.side == Side::Acceptor {
-            match write_short(alloc, message.body.as_slice()) {
-                Ok(frame) => bytes.extend_from_slice(&frame)?,
-                Err(_) => return Err(AllocError),
-            }
-        }
-    }
-    bytes.extend_from_slice(rest)?;
-    Ok(bytes)
-}
+// The two bytes with which a record of TLS begins, as a number.
+const TLS: u16 = 0x1603;
 
-// What stands behind the last byte of the accepting side: its end, if it ended the connection and no byte is missing.
-fn ending_of(connection: &CapturedConnection) -> ReplayEnd {
-    match connection.close {
-        Some(close) if close.side == Side::Acceptor && !has_gap(connection) => {
-            if close.is_reset {
-                ReplayEnd::Reset
-            } else {
-                ReplayEnd::Closed
-            }
-        }
-        _ => ReplayEnd::Open,
+// Whether the first of these is a name.
+fn begins_with_name(said: &[SentMessage]) -> bool {
+    match said.first() {
+        Some(sent) => matches!(
+            &sent.content,
+            SentContent::Message(Message::NewName { .. } | Message::OldName { .. })
+        ),
+        None => false,
     }
 }
 
-fn has_gap(connection: &CapturedConnection) -> bool {
-    connection.has_gap(Side::Dialler) || connection.has_gap(Side::Acceptor)
+// When the latest message of these was there, or this time if there is none.
+fn latest_of(said: &[SentMessage], began: u64) -> u64 {
+    match said.last() {
+        Some(sent) => sent.at,
+        None => began,
+    }
 }
 
-// How the connection was left, at this time if its end is not in the capture. If bytes are missing, that is not known.
-fn leaving_of(connection: &CapturedConnection, facts: &Facts<'_>, now: u64) -> Leaving {
-    let has_gap = has_gap(connection);
-    let end = connection.end_or(now);
-    Leaving {
-        closer: match connection.close {
-            Some(close) if !has_gap => Some(close.side),
+impl CapturedConnection {
+    // What the capture lacks of its handshake.
+    fn missing(&self, handshake: &Handshake) -> Missing {
+        Missing {
+            beginning: handshake.len() > 0 && !begins_with_name(&handshake.dialler),
+            dialler: self.lacks_bytes(Side::Dialler),
+            acceptor: self.lacks_bytes(Side::Acceptor),
+        }
+    }
+
+    // What it means that a side ended so.
+    fn meaning_of(&self, side: Side, end: FlowEnd) -> HowEnded {
+        if self.flow(other_side(side)).is_unread_by(end) {
+            HowEnded::Unread
+        } else if end.is_reset {
+            HowEnded::Reset
+        } else {
+            HowEnded::Closed
+        }
+    }
+
+    // Whether the side whose turn it was in a handshake said nothing for too long, until its end or this time.
+    fn is_overdue(&self, handshake: &Handshake, now: u64) -> bool {
+        let dialler = latest_of(&handshake.dialler, self.began);
+        let latest = dialler.max(latest_of(&handshake.acceptor, self.began));
+        let end = match self.first_end() {
+            Some((_, end)) => end.at,
+            None => now,
+        };
+        end.saturating_sub(latest) >= PATIENCE
+    }
+
+    // How a handshake ended where this side's turn was. An accepting side that closes late was there, and so not silent.
+    fn ending_at(&self, handshake: &Handshake, side: Side, now: u64) -> Option<HandshakeEnd> {
+        let bytes = self.flow(side).bytes();
+        if let NextBody::Front(front) = next_body(side, bytes) {
+            let how = HowEnded::Foreign(front);
+            return Some(HandshakeEnd { side, how });
+        }
+        let first = self.first_end();
+        let is_there = matches!(first, Some((Side::Acceptor, _))) && side == Side::Acceptor;
+        if !is_there && self.is_overdue(handshake, now) {
+            let how = HowEnded::Quiet(bytes.len());
+            return Some(HandshakeEnd { side, how });
+        }
+        let (side, end) = first?;
+        let how = self.meaning_of(side, end);
+        Some(HandshakeEnd { side, how })
+    }
+
+    /// Notes in its handshake what the capture lacks, and how it ended, as it stands at this time, unless that was noted.
+    pub fn conclude(&mut self, terms: &Terms<'_>, now: u64) {
+        let Traffic::Handshake(handshake) = &self.content else {
+            return;
+        };
+        if handshake.ending.is_some() {
+            return;
+        }
+        let missing = self.missing(handshake);
+        let ending = match handshake.standing(terms) {
+            Standing::Due(due) => self.ending_at(handshake, due.side(), now),
+            Standing::Decided(_) => None,
+        };
+        if let Traffic::Handshake(handshake) = &mut self.content {
+            handshake.missing = missing;
+            handshake.ending = ending;
+        }
+    }
+
+    /// Notes that TLS was dialled where a plain node listens: it took the connection, said nothing, and no byte of it is missing.
+    pub fn conclude_tls(&mut self, alloc: Global, now: u64) {
+        let is_left = self.first_end().is_some() || now.saturating_sub(self.began) >= PATIENCE;
+        if is_left && !self.flow(Side::Acceptor).has_spoken && !self.lacks_bytes(Side::Acceptor) {
+            let mut handshake = Handshake::new(alloc);
+            handshake.end(Side::Dialler, HowEnded::Foreign(TLS));
+            self.content = Traffic::Handshake(handshake);
+        }
+    }
+
+    // Why a port mapper gave no answer, at this time.
+    fn answer_fault(&self, now: u64) -> Option<LookupError> {
+        match self.first_end() {
+            _ if self.lacks_bytes(Side::Acceptor) || self.lacks_bytes(Side::Dialler) => None,
+            Some((Side::Acceptor, end)) if end.is_reset => Some(LookupError::ReadFailed),
+            Some((Side::Acceptor, _)) => Some(LookupError::Ended),
+            Some((Side::Dialler, _)) => Some(LookupError::Limit),
+            None if now.saturating_sub(self.began) >= PATIENCE => Some(LookupError::Limit),
             _ => None,
-        },
-        is_overdue: !has_gap && end.saturating_sub(connection.latest_message()) >= PATIENCE,
-        is_challenged: facts.challenge.is_some(),
-        is_probe: short_part(facts.name(Side::Dialler)) == USUAL,
+        }
     }
-}
 
-/// What the attempt of this connection came to, as it stands at this time.
-pub fn conclude(
-    alloc: Global,
-    connection: &CapturedConnection,
-    cookie: Option<&Cookie>,
-    now: u64,
-) -> Result<AttemptOutcome, AllocError> {
-    if let Some(unreached) = connection.connect_fault(now) {
-        return Ok(AttemptOutcome::Verdict(match connection.content {
-            Traffic::Mapper => mapper_verdict(unreached),
-            _ => port_verdict(unreached),
-        }));
+    /// Notes that a port mapper gave no answer to a registration or a lookup.
+    pub fn conclude_mapper(&mut self, now: u64) {
+        let fault = self.answer_fault(now);
+        if let Traffic::Mapper(talk) = &mut self.content
+            && talk.request.is_some()
+            && !talk.is_done()
+        {
+            talk.fault = fault;
+        }
     }
-    let facts = Facts::of(&connection.said);
-    if facts.wants_name() {
-        return Ok(AttemptOutcome::Dynamic);
-    }
-    // If the beginning, the challenge or the reply is missing, only an acknowledgement says something.
-    if connection.is_late || facts.lacks(Side::Acceptor) || facts.lacks(Side::Dialler) {
-        return Ok(match facts.ack {
-            Some(_) => AttemptOutcome::Verdict(ProbeVerdict::Up),
-            None => AttemptOutcome::Unfinished,
-        });
-    }
-    let bytes = accepted_bytes(alloc, &connection.said, connection.bytes(Side::Acceptor))?;
-    let mut replay = Replay::new(&bytes, ending_of(connection));
-    let mut limited = Limited {
-        stream: &mut replay,
-        left: READS,
-    };
-    let standing = judge(alloc, &mut limited, &facts.part(cookie));
-    Ok(outcome_of(standing, &leaving_of(connection, &facts, now)))
-}
 
-/// Which sides showed this cookie, if the handshake got as far as a reply. A reply that was not read was not refused.
-pub fn check_of_attempt(
-    connection: &CapturedConnection,
-    outcome: AttemptOutcome,
-    cookie: Option<&Cookie>,
-) -> Option<CookieCheck> {
-    let cookie = cookie?;
-    let facts = Facts::of(&connection.said);
-    let challenge = facts.challenge?;
-    let (fresh, reply) = facts.reply?;
-    let is_refused = matches!(outcome, AttemptOutcome::Verdict(ProbeVerdict::WrongCookie));
-    let digests = Digests {
-        challenge,
-        reply,
-        fresh,
-        ack: facts.ack,
-        is_refused: is_refused && !connection.was_unread,
-    };
-    Some(check_cookie(cookie, &digests))
+    /// What it comes to, as it was concluded.
+    pub fn verdict_by(&self, terms: &Terms<'_>) -> HandshakeVerdict
+        ensures { result ≡ verdict_on terms.now self.now.is_at_mapper self.now.content }
+    {
+        match &self.content {
+            Traffic::Handshake(handshake) => handshake.verdict(terms),
+            Traffic::Unreached(unreached) if self.is_at_mapper => mapper_verdict(*unreached),
+            Traffic::Unreached(unreached) => port_verdict(*unreached),
+            Traffic::Mapper(talk) => talk.verdict().unwrap_or(HandshakeVerdict::Unfinished),
+            Traffic::Unknown | Traffic::Tls | Traffic::Other => HandshakeVerdict::Unfinished,
+        }
+    }
 }

@@ -1,70 +1,23 @@
 //! One connection of TCP, as far as a capture shows it.
 
-use crate::facts::Facts;
-use crate::look::{Look, look_at};
-use crate::outcome::{AttemptOutcome, PATIENCE};
-use crate::said::{CapturedMessage, other_side};
-use dist_capture::{Endpoint, Segment, SegmentStream};
-use dist_epmd::{Answer, Asked, Request, decode_answer, decode_request};
-use dist_frames::first_body;
+use crate::flow::{Flow, FlowEnd};
+use crate::traffic::{Look, MapperTalk, Traffic, look_at};
+use dist_capture::{Endpoint, Segment};
 use dist_messages::Side;
-use dist_names::ByteString;
-use dist_probe::Unreached;
+use dist_talk::{Handshake, HandshakeVerdict, NextBody, Unreached, content_of, next_body};
 use std::alloc::{AllocError, Global};
 use std::mem;
 
-// The most bytes that are kept behind a gap, of each side. Our own choice: a handshake has some hundred.
-const MOST_WAITING: usize = 65_536;
-
-// The most bytes of a side that are in order and not read yet, before no more of it are kept. Our own choice: a frame has fewer, and so
-// has what a port mapper answers to a lookup.
-const MOST_UNREAD: usize = 131_072;
-
-// How long a side of a connection that is up sends nothing before it counts as silent, in nanoseconds. A node of which nothing came for
-// 45 to 75 seconds is down: three to five quarters of `net_ticktime`, which is 60 seconds; so 45. Source: Kernel Reference Manual, kernel.
-const MOST_SILENT: u64 = 45_000_000_000;
+/// How long the side whose turn it is may say nothing before it counts as silent, in nanoseconds. A node gives up after 7 seconds
+/// (`net_setuptime`), which it counts from before its connect; so 6. Our own choice.
+pub const PATIENCE: u64 = 6_000_000_000;
 
 // The most messages that are kept of a handshake, which has at most seven. Our own choice.
 const MOST_MESSAGES: usize = 16;
 
-/// What a connection carries.
-#[derive(Clone, Copy)]
-pub enum Traffic {
-    /// Not known yet.
-    Unknown,
-    /// A handshake of Erlang's distribution, and then packets.
-    Handshake,
-    /// A request to a port mapper, and its answer.
-    Mapper,
-    /// TLS.
-    Tls,
-    /// Anything else.
-    Other,
-}
-
-/// The first end of a connection.
-#[derive(Clone, Copy)]
-pub struct Close {
-    /// Who closed or reset it.
-    pub side: Side,
-    /// Whether it was reset.
-    pub is_reset: bool,
-    /// When, in nanoseconds since 1970.
-    pub at: u64,
-}
-
-// What one side sends.
-#[derive(Drop)]
-struct Flow {
-    // Its bytes, once one was captured, as long as they are read.
-    stream: Option<SegmentStream>,
-    // Whether bytes of it were cut off, or came too far behind a gap to be kept.
-    has_lost: bool,
-    // Whether it closed its direction.
-    has_closed: bool,
-    // When its latest bytes were captured; before them, when its connection's first segment was.
-    latest: u64,
-}
+// How long packets that are missing are awaited behind the acknowledgement, in nanoseconds: the capture may have them in another order.
+// Our own choice.
+const DISORDER: u64 = 1_000_000_000;
 
 /// One connection.
 #[derive(Drop)]
@@ -81,40 +34,35 @@ pub struct CapturedConnection {
     pub latest: u64,
     /// What it carries.
     pub content: Traffic,
-    // The sequence number of its first segment (SYN), if that was captured, so that it is known who dialled.
-    opening: Option<u32>,
-    // Whether any other segment was, those apart that repeat the first or reset the connection.
-    is_made: bool,
-    /// Whether the name that begins a handshake is missing.
-    pub is_late: bool,
-    /// The messages of the handshake, in the order in which they were whole.
-    pub said: Vec<CapturedMessage>,
-    /// When the acknowledgement was there.
-    pub acknowledged_at: Option<u64>,
-    /// What was concluded of the attempt, once that was printed.
-    pub outcome: Option<AttemptOutcome>,
-    /// How it ended.
-    pub close: Option<Close>,
-    /// Whether the accepting side reset it behind its own end: it did not read what came then.
-    pub was_unread: bool,
-    /// The request to a port mapper.
-    pub request: Option<Request>,
-    /// Whether the port mapper answered it.
-    pub is_answered: bool,
-    // Whether the answer was that the node is registered.
-    is_registered: bool,
+    /// The verdict on the attempt, once that was printed.
+    pub verdict: Option<HandshakeVerdict>,
     /// Whether all was printed that there is to say of it.
     pub is_reported: bool,
+    /// Whether its port is that of port mappers.
+    pub is_at_mapper: bool,
+    /// How many segments would end it, and have a number that the other side does not await: they end nothing.
+    pub strays: u32,
+    // The number of the segment (SYN) by which it was dialled.
+    opening: Option<u32>,
+    // How often it was dialled by that: a host that has no answer sends it again after a second.
+    dials: u32,
+    // Whether a segment shows who dialled.
+    is_certain: bool,
+    // Whether any other segment was captured than those that dial it, or refuse that.
+    is_made: bool,
+    // Whether a side reset it.
+    is_reset: bool,
+    // How many bytes the bodies have that were read.
+    said: usize,
     from_dialler: Flow,
     from_acceptor: Flow,
 }
 
-fn new_half(at: u64) -> Flow {
-    Flow {
-        stream: None,
-        has_lost: false,
-        has_closed: false,
-        latest: at,
+/// The other side.
+pub fn other_side(side: Side) -> Side {
+    match side {
+        Side::Dialler => Side::Acceptor,
+        Side::Acceptor => Side::Dialler,
     }
 }
 
@@ -134,31 +82,17 @@ pub fn ends_of(segment: &Segment) -> (Endpoint, Endpoint) {
     (one.min(other), one.max(other))
 }
 
-/// The result of a registration, and the creation.
-pub fn registration_of(answer: &Answer) -> Option<(u8, u32)> {
-    match answer {
-        Answer::AliveX {
-            result_code,
-            creation,
-        } => Some((*result_code, *creation)),
-        Answer::Alive {
-            result_code,
-            creation,
-        } => Some((*result_code, u32::from(*creation))),
-        _ => None,
-    }
-}
-
 impl CapturedConnection {
     /// The connection of this segment, which was not taken yet.
-    pub fn new(alloc: Global, segment: &Segment, mapper_port: u16) -> CapturedConnection {
+    pub fn new(segment: &Segment, mapper_port: u16) -> CapturedConnection {
         let (dialler, acceptor) = if is_from_dialler(segment, mapper_port) {
             (segment.from, segment.to)
         } else {
             (segment.to, segment.from)
         };
-        let content = if acceptor.port == mapper_port {
-            Traffic::Mapper
+        let is_at_mapper = acceptor.port == mapper_port;
+        let content = if is_at_mapper {
+            Traffic::Mapper(MapperTalk::new())
         } else {
             Traffic::Unknown
         };
@@ -169,53 +103,127 @@ impl CapturedConnection {
             began: segment.time,
             latest: segment.time,
             content,
-            opening: segment.is_syn.then_some(segment.sequence),
-            is_made: false,
-            is_late: false,
-            said: Vec::new(alloc),
-            acknowledged_at: None,
-            outcome: None,
-            close: None,
-            was_unread: false,
-            request: None,
-            is_answered: false,
-            is_registered: false,
+            verdict: None,
             is_reported: false,
-            from_dialler: new_half(segment.time),
-            from_acceptor: new_half(segment.time),
+            is_at_mapper,
+            strays: 0,
+            opening: None,
+            dials: 0,
+            is_certain: segment.is_syn,
+            is_made: false,
+            is_reset: false,
+            said: 0,
+            from_dialler: Flow::new(segment.time),
+            from_acceptor: Flow::new(segment.time),
+        }
+    }
+
+    /// What a side sends.
+    pub fn flow(&self, side: Side) -> &Flow {
+        match side {
+            Side::Dialler => &self.from_dialler,
+            Side::Acceptor => &self.from_acceptor,
+        }
+    }
+
+    fn flow_mut(&mut self, side: Side) -> &mut Flow {
+        match side {
+            Side::Dialler => &mut self.from_dialler,
+            Side::Acceptor => &mut self.from_acceptor,
+        }
+    }
+
+    /// The side that sends this segment.
+    pub fn side_of(&self, segment: &Segment) -> Side {
+        if segment.from == self.dialler {
+            Side::Dialler
+        } else {
+            Side::Acceptor
+        }
+    }
+
+    /// Its handshake, if it carries one.
+    pub fn handshake(&self) -> Option<&Handshake> {
+        match &self.content {
+            Traffic::Handshake(handshake) => Some(handshake),
+            _ => None,
+        }
+    }
+
+    /// The name that a side says; empty if it says none.
+    pub fn name_of(&self, side: Side) -> &[u8] {
+        match self.handshake() {
+            Some(handshake) => handshake.name(side),
+            None => b"",
         }
     }
 
     /// Whether both sides closed it, or one reset it.
     pub fn is_over(&self) -> bool {
-        self.from_dialler.has_closed && self.from_acceptor.has_closed
+        self.is_reset || self.from_dialler.end.is_some() && self.from_acceptor.end.is_some()
     }
 
     /// Whether this segment begins a new connection between the same two ports: it is no copy of the one that began this one.
     pub fn is_before(&self, segment: &Segment) -> bool {
+        let is_idle = segment.time.saturating_sub(self.latest) >= PATIENCE;
         segment.is_syn
             && !segment.is_ack
-            && self.close.is_some()
             && self.opening != Some(segment.sequence)
+            && (is_idle || self.is_reported || self.any_end().is_some())
     }
 
-    /// Where it stands among those that may be given up, the least first: what was reported, then what was quiet for longest.
-    pub fn rank(&self) -> u64 {
-        if self.is_reported { 0 } else { self.latest }
+    /// How many bytes of memory it keeps of what was sent.
+    pub fn kept_bytes(&self) -> usize {
+        let waiting = self
+            .from_dialler
+            .kept_bytes()
+            .saturating_add(self.from_acceptor.kept_bytes());
+        self.said.saturating_add(waiting)
     }
 
-    /// When the two came up, if they did: an acknowledgement with a wrong digest brings nobody up.
-    pub fn up_since(&self) -> Option<u64> {
-        match self.outcome {
-            Some(outcome) if outcome.status() == 0 => self.acknowledged_at,
-            _ => None,
+    /// The first end that is known: by whom, and how. The side that acknowledges the close of the other one ended after it, in whatever
+    /// order the capture has the two.
+    pub fn first_end(&self) -> Option<(Side, FlowEnd)> {
+        let (dialler, acceptor) = (
+            self.from_dialler.known_end(),
+            self.from_acceptor.known_end(),
+        );
+        let (Some(dialler), Some(acceptor)) = (dialler, acceptor) else {
+            return match (dialler, acceptor) {
+                (Some(end), _) => Some((Side::Dialler, end)),
+                (_, Some(end)) => Some((Side::Acceptor, end)),
+                (None, None) => None,
+            };
+        };
+        let is_dialler_later = dialler.received == Some(acceptor.number.wrapping_add(1))
+            || dialler.is_second && acceptor.received != Some(dialler.number.wrapping_add(1));
+        Some(if is_dialler_later {
+            (Side::Acceptor, acceptor)
+        } else {
+            (Side::Dialler, dialler)
+        })
+    }
+
+    /// The same, or else an end behind bytes that are not in the capture.
+    pub fn any_end(&self) -> Option<(Side, FlowEnd)> {
+        if let Some(first) = self.first_end() {
+            return Some(first);
+        }
+        if let Some(end) = self.from_dialler.end
+            && !end.is_second
+        {
+            return Some((Side::Dialler, end));
+        }
+        match self.from_acceptor.end {
+            Some(end) => Some((Side::Acceptor, end)),
+            None => None,
         }
     }
 
     /// When it ended; this time if its end is not in the capture.
     pub fn end_or(&self, now: u64) -> u64 {
-        match self.close {
-            Some(close) => close.at,
+        match self.any_end() {
+            Some((_, end)) => end.at,
             None => now,
         }
     }
@@ -226,266 +234,268 @@ impl CapturedConnection {
         if self.is_made || self.opening.is_none() {
             return None;
         }
-        match self.close {
-            Some(close) if close.side == Side::Acceptor => Some(Unreached::Refused),
-            None if now.saturating_sub(self.began) >= PATIENCE => Some(Unreached::NoAnswer),
-            _ => None,
+        match self.from_acceptor.end {
+            Some(end) if end.is_reset => Some(Unreached::Refused),
+            Some(_) => None,
+            None if self.dials > 1 && now.saturating_sub(self.began) >= PATIENCE => {
+                Some(Unreached::NoAnswer)
+            }
+            None => None,
         }
     }
 
-    /// Whether a side had fallen silent when it ended.
-    pub fn was_silent(&self, side: Side) -> bool {
-        match self.close {
-            Some(close) => close.at.saturating_sub(self.half(side).latest) >= MOST_SILENT,
-            None => false,
+    /// Whether the capture lacks bytes of a side.
+    pub fn lacks_bytes(&self, side: Side) -> bool {
+        self.flow(side)
+            .lacks_bytes(self.flow(other_side(side)).known_end())
+    }
+
+    /// When the acknowledgement was there.
+    pub fn acknowledged_at(&self) -> Option<u64> {
+        let acceptor = &self.handshake()?.acceptor;
+        match acceptor.iter().find(|sent| sent.content.ack().is_some()) {
+            Some(sent) => Some(sent.at),
+            None => None,
         }
     }
 
-    /// When its latest message was there, or its first segment if there is none.
-    pub fn latest_message(&self) -> u64 {
-        match self.said.last() {
-            Some(message) => message.at,
-            None => self.began,
-        }
-    }
-
-    /// Which port the node has whose registration this connection was, and when it ended.
-    pub fn lost_registration(&self) -> Option<(u16, u64)> {
-        match (&self.request, self.close) {
-            (Some(Request::Alive(info)), Some(close)) if self.is_registered => {
-                Some((info.port, close.at))
+    /// When the two came up, if they did: an acknowledgement with a wrong digest, or without a reply, brings nobody up.
+    pub fn up_since(&self) -> Option<u64> {
+        match self.verdict {
+            Some(HandshakeVerdict::Up | HandshakeVerdict::Finished | HandshakeVerdict::Dynamic) => {
+                self.acknowledged_at()
             }
             _ => None,
         }
     }
 
-    fn half(&self, side: Side) -> &Flow {
-        match side {
-            Side::Dialler => &self.from_dialler,
-            Side::Acceptor => &self.from_acceptor,
+    /// Which port the node has whose registration this connection was, and when it ended.
+    pub fn lost_registration(&self) -> Option<(u16, u64)> {
+        match (&self.content, self.any_end()) {
+            (Traffic::Mapper(talk), Some((_, end))) => match talk.registered_port() {
+                Some(port) => Some((port, end.at)),
+                None => None,
+            },
+            _ => None,
         }
     }
 
-    fn half_mut(&mut self, side: Side) -> &mut Flow {
-        match side {
-            Side::Dialler => &mut self.from_dialler,
-            Side::Acceptor => &mut self.from_acceptor,
+    // Whether all of its handshake is there.
+    fn is_whole(&self) -> bool {
+        match self.handshake() {
+            Some(handshake) => {
+                is_done(handshake, Side::Dialler)
+                    && !self.lacks_bytes(Side::Dialler)
+                    && !self.lacks_bytes(Side::Acceptor)
+            }
+            None => false,
         }
     }
 
-    /// The bytes of a side that follow those that were read, as far as none is missing.
-    pub fn bytes(&self, side: Side) -> &[u8] {
-        match &self.half(side).stream {
-            Some(stream) => stream.ready(),
-            None => b"",
+    /// Whether the handshake was made, and nothing that is missing may come yet.
+    pub fn is_settled(&self) -> bool {
+        match self.acknowledged_at() {
+            Some(at) => self.latest.saturating_sub(at) >= DISORDER || self.is_whole(),
+            None => false,
         }
     }
 
-    /// Whether bytes of a side are missing.
-    pub fn has_gap(&self, side: Side) -> bool {
-        let half = self.half(side);
-        match &half.stream {
-            Some(stream) => half.has_lost || stream.gap().is_some(),
-            None => half.has_lost,
-        }
+    /// Reads no more of it.
+    pub fn stop_reading(&mut self) {
+        self.from_dialler.stop_reading();
+        self.from_acceptor.stop_reading();
     }
 
-    fn is_read(&self) -> bool {
-        match self.content {
-            Traffic::Unknown => true,
-            Traffic::Mapper => !self.is_answered && !matches!(&self.request, Some(Request::Names)),
-            Traffic::Handshake => self.acknowledged_at.is_none(),
-            Traffic::Tls | Traffic::Other => false,
-        }
-    }
-
-    fn feed(&mut self, alloc: Global, side: Side, segment: &Segment) -> Result<(), AllocError> {
-        let first = segment.sequence.wrapping_add(u32::from(segment.is_syn));
-        let half = self.half_mut(side);
-        if half.stream.is_none() && (segment.is_syn || !segment.payload.is_empty()) {
-            half.stream = Some(SegmentStream::new(alloc, first, MOST_WAITING));
-        }
-        if let Some(stream) = &mut half.stream {
-            let has_room = stream.ready().len() < MOST_UNREAD;
-            let is_kept = has_room && stream.take(first, &segment.payload)?;
-            half.has_lost = half.has_lost || !is_kept;
-        }
-        half.has_lost = half.has_lost || segment.missing > 0;
-        Ok(())
-    }
-
-    fn consume(&mut self, side: Side, count: usize) {
-        if let Some(stream) = &mut self.half_mut(side).stream {
-            stream.consume(count);
-        }
+    /// Forgets what was said on it.
+    pub fn forget(&mut self) {
+        self.stop_reading();
+        self.content = Traffic::Other;
+        self.said = 0;
     }
 
     // The side that was taken for the one that dialled is the other one.
     fn swap_sides(&mut self) {
         mem::swap(&mut self.dialler, &mut self.acceptor);
         mem::swap(&mut self.from_dialler, &mut self.from_acceptor);
-        if let Some(close) = self.close {
-            self.close = Some(Close {
-                side: other_side(close.side),
-                ..close
-            });
-        }
-    }
-
-    // It carries a handshake, whose name may be missing.
-    fn begin_handshake(&mut self, is_late: bool, is_swapped: bool) {
-        self.content = Traffic::Handshake;
-        self.is_late = is_late;
-        if is_swapped {
-            self.swap_sides();
-        }
     }
 
     // Finds out what it carries, if enough was captured for that.
     fn recognize(&mut self, alloc: Global) {
         let looks = (
-            look_at(alloc, self.bytes(Side::Dialler)),
-            look_at(alloc, self.bytes(Side::Acceptor)),
+            look_at(self.from_dialler.bytes()),
+            look_at(self.from_acceptor.bytes()),
         );
-        match looks {
-            (Look::Name, _) => self.begin_handshake(false, false),
-            (_, Look::Name) if self.opening.is_none() => self.begin_handshake(false, true),
-            (Look::Dialler, _) | (Look::Open, Look::Acceptor) => self.begin_handshake(true, false),
-            (Look::Acceptor, _) | (Look::Open, Look::Dialler) if self.opening.is_none() => {
-                self.begin_handshake(true, true)
+        let is_swapped = match looks {
+            (Look::Name, _) => false,
+            (_, Look::Name) if !self.is_certain => true,
+            (Look::Later(Side::Dialler), _) | (Look::Open, Look::Later(Side::Acceptor)) => false,
+            (Look::Later(Side::Acceptor), _) | (Look::Open, Look::Later(Side::Dialler))
+                if !self.is_certain => true,
+            (Look::Open, Look::Open) => return,
+            (Look::Tls, _) => {
+                self.content = Traffic::Tls;
+                return;
             }
-            (Look::Tls, _) => self.content = Traffic::Tls,
-            (Look::Open, Look::Open) => {}
-            _ => self.content = Traffic::Other,
-        }
-    }
-
-    // Whether a side sent the last message of its part of a handshake: a reply, an acknowledgement. Packets follow.
-    fn is_done(&self, side: Side) -> bool {
-        let last = match side {
-            Side::Dialler => b'r',
-            Side::Acceptor => b'a',
+            _ => {
+                self.content = Traffic::Other;
+                return;
+            }
         };
-        self.said.iter().any(|it| it.side == side
-            && it.body.as_slice().first().copied() == Some(last))
-    }
-
-    // Reads the messages of a side that are whole.
-    fn read_messages(&mut self, alloc: Global, side: Side, at: u64) -> Result<(), AllocError> {
-        for _ in 0..MOST_MESSAGES {
-            if self.said.len() >= MOST_MESSAGES || self.is_done(side) {
-                self.consume(side, usize::MAX);
-                return Ok(());
-            }
-            let Some(body) = first_body(self.bytes(side)) else {
-                return Ok(());
-            };
-            let body = ByteString::from_slice(alloc, body)?;
-            self.consume(side, body.len().saturating_add(2));
-            self.said.push(CapturedMessage { at, side, body })?;
+        if is_swapped {
+            self.swap_sides();
         }
-        Ok(())
+        self.content = Traffic::Handshake(Handshake::new(alloc));
     }
 
+    // Reads the messages of its handshake that are whole.
     fn read_handshake(&mut self, alloc: Global, at: u64) -> Result<(), AllocError> {
-        self.read_messages(alloc, Side::Dialler, at)?;
-        self.read_messages(alloc, Side::Acceptor, at)?;
-        if Facts::of(&self.said).ack.is_some() {
-            self.acknowledged_at = Some(at);
+        if let Traffic::Handshake(handshake) = &mut self.content {
+            let flow = &mut self.from_dialler;
+            let dialler = read_messages(alloc, handshake, flow, Side::Dialler, at)?;
+            let flow = &mut self.from_acceptor;
+            let acceptor = read_messages(alloc, handshake, flow, Side::Acceptor, at)?;
+            self.said = self.said.saturating_add(dialler).saturating_add(acceptor);
         }
         Ok(())
     }
 
-    // Reads a request to a port mapper, if it is whole. A request that is none ends the reading.
-    fn read_request(&mut self, alloc: Global) {
-        if self.request.is_some() {
-            return;
-        }
-        if let Some(body) = first_body(self.bytes(Side::Dialler)) {
-            match decode_request(alloc, body) {
-                Ok(request) => self.request = Some(request),
-                Err(_) => self.content = Traffic::Other,
-            }
-        }
-    }
-
-    // Reads the answer to the request, if it is whole and shows that it is.
-    fn read_answer(&mut self, alloc: Global) -> Option<Answer> {
-        let asked = match &self.request {
-            Some(Request::Alive(_)) if !self.is_answered => Asked::Alive,
-            Some(Request::PortPlease(_)) if !self.is_answered => Asked::Port,
-            _ => return None,
+    // Reads what is said to a port mapper. Returns whether it answered by that.
+    fn read_mapper(&mut self, alloc: Global) -> Result<bool, AllocError> {
+        let Traffic::Mapper(talk) = &mut self.content else {
+            return Ok(false);
         };
-        let answer = decode_answer(alloc, asked, self.bytes(Side::Acceptor)).ok()?;
-        self.is_answered = true;
-        self.is_registered = matches!(registration_of(&answer), Some((0, _)));
-        Some(answer)
+        if !talk.read_request(alloc, self.from_dialler.bytes())? {
+            self.content = Traffic::Other;
+            return Ok(false);
+        }
+        talk.read_answer(alloc, self.from_acceptor.bytes())
     }
 
-    // Reads what the connection carries, and returns what a port mapper answered.
-    fn read(&mut self, alloc: Global, at: u64) -> Result<Option<Answer>, AllocError> {
-        if matches!(self.content, Traffic::Unknown) {
+    // Reads what the connection carries. Returns whether a port mapper answered.
+    fn read(&mut self, alloc: Global, at: u64) -> Result<bool, AllocError> {
+        if matches!(&self.content, Traffic::Unknown) {
             self.recognize(alloc);
         }
-        match self.content {
-            Traffic::Handshake => self.read_handshake(alloc, at)?,
-            Traffic::Mapper => {
-                self.read_request(alloc);
-                return Ok(self.read_answer(alloc));
+        let is_done = match &self.content {
+            Traffic::Unknown => false,
+            Traffic::Handshake(_) => {
+                self.read_handshake(alloc, at)?;
+                false
             }
-            Traffic::Unknown | Traffic::Tls | Traffic::Other => {}
+            Traffic::Mapper(talk) => talk.is_done(),
+            Traffic::Unreached(_) | Traffic::Tls | Traffic::Other => true,
+        };
+        if is_done {
+            self.stop_reading();
+            return Ok(false);
         }
-        Ok(None)
+        self.read_mapper(alloc)
     }
 
-    // Notes that the connection was made, and that a side sent bytes, if a segment shows it.
-    fn note_sign(&mut self, side: Side, segment: &Segment) {
+    // Notes that the connection is dialled, or was made, if a segment shows it.
+    fn note_sign(&mut self, segment: &Segment) {
         let is_opening = segment.is_syn && !segment.is_ack;
-        self.is_made = self.is_made || !(is_opening || segment.is_reset);
-        if !segment.payload.is_empty() || segment.missing > 0 {
-            self.half_mut(side).latest = segment.time;
+        if is_opening && self.opening.is_none() {
+            self.opening = Some(segment.sequence);
+        }
+        self.dials = self.dials.saturating_add(u32::from(is_opening));
+        self.is_certain = self.is_certain || segment.is_syn;
+        self.is_made = self.is_made || !(is_opening || segment.is_reset || segment.is_fin);
+    }
+
+    // Whether a reset is the answer to the segment that dials the connection, or that was answered.
+    fn is_refusal_or_made(&self, segment: &Segment) -> bool {
+        match self.opening {
+            Some(opening) if !self.is_made && segment.from == self.acceptor => {
+                segment.acknowledges == Some(opening.wrapping_add(1))
+            }
+            _ => true,
         }
     }
 
-    // Notes that a side closed or reset the connection, if a segment says so. The first end counts; a reset ends both directions.
-    fn note_close(&mut self, side: Side, segment: &Segment) {
+    // Notes that a side closed or reset the connection, if a segment says so, and has a number that may.
+    fn note_end(&mut self, side: Side, segment: &Segment) {
         if !segment.is_fin && !segment.is_reset {
             return;
         }
-        self.half_mut(side).has_closed = true;
-        if segment.is_reset {
-            self.half_mut(other_side(side)).has_closed = true;
-        }
-        if let Some(close) = self.close {
-            self.was_unread = segment.is_reset && close.side == side && side == Side::Acceptor;
+        let window = self.flow(other_side(side)).window();
+        let may_end = self.flow(side).may_end(segment, window)
+            && (!segment.is_reset || self.is_refusal_or_made(segment));
+        if !may_end {
+            self.strays = self.strays.saturating_add(1);
             return;
         }
-        self.close = Some(Close {
-            side,
-            is_reset: segment.is_reset,
-            at: segment.time,
-        });
+        self.is_reset = self.is_reset || segment.is_reset;
+        match side {
+            Side::Dialler => end_flow(&mut self.from_dialler, &mut self.from_acceptor, segment),
+            Side::Acceptor => end_flow(&mut self.from_acceptor, &mut self.from_dialler, segment),
+        }
     }
 
-    /// Takes a segment of this connection, and returns what a port mapper answered by it.
-    pub fn take(&mut self, alloc: Global, segment: &Segment) -> Result<Option<Answer>, AllocError> {
-        let side = if segment.from == self.dialler {
-            Side::Dialler
-        } else {
-            Side::Acceptor
-        };
+    /// Takes a segment of this connection. Returns whether a port mapper answered by it.
+    pub fn take(&mut self, alloc: Global, segment: &Segment) -> Result<bool, AllocError> {
+        let side = self.side_of(segment);
         self.latest = segment.time;
-        self.note_sign(side, segment);
-        self.note_close(side, segment);
-        if !self.is_read() {
-            return Ok(None);
+        self.note_sign(segment);
+        if !segment.is_reset {
+            self.flow_mut(other_side(side)).take_answer(segment);
         }
-        self.feed(alloc, side, segment)?;
-        let answer = self.read(alloc, segment.time)?;
-        if !self.is_read() {
-            self.from_dialler.stream = None;
-            self.from_acceptor.stream = None;
-        }
-        Ok(answer)
+        self.flow_mut(side).take(alloc, segment)?;
+        self.note_end(side, segment);
+        self.read(alloc, segment.time)
     }
+}
+
+// Whether a side sent the last message of its part of a handshake: a reply, an acknowledgement. Packets follow.
+fn is_done(handshake: &Handshake, side: Side) -> bool {
+    handshake.messages_of(side).iter().any(|sent| match side {
+        Side::Dialler => sent.content.reply().is_some(),
+        Side::Acceptor => sent.content.ack().is_some(),
+    })
+}
+
+// Notes that a side ended by this segment what it sends, and what it had received.
+fn end_flow(flow: &mut Flow, other: &mut Flow, segment: &Segment) {
+    other.take_answer(segment);
+    flow.note_end(segment, other);
+}
+
+// Reads the next message of a side, if it is whole. Returns how many bytes its body has.
+fn read_message(
+    alloc: Global,
+    handshake: &mut Handshake,
+    flow: &mut Flow,
+    side: Side,
+    at: u64,
+) -> Result<Option<usize>, AllocError> {
+    if handshake.len() >= MOST_MESSAGES || is_done(handshake, side) {
+        flow.consume(usize::MAX);
+        return Ok(None);
+    }
+    let NextBody::Whole(body) = next_body(side, flow.bytes()) else {
+        return Ok(None);
+    };
+    let length = body.len();
+    let content = content_of(alloc, side, body)?;
+    handshake.take(side, content, at)?;
+    flow.consume(length.saturating_add(2));
+    Ok(Some(length))
+}
+
+// Reads the messages of a side that are whole. Returns how many bytes their bodies have.
+fn read_messages(
+    alloc: Global,
+    handshake: &mut Handshake,
+    flow: &mut Flow,
+    side: Side,
+    at: u64,
+) -> Result<usize, AllocError> {
+    let mut said: usize = 0;
+    for _ in 0..=MOST_MESSAGES {
+        match read_message(alloc, handshake, flow, side, at)? {
+            Some(length) => said = said.saturating_add(length),
+            None => return Ok(said),
+        }
+    }
+    Ok(said)
 }

@@ -1,14 +1,13 @@
 //! Attempts as they are remembered: which crossed, which are in doubt, and what they came to, counted.
 
 ghost use Rattle.std.specs.Prelude.{◌≡◌, ◌↔◌, IsTrue};
-ghost use Rattle.distping_capture.specs.Crossings.{Crosses, GoesBack, MayBe, gives_way, leeway, must_win};
+ghost use Rattle.distping_capture.specs.Crossings.{Crosses, GoesBack, MayBe, gives_way, is_made, leeway, must_win};
 
 use crate::nodes::{MOST, NodesSeen};
-use crate::outcome::AttemptOutcome;
 use dist_capture::Endpoint;
 use dist_messages::Side;
 use dist_names::{ByteString, short_part};
-use dist_probe::ProbeVerdict;
+use dist_talk::HandshakeVerdict;
 use distping_report::LinePiece::{Name, Text};
 use distping_report::LineSink;
 use distping_words::Fault;
@@ -38,11 +37,13 @@ pub struct PastDial {
     pub began: u64,
     pub ended: u64,
     /// What it came to.
-    pub outcome: AttemptOutcome,
+    pub verdict: HandshakeVerdict,
     /// The status that it leads to: 0 once another dial crossed it.
     pub exit: u8,
     /// How many attempts.
     pub count: u32,
+    /// Whether a node dialled another one: a port mapper that was asked has no line in the summary.
+    pub is_dial: bool,
 }
 
 // Whether a node of this name may be the one that is known so.
@@ -52,24 +53,30 @@ fn may_be(known: &[u8], name: &[u8]) -> bool
     known.is_empty() || known == name || known == short_part(name)
 }
 
-// Whether a dial that came to this gave way to the other node's: upon `nok`, or if its own node has the lesser name.
-fn gives_way(outcome: AttemptOutcome, is_lesser: bool) -> bool
-    ensures { result ≡ gives_way outcome is_lesser }
+// Whether the handshake was made.
+fn is_made(verdict: HandshakeVerdict) -> bool
+    ensures { result ≡ is_made verdict }
 {
-    match outcome {
-        AttemptOutcome::Verdict(ProbeVerdict::Busy) => true,
-        AttemptOutcome::Verdict(ProbeVerdict::AlreadyUp)
-        | AttemptOutcome::Withdrawn(Side::Dialler) => is_lesser,
+    matches!(verdict, HandshakeVerdict::Up | HandshakeVerdict::Finished)
+}
+
+// Whether a dial that came to this gave way to the other node's: upon `nok`, or if its own node has the lesser name.
+fn gives_way(verdict: HandshakeVerdict, is_lesser: bool) -> bool
+    ensures { result ≡ gives_way verdict is_lesser }
+{
+    match verdict {
+        HandshakeVerdict::Busy => true,
+        HandshakeVerdict::AlreadyUp | HandshakeVerdict::Withdrawn(Side::Dialler) => is_lesser,
         _ => false,
     }
 }
 
 // How long after its end the dial that it gave way to may begin, in nanoseconds.
-fn leeway(outcome: AttemptOutcome) -> u64
-    ensures { result ≡ leeway outcome }
+fn leeway(verdict: HandshakeVerdict) -> u64
+    ensures { result ≡ leeway verdict }
 {
-    match outcome {
-        AttemptOutcome::Verdict(ProbeVerdict::Busy) => SETUP,
+    match verdict {
+        HandshakeVerdict::Busy => SETUP,
         _ => 0,
     }
 }
@@ -77,10 +84,7 @@ fn leeway(outcome: AttemptOutcome) -> u64
 impl PastDial {
     /// Whether it ended as if by a wrong cookie.
     pub fn is_refused(&self) -> bool {
-        matches!(
-            self.outcome,
-            AttemptOutcome::Verdict(ProbeVerdict::WrongCookie)
-        )
+        matches!(self.verdict, HandshakeVerdict::WrongCookie(_))
     }
 
     /// Whether it did so when the registration of the node at this port ended.
@@ -90,7 +94,7 @@ impl PastDial {
 
     /// Whether it came up, and is between the same two as that one.
     pub fn came_up_as(&self, that: &PastDial) -> bool {
-        self.outcome.is_up() && self.name == that.name && self.other == that.other
+        is_made(self.verdict) && self.name == that.name && self.other == that.other
     }
 
     /// Whether this dial has to win over that one, if they cross: its node has the greater name. Source: ERTS User's Guide, Distribution
@@ -115,11 +119,11 @@ impl PastDial {
     pub fn has_crossed(&self, loser: &PastDial) -> bool
         ensures { IsTrue result ↔ Crosses self.now loser.now }
     {
-        self.outcome.is_up()
+        is_made(self.verdict)
             && self.goes_back(loser)
             && loser.began <= self.ended
-            && self.began <= loser.ended.saturating_add(leeway(loser.outcome))
-            && gives_way(loser.outcome, self.must_win(loser))
+            && self.began <= loser.ended.saturating_add(leeway(loser.verdict))
+            && gives_way(loser.verdict, self.must_win(loser))
             && loser.exit != 0
     }
 
@@ -151,8 +155,8 @@ impl PastDial {
     fn order(&self, that: &PastDial) -> Ordering {
         let name = self.name.as_slice().cmp(that.name.as_slice());
         let other = self.other.as_slice().cmp(that.other.as_slice());
-        let status = self.outcome.status().cmp(&that.outcome.status());
-        let word = self.outcome.name().cmp(that.outcome.name());
+        let status = self.verdict.status().cmp(&that.verdict.status());
+        let word = self.verdict.name().cmp(that.verdict.name());
         let host = self.host().cmp(&that.host());
         name.then(other).then(status).then(word).then(host)
     }

@@ -3,53 +3,89 @@
 ghost use Rattle.std.specs.Prelude.{◌≤◌, vec_len};
 
 use crate::connection::{CapturedConnection, ends_of};
+use crate::left_out::PacketsLeftOut;
 use crate::register::Register;
-use dist_capture::{Endpoint, Segment};
-use dist_secret::Cookie;
+use dist_capture::{Endpoint, Segment, SkippedCounts};
+use dist_talk::Terms;
 use distping_report::LineSink;
 use distping_words::Fault;
 
-// The most connections that are remembered; one that ended is given up for another, else the one that was quiet for longest. Our own
-// choice.
+// The most connections that are remembered: for another one the one is forgotten that ended first, or else the one that was quiet for
+// longest. Our own choice.
 const MOST_CONNECTIONS: usize = 1024;
 
+// The most bytes that are kept of all connections together, before those are forgotten that have most. Our own choice.
+const MOST_KEPT: usize = 32_000_000;
+
 /// Finds what was said, segment by segment, and prints it.
-///
-/// No clause says which lines it prints: of them it is proved alone that printing is safe and ends. What they say of an attempt comes
-/// from `judge`, `outcome_of` and `check_cookie`, whose clauses pin it.
 #[derive(Drop)]
 pub struct Finder<'x> {
     register: Register<'x>,
     // The port of port mappers.
     mapper_port: u16,
-    // Those that are open, and those that ended and were not given up: so a late copy of a packet begins none. In the order of their ends.
+    // Those that are open, and those that ended and were not forgotten: so a late copy of a packet begins none. In the order of their ends.
     connections: Vec<Box<CapturedConnection>>,
+    // How many bytes are kept of them.
+    kept: usize,
+    // How many were forgotten that were open.
+    forgotten: u64,
 }
 
 impl<'x> Finder<'x> {
     /// A finder that has seen nothing.
-    pub fn new(lines: LineSink<'x>, cookie: Option<&'x Cookie>, mapper_port: u16) -> Finder<'x> {
+    pub fn new(lines: LineSink<'x>, terms: Terms<'x>, mapper_port: u16) -> Finder<'x> {
         Finder {
-            register: Register::new(lines, cookie),
+            register: Register::new(lines, terms),
             mapper_port,
             connections: Vec::new(lines.alloc),
+            kept: 0,
+            forgotten: 0,
         }
     }
 
-    // Gives up a connection: the first of the least rank.
-    fn give_up(&mut self) -> Result<(), Fault> {
-        let (mut place, mut least) = (0, u64::MAX);
+    // The connection that is to be forgotten first: of those that ended the oldest, else the one that was quiet for longest.
+    fn oldest(&self) -> usize {
+        let (mut place, mut least) = (0, (true, u64::MAX));
         for (at, connection) in self.connections.iter().enumerate() {
-            if connection.rank() < least {
+            let rank = (!connection.is_reported, connection.latest);
+            if rank < least {
                 place = at;
-                least = connection.rank();
+                least = rank;
             }
         }
+        place
+    }
+
+    // The connection that keeps most.
+    fn largest(&self) -> usize {
+        let (mut place, mut most) = (0, 0);
+        for (at, connection) in self.connections.iter().enumerate() {
+            if connection.kept_bytes() > most {
+                place = at;
+                most = connection.kept_bytes();
+            }
+        }
+        place
+    }
+
+    // Forgets the connection at this place, and prints what there is to say of it.
+    fn give_up(&mut self, place: usize) -> Result<(), Fault> {
         if place < self.connections.len() {
             let mut given_up = self.connections.remove(place);
+            self.kept = self.kept.saturating_sub(given_up.kept_bytes());
             self.register.end(&mut *given_up)?;
         }
         Ok(())
+    }
+
+    // The same to have room for another one.
+    fn forget(&mut self, place: usize) -> Result<(), Fault> {
+        let is_open = self
+            .connections
+            .get(place)
+            .is_some_and(|it| !it.is_reported);
+        self.forgotten = self.forgotten.saturating_add(u64::from(is_open));
+        self.give_up(place)
     }
 
     // Where a connection between these ends is, or would be.
@@ -68,40 +104,62 @@ impl<'x> Finder<'x> {
             _ => {}
         }
         if self.connections.len() >= MOST_CONNECTIONS {
-            self.give_up()?;
+            self.forget(self.oldest())?;
         }
         let alloc = self.register.lines.alloc;
-        let made = Box::new(
-            alloc,
-            CapturedConnection::new(alloc, segment, self.mapper_port),
-        )?;
+        let made = Box::new(alloc, CapturedConnection::new(segment, self.mapper_port))?;
         let place = self.place_of(ends);
         self.connections.insert(place, made)?;
         Ok(place)
     }
 
-    /// Takes the next segment of the capture.
-    pub fn take(&mut self, segment: &Segment) -> Result<(), Fault> {
-        self.register.now = segment.time;
-        let place = self.place_for(segment)?;
+    // Takes a segment of the connection at this place.
+    fn hand_on(&mut self, place: usize, segment: &Segment) -> Result<(), Fault> {
         let Some(connection) = self.connections.get_mut(place) else {
             return Ok(());
         };
         let connection = &mut **connection;
+        let before = connection.kept_bytes();
         if connection.is_before(segment) {
+            // What came behind its latest segment is not in the capture.
+            self.register.time = connection.latest;
             self.register.end(connection)?;
-            let alloc = self.register.lines.alloc;
-            *connection = CapturedConnection::new(alloc, segment, self.mapper_port);
+            self.register.time = segment.time;
+            *connection = CapturedConnection::new(segment, self.mapper_port);
         }
-        self.register.take(connection, segment)
+        self.register.take(connection, segment)?;
+        let others = self.kept.saturating_sub(before);
+        self.kept = others.saturating_add(connection.kept_bytes());
+        Ok(())
     }
 
-    /// Ends the capture: prints what is open, the longest quiet first, then the summary by pair. Returns the exit status: the first that
-    /// is not 0 of the attempts that are whole.
-    pub fn finish(&mut self) -> Result<u8, Fault> {
-        for _ in 0..self.connections.len() {
-            self.give_up()?;
+    /// Takes the next segment of the capture.
+    pub fn take(&mut self, segment: &Segment) -> Result<(), Fault> {
+        self.register.time = segment.time;
+        let place = self.place_for(segment)?;
+        self.hand_on(place, segment)?;
+        if self.kept > MOST_KEPT {
+            self.forget(self.largest())?;
         }
-        self.register.finish()
+        Ok(())
+    }
+
+    /// Prints what is open, the longest quiet first.
+    pub fn give_up_all(&mut self) -> Result<(), Fault> {
+        for _ in 0..self.connections.len() {
+            self.give_up(self.oldest())?;
+        }
+        Ok(())
+    }
+
+    /// Ends the capture, of which so many packets gave no segment: prints what is open, then the summary by pair, and what was left out.
+    /// Returns the exit status: the first that is not 0 of the attempts.
+    pub fn finish(&mut self, counts: SkippedCounts, is_cut_off: bool) -> Result<u8, Fault> {
+        self.give_up_all()?;
+        self.register.finish(&PacketsLeftOut {
+            counts,
+            forgotten: self.forgotten,
+            is_cut_off,
+        })
     }
 }

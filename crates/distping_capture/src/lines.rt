@@ -1,17 +1,18 @@
 //! The lines about one connection.
 
-use crate::connection::{CapturedConnection, registration_of};
-use crate::cookie_check::CookieCheck;
+ghost use Rattle.std.specs.Prelude.{◌≡◌, IfOk};
+ghost use Rattle.distping_capture.specs.Attempts.{verdict_on};
+
+use crate::connection::{CapturedConnection, PATIENCE, other_side};
 use crate::dials::PastDial;
-use crate::facts::{Facts, NodeDescription, description_in};
-use crate::outcome::AttemptOutcome;
-use crate::said::{CapturedMessage, side_word};
+use crate::flow::FlowEnd;
+use crate::traffic::{MapperTalk, Traffic, registration_of};
 use dist_epmd::{Answer, NodeInfo, Request};
 use dist_epmd_calls::LookupError;
 use dist_frames::first_body;
-use dist_messages::{MessageView, Side, read_in_place};
-use dist_names::Flags;
-use dist_probe::ProbeVerdict;
+use dist_messages::{Message, Side};
+use dist_names::{ByteString, Creation, Flags};
+use dist_talk::{Handshake, HandshakeVerdict, NodeDescription, SentContent, SentMessage, Terms};
 use distping_report::LinePiece::{self, Digits, Escaped, Foreign, Host, Name, Number, Text};
 use distping_report::{LineSink, utc_text};
 use distping_words::Fault;
@@ -45,26 +46,34 @@ pub fn put_heading(lines: LineSink<'_>, connection: &CapturedConnection) -> Resu
     ])
 }
 
+/// The word for a side.
+pub fn side_word(side: Side) -> &'static str {
+    match side {
+        Side::Dialler => "the dialler",
+        Side::Acceptor => "the acceptor",
+    }
+}
+
 // What a message is called, and the text that it carries.
-fn word_of(view: MessageView<'_>) -> (&'static str, LinePiece<'static>) {
-    let word = match view {
-        MessageView::Status(status) => return ("status ", Foreign(status.text())),
-        MessageView::OldName { .. } => "name, in the older form",
-        MessageView::NewName { .. } => "name",
-        MessageView::OldChallenge { .. } => "challenge, in the older form",
-        MessageView::NewChallenge { .. } => "challenge",
-        MessageView::Complement { .. } => "complement",
-        MessageView::Reply { .. } => "reply",
-        MessageView::Ack { .. } => "acknowledgement",
+fn word_of(message: &Message) -> (&'static str, LinePiece<'_>) {
+    let word = match message {
+        Message::Status(status) => return ("status ", Foreign(status.text())),
+        Message::OldName { .. } => "name, in the older form",
+        Message::NewName { .. } => "name",
+        Message::OldChallenge { .. } => "challenge, in the older form",
+        Message::NewChallenge { .. } => "challenge",
+        Message::Complement { .. } => "complement",
+        Message::Reply { .. } => "reply",
+        Message::Ack { .. } => "acknowledgement",
     };
     (word, Text(""))
 }
 
 // The same of a body that is none of these: a status may give a name to a node that asked for one, with the name's length in 2 bytes
 // before it, and a creation behind. Source: ERTS User's Guide, Distribution Handshake.
-fn other_word(message: &CapturedMessage) -> (&'static str, LinePiece<'_>) {
-    match message.body.as_slice().strip_prefix(b"snamed:") {
-        Some(rest) if message.side == Side::Acceptor => {
+fn other_word(side: Side, body: &ByteString) -> (&'static str, LinePiece<'_>) {
+    match body.as_slice().strip_prefix(b"snamed:") {
+        Some(rest) if side == Side::Acceptor => {
             ("status named: ", Name(first_body(rest).unwrap_or(b"")))
         }
         _ => ("no message of a handshake", Text("")),
@@ -88,32 +97,48 @@ fn put_word<'x>(
     ])
 }
 
-// Prints what a side says of itself; in the older form it has no creation.
-fn put_node(lines: LineSink<'_>, node: &NodeDescription<'_>) -> Result<(), Fault> {
-    match node.creation {
-        Some(creation) => lines.put_peer(node.name, node.flags, creation),
-        None => lines.put(&[
-            Text("   node      "),
-            Name(node.name),
-            Text(", flags "),
-            Digits(node.flags),
-        ]),
-    }
+// Prints what a side says of itself in the older form, which has no creation.
+fn put_old_node(lines: LineSink<'_>, name: &ByteString, flags: u32) -> Result<(), Fault> {
+    lines.put(&[
+        Text("   node      "),
+        Name(name.as_slice()),
+        Text(", flags "),
+        Digits(Flags(u64::from(flags))),
+    ])
+}
+
+fn put_complement(lines: LineSink<'_>, high: u32, creation: Creation) -> Result<(), Fault> {
+    lines.put(&[
+        Text("   node      creation "),
+        Number(creation.0),
+        Text(", flags "),
+        Digits(Flags::of_halves(high, 0)),
+    ])
 }
 
 // Prints what a message says beside its name.
-fn put_content(lines: LineSink<'_>, view: MessageView<'_>) -> Result<(), Fault> {
-    if let Some(node) = description_in(view) {
-        return put_node(lines, &node);
-    }
-    match view {
-        MessageView::Complement { high, creation } => lines.put(&[
-            Text("   node      creation "),
-            Number(creation.0),
-            Text(", flags "),
-            Digits(Flags::of_halves(high, 0)),
-        ]),
-        _ => Ok(()),
+fn put_content(lines: LineSink<'_>, message: &Message) -> Result<(), Fault> {
+    match message {
+        Message::OldName { flags, name } | Message::OldChallenge { flags, name, .. } => {
+            put_old_node(lines, name, *flags)
+        }
+        Message::NewName {
+            flags,
+            creation,
+            name,
+        }
+        | Message::NewChallenge {
+            flags,
+            creation,
+            name,
+            ..
+        } => lines.put_peer(NodeDescription {
+            name: name.as_slice(),
+            flags: *flags,
+            creation: Some(*creation),
+        }),
+        Message::Complement { high, creation } => put_complement(lines, *high, *creation),
+        Message::Status(_) | Message::Reply { .. } | Message::Ack { .. } => Ok(()),
     }
 }
 
@@ -143,28 +168,60 @@ fn put_message(
     lines: LineSink<'_>,
     began: u64,
     before: u64,
-    message: &CapturedMessage,
+    side: Side,
+    sent: &SentMessage,
 ) -> Result<(), Fault> {
-    let waited = message.at.saturating_sub(before);
-    put_slow(lines, message.side, waited, " seconds")?;
-    let time = seconds_text(lines.alloc, message.at.saturating_sub(began))?;
-    match read_in_place(message.side, message.body.as_slice()) {
-        Ok(view) => {
-            put_word(lines, &time, message.side, word_of(view))?;
-            put_content(lines, view)
+    let waited = sent.at.saturating_sub(before);
+    put_slow(lines, side, waited, " seconds")?;
+    let time = seconds_text(lines.alloc, sent.at.saturating_sub(began))?;
+    match &sent.content {
+        SentContent::Message(message) => {
+            put_word(lines, &time, side, word_of(message))?;
+            put_content(lines, message)
         }
-        Err(_) => put_word(lines, &time, message.side, other_word(message)),
+        SentContent::Other(body) => put_word(lines, &time, side, other_word(side, body)),
     }
 }
 
-// Prints what the capture lacks of a connection.
-fn put_missing(lines: LineSink<'_>, connection: &CapturedConnection) -> Result<(), Fault> {
-    if connection.is_late {
+// The message that was whole behind so many others.
+fn said_at(handshake: &Handshake, number: usize) -> Option<(Side, &SentMessage)> {
+    for side in [Side::Dialler, Side::Acceptor] {
+        for sent in handshake.messages_of(side) {
+            if sent.number == number {
+                return Some((side, sent));
+            }
+        }
+    }
+    None
+}
+
+// Prints the messages of a handshake, in the order in which they were whole.
+fn put_messages(lines: LineSink<'_>, began: u64, handshake: &Handshake) -> Result<(), Fault> {
+    let mut before = began;
+    for number in 0..handshake.len() {
+        if let Some((side, sent)) = said_at(handshake, number) {
+            put_message(lines, began, before, side, sent)?;
+            before = sent.at;
+        }
+    }
+    Ok(())
+}
+
+// Prints what the capture lacks of a connection; if that is its beginning, who ended it.
+fn put_missing(
+    lines: LineSink<'_>,
+    connection: &CapturedConnection,
+    handshake: &Handshake,
+) -> Result<(), Fault> {
+    let missing = handshake.missing;
+    if missing.beginning {
         lines.put(&[Text("!  missing   the beginning of this connection")])?;
     }
-    let facts = Facts::of(&connection.said);
-    for side in [Side::Dialler, Side::Acceptor] {
-        if connection.has_gap(side) || (!connection.is_late && facts.lacks(side)) {
+    for (side, lacks) in [
+        (Side::Dialler, missing.dialler),
+        (Side::Acceptor, missing.acceptor),
+    ] {
+        if lacks {
             lines.put(&[
                 Text("!  missing   bytes of "),
                 Text(side_word(side)),
@@ -172,62 +229,135 @@ fn put_missing(lines: LineSink<'_>, connection: &CapturedConnection) -> Result<(
             ])?;
         }
     }
-    Ok(())
-}
-
-fn put_outcome(lines: LineSink<'_>, outcome: AttemptOutcome) -> Result<(), Fault> {
-    match outcome {
-        AttemptOutcome::Verdict(ProbeVerdict::Up) => {
-            lines.put(&[Text("✓  Up: "), Text(ProbeVerdict::Up.cause())])
+    match connection.first_end() {
+        Some((side, end)) if missing.beginning && connection.acknowledged_at().is_none() => {
+            lines.put(&[
+                Text("   end       "),
+                Text(how_text(end)),
+                Text(side_word(side)),
+            ])
         }
-        AttemptOutcome::Verdict(verdict) => {
-            lines.put(&[Text("   of        the acceptor, as the dialler sees it")])?;
-            lines.put_verdict(verdict)
-        }
-        AttemptOutcome::Taken(taken) => {
-            lines.put(&[Text("   of        the dialler, as the acceptor sees it")])?;
-            lines.put_outcome(taken)
-        }
-        AttemptOutcome::Withdrawn(side) => lines.put(&[
-            Text("✗  Withdrawn: "),
-            Text(side_word(side)),
-            Text(" ended the connection, and the other side was not late"),
-        ]),
-        AttemptOutcome::Dynamic => lines.put(&[Text(
-            "   Dynamic: the dialler asks for a name (-name undefined), which is not judged",
-        )]),
-        AttemptOutcome::Unfinished => {
-            lines.put(&[Text("   Unfinished: the capture does not show how this ended")])
-        }
+        _ => Ok(()),
     }
 }
 
-/// Prints what was said on a connection, and what that came to.
+// How a connection ended; the side follows.
+fn how_text(end: FlowEnd) -> &'static str {
+    if end.is_reset {
+        "reset by "
+    } else {
+        "closed by "
+    }
+}
+
+// Prints how many segments would have ended a connection, and did not.
+fn put_strays(lines: LineSink<'_>, connection: &CapturedConnection) -> Result<(), Fault> {
+    if connection.strays == 0 {
+        return Ok(());
+    }
+    lines.put(&[
+        Text(
+            "!  stray     a reset or an end with a number that the other side did not await, so it ended nothing: ",
+        ),
+        Number(connection.strays),
+    ])
+}
+
+// Which side a verdict is about, as the other one sees it. `None` of one that is about both, or about none.
+fn subject_of(verdict: HandshakeVerdict) -> Option<Side> {
+    match verdict {
+        HandshakeVerdict::Up
+        | HandshakeVerdict::Finished
+        | HandshakeVerdict::Dynamic
+        | HandshakeVerdict::Unfinished
+        | HandshakeVerdict::Withdrawn(_)
+        | HandshakeVerdict::NotRegistered
+        | HandshakeVerdict::NameInUse
+        | HandshakeVerdict::MapperFault(_)
+        | HandshakeVerdict::NothingFound
+        | HandshakeVerdict::NoMemory => None,
+        HandshakeVerdict::NoName | HandshakeVerdict::Left | HandshakeVerdict::Stopped => Some(
+            Side::Dialler,
+        ),
+        HandshakeVerdict::Foreign(side, _) | HandshakeVerdict::WrongCookie(side) => Some(side),
+        HandshakeVerdict::Silent(due, _) | HandshakeVerdict::Unexpected(due) => Some(due.side()),
+        _ => Some(Side::Acceptor),
+    }
+}
+
+fn subject_text(side: Side) -> &'static str {
+    match side {
+        Side::Dialler => "   of        the dialler, as the acceptor sees it",
+        Side::Acceptor => "   of        the acceptor, as the dialler sees it",
+    }
+}
+
+/// Prints a verdict: one line where nothing can be done, or nothing was concluded.
+pub fn put_verdict(
+    lines: LineSink<'_>,
+    verdict: HandshakeVerdict,
+    has_cookie: bool,
+) -> Result<(), Fault> {
+    if let Some(side) = subject_of(verdict) {
+        lines.put(&[Text(subject_text(side))])?;
+    }
+    let mark = match verdict {
+        HandshakeVerdict::Up => "✓  ",
+        HandshakeVerdict::Finished if has_cookie => "✓  ",
+        HandshakeVerdict::Dynamic | HandshakeVerdict::Unfinished => "   ",
+        _ => return lines.put_verdict(verdict),
+    };
+    lines.put(&[
+        Text(mark),
+        Text(verdict.name()),
+        Text(": "),
+        Text(verdict.cause()),
+    ])
+}
+
+// Whether the accepting side is known to have refused the reply.
+fn is_refused(verdict: HandshakeVerdict) -> bool {
+    matches!(verdict, HandshakeVerdict::WrongCookie(_))
+}
+
+/// What both sides showed of the cookie that is known, in a sentence. `None` if a side showed nothing, or no cookie is known.
+pub fn cookie_sentence(
+    connection: &CapturedConnection,
+    terms: &Terms<'_>,
+    verdict: HandshakeVerdict,
+) -> Option<&'static str> {
+    let Ok(cookie) = terms.cookie else {
+        return None;
+    };
+    let check = connection
+        .handshake()?
+        .check_cookie(cookie, is_refused(verdict))?;
+    Some(check.sentence())
+}
+
+/// Prints what was said on a connection, and what that came to, which it returns.
 pub fn put_attempt(
     lines: LineSink<'_>,
     connection: &CapturedConnection,
-    outcome: AttemptOutcome,
-    check: Option<CookieCheck>,
-) -> Result<(), Fault> {
+    terms: &Terms<'_>,
+) -> Result<HandshakeVerdict, Fault>
+    ensures { IfOk result (λ verdict. verdict ≡ verdict_on terms.now connection.now.is_at_mapper connection.now.content) }
+{
+    let verdict = connection.verdict_by(terms);
+    if lines.quiet {
+        return Ok(verdict);
+    }
     put_heading(lines, connection)?;
-    let mut before = connection.began;
-    for message in &connection.said {
-        put_message(lines, connection.began, before, message)?;
-        before = message.at;
+    if let Traffic::Handshake(handshake) = &connection.content {
+        put_messages(lines, connection.began, handshake)?;
+        put_missing(lines, connection, handshake)?;
     }
-    put_missing(lines, connection)?;
-    put_outcome(lines, outcome)?;
-    if let AttemptOutcome::Verdict(ProbeVerdict::WrongCookie) = outcome
-        && connection.was_unread
-    {
-        lines.put(&[Text(
-            "!  doubt     the acceptor had ended when the reply came, and reset what came: so its cookie may be the right one",
-        )])?;
+    put_strays(lines, connection)?;
+    put_verdict(lines, verdict, terms.cookie.is_ok())?;
+    if let Some(sentence) = cookie_sentence(connection, terms, verdict) {
+        lines.put(&[Text("   cookie    "), Text(sentence)])?;
     }
-    match check {
-        Some(check) => lines.put(&[Text("   cookie    "), Text(check.sentence())]),
-        None => Ok(()),
-    }
+    Ok(verdict)
 }
 
 // A node's name; empty if it is not known.
@@ -252,21 +382,81 @@ pub fn put_pair(lines: LineSink<'_>, pair: &PastDial, is_doubted: bool) -> Resul
         Text(" and "),
         name_piece(pair.other.as_slice()),
         Text(": "),
-        Text(pair.outcome.name()),
+        Text(pair.verdict.name()),
         Text(" "),
         Number(pair.count),
         Text(doubt),
     ])
 }
 
-// Who had fallen silent when a connection ended that was up.
-fn silence_text(connection: &CapturedConnection) -> &'static str {
-    let is_dialler = connection.was_silent(Side::Dialler);
-    match (is_dialler, connection.was_silent(Side::Acceptor)) {
-        (false, false) => "",
-        (true, false) => ": for 45 seconds or longer no byte had come from the dialler",
-        (false, true) => ": for 45 seconds or longer no byte had come from the acceptor",
-        (true, true) => ": for 45 seconds or longer no byte had come from either side",
+// How long a side of a connection that is up may send nothing before that is said, in nanoseconds: a node looks in each quarter of
+// `net_ticktime`, which is 60 seconds if it is not set, whether it has to send a tick. Source: Kernel Reference Manual, kernel.
+const TICK: u64 = 15_000_000_000;
+
+// How close behind the acknowledgement an end is said to come at once, in nanoseconds. Our own choice.
+const SECOND: u64 = 1_000_000_000;
+
+// For how long a side had sent nothing at this time.
+fn silence(connection: &CapturedConnection, side: Side, until: u64) -> u64 {
+    until.saturating_sub(connection.flow(side).latest)
+}
+
+// Whether a side had fallen silent at this time: no tick came, or it did not receive what was sent to it again and again.
+fn is_silent(connection: &CapturedConnection, side: Side, until: u64) -> bool {
+    let waited = silence(connection, side, until);
+    let again = connection.flow(other_side(side)).again;
+    waited >= 2 * TICK || again > 0 && waited >= PATIENCE
+}
+
+// Prints for how long a side had sent nothing, if that was long, and how often it was sent something again.
+fn put_silence(
+    lines: LineSink<'_>,
+    connection: &CapturedConnection,
+    side: Side,
+    until: u64,
+) -> Result<(), Fault> {
+    let (waited, other) = (silence(connection, side, until), other_side(side));
+    let is_silent = is_silent(connection, side, until);
+    if waited < TICK && !is_silent {
+        return Ok(());
+    }
+    let seconds = seconds_text(lines.alloc, waited)?;
+    let again = format!(in lines.alloc; "{}", connection.flow(other).again)?;
+    let (front, count, back) = match connection.flow(other).again {
+        0 => ("", "", ""),
+        _ => (
+            ", to which the other side had sent ",
+            again.as_str(),
+            " packets again",
+        ),
+    };
+    lines.put(&[
+        Text(if is_silent {
+            "!  silent    for "
+        } else {
+            "   silent    for "
+        }),
+        Escaped(&seconds),
+        Text(" seconds no byte came from "),
+        Text(side_word(side)),
+        Text(front),
+        Escaped(count),
+        Text(back),
+    ])
+}
+
+// How a connection ended that came up, and who ended it.
+fn end_texts(connection: &CapturedConnection, now: u64) -> (&'static str, &'static str) {
+    match connection.any_end() {
+        Some((side, end)) if end.is_reset => (", then reset by ", side_word(side)),
+        Some((side, _)) => (", then closed by ", side_word(side)),
+        None
+            if is_silent(connection, Side::Dialler, now)
+                || is_silent(connection, Side::Acceptor, now) => (
+            ", and its end is not in the capture",
+            "",
+        ),
+        None => (", and still when the capture ended", ""),
     }
 }
 
@@ -277,12 +467,10 @@ pub fn put_end(
     up_at: u64,
     now: u64,
 ) -> Result<(), Fault> {
-    let (how, who) = match connection.close {
-        Some(close) if close.is_reset => (", then reset by ", side_word(close.side)),
-        Some(close) => (", then closed by ", side_word(close.side)),
-        None => (", and still when the capture ended", ""),
-    };
-    let seconds = seconds_text(lines.alloc, connection.end_or(now).saturating_sub(up_at))?;
+    let until = connection.end_or(now);
+    let (how, who) = end_texts(connection, now);
+    let up = until.saturating_sub(up_at);
+    let seconds = seconds_text(lines.alloc, up)?;
     put_heading(lines, connection)?;
     lines.put(&[
         Text("   end       up for "),
@@ -290,8 +478,20 @@ pub fn put_end(
         Text(" seconds"),
         Text(how),
         Text(who),
-        Text(silence_text(connection)),
-    ])
+    ])?;
+    let ended = connection.any_end();
+    for side in [Side::Dialler, Side::Acceptor] {
+        if !matches!(ended, Some((closer, _)) if closer == side) {
+            put_silence(lines, connection, side, until)?;
+        }
+    }
+    put_strays(lines, connection)?;
+    if ended.is_some() && up < SECOND {
+        lines.put(&[Text(
+            "!  at once   the connection ended within a second of the acknowledgement",
+        )])?;
+    }
+    Ok(())
 }
 
 // Prints a registration, and what came of it.
@@ -316,20 +516,20 @@ fn put_registration(
     ])
 }
 
-/// Prints what a port mapper was asked, and this answer.
+/// Prints what a port mapper was asked, and its answer.
 pub fn put_answer(
     lines: LineSink<'_>,
     connection: &CapturedConnection,
-    answer: &Answer,
+    talk: &MapperTalk,
 ) -> Result<(), Fault> {
     put_heading(lines, connection)?;
     let port = connection.acceptor.port;
-    match (&connection.request, answer) {
-        (Some(Request::Alive(info)), _) => match registration_of(answer) {
+    match (&talk.request, &talk.answer) {
+        (Some(Request::Alive(info)), Some(answer)) => match registration_of(answer) {
             Some((code, creation)) => put_registration(lines, info, code, creation),
             None => Ok(()),
         },
-        (Some(Request::PortPlease(name)), Answer::Port(found)) => {
+        (Some(Request::PortPlease(name)), Some(Answer::Port(found))) => {
             lines.put(&[Text("   looks up  "), Name(name.as_slice())])?;
             match found {
                 Ok(info) => lines.put_registration(port, info),
@@ -342,18 +542,24 @@ pub fn put_answer(
 
 /// Prints how a conversation with a port mapper ended: a request without an answer, the end of a registration, a question for all
 /// names, whose answer is not read.
-pub fn put_mapper_end(lines: LineSink<'_>, connection: &CapturedConnection) -> Result<(), Fault> {
-    let (what, name) = match &connection.request {
+pub fn put_mapper_end(
+    lines: LineSink<'_>,
+    connection: &CapturedConnection,
+    talk: &MapperTalk,
+) -> Result<(), Fault> {
+    let (what, name) = match &talk.request {
         Some(Request::Alive(info)) => ("registration of ", Name(info.name.as_slice())),
         Some(Request::PortPlease(name)) => ("lookup of ", Name(name.as_slice())),
         Some(Request::Names) => ("", Text("asked for the names of all nodes")),
+        None if connection.lacks_bytes(Side::Dialler) => ("", Text("")),
         None => return Ok(()),
     };
     let (front, what) = match connection.lost_registration() {
+        None if talk.request.is_none() => ("!  missing   bytes of the request", ""),
         Some(_) => ("   epmd      the registration ended of ", ""),
         None if what.is_empty() => ("   epmd      ", ""),
-        None if connection.is_answered => return Ok(()),
-        None if connection.has_gap(Side::Acceptor) => {
+        None if talk.answer.is_some() => return Ok(()),
+        None if connection.lacks_bytes(Side::Acceptor) => {
             ("!  missing   bytes of the answer to the ", what)
         }
         None => ("!  epmd      no answer to the ", what),

@@ -3,22 +3,32 @@
 ghost use Rattle.std.specs.{Prelude.length, List.Sorted.IsSearchInRange};
 
 use crate::connection::CapturedConnection;
-use crate::facts::{Facts, NodeDescription};
 use crate::lines::put_slow;
 use dist_capture::Endpoint;
-use dist_epmd::Answer;
+use dist_epmd::NodeInfo;
 use dist_messages::Side;
 use dist_names::{ByteString, Creation, short_part};
+use dist_talk::NodeDescription;
 use distping_report::LinePiece::{Host, Name, Number, Text};
 use distping_report::LineSink;
 use distping_words::Fault;
 use std::alloc::{AllocError, Global};
+use std::mem;
 use std::net::IpAddr;
 
 /// The most nodes, ports and counts of pairs that are remembered. Our own choice.
 pub const MOST: usize = 1024;
 
-// A node: its latest incarnation, when an attempt began that showed it, from where it was seen last, and how many of its connections are up.
+// A node that had the same name at another address, and was still up: its incarnation, its address, and when the later one began.
+#[derive(Clone, Copy)]
+struct Elder {
+    creation: Creation,
+    address: IpAddr,
+    until: u64,
+}
+
+// A node: its latest incarnation, when an attempt began that showed it, from where it was seen last, how many of its connections are up,
+// and an elder one.
 #[derive(Drop)]
 struct KnownNode {
     name: ByteString,
@@ -26,6 +36,7 @@ struct KnownNode {
     began: u64,
     address: IpAddr,
     ups: u32,
+    elder: Option<Elder>,
 }
 
 // Where the node of this name is among those that are known, or would be.
@@ -36,8 +47,8 @@ fn place_of(nodes: &[KnownNode], name: &[u8]) -> Result<usize, usize>
 }
 
 impl KnownNode {
-    // Prints that it restarted, or that another one has its name: while connections of it are up, from another host. The other creation
-    // was shown by an attempt that began then.
+    // Prints that it restarted, or, while connections of it are up from another host, that it is elsewhere now. The other creation was shown
+    // by an attempt that began then.
     fn put_change(
         &self,
         lines: LineSink<'_>,
@@ -48,12 +59,16 @@ impl KnownNode {
         let name = Name(self.name.as_slice());
         if self.ups > 0 && self.address != address {
             return lines.put(&[
-                Text("!  two hosts "),
+                Text("!  moved     "),
                 name,
-                Text(" is up from "),
-                Host(self.address),
-                Text(", and another node of this name is at "),
+                Text(" is at "),
                 Host(address),
+                Text(" now: creation "),
+                Number(creation.0),
+                Text(", before at "),
+                Host(self.address),
+                Text(": creation "),
+                Number(self.creation.0),
             ]);
         }
         let (latest, before) = if began < self.began {
@@ -70,6 +85,56 @@ impl KnownNode {
             Number(before.0),
         ])
     }
+
+    // Takes another incarnation of it, at this address, that an attempt showed which began then.
+    fn renew(&mut self, creation: Creation, address: IpAddr, began: u64) {
+        if self.ups > 0 && self.address != address {
+            self.elder = Some(Elder {
+                creation: self.creation,
+                address: self.address,
+                until: began,
+            });
+        }
+        self.creation = creation;
+        self.began = began;
+        self.ups = 0;
+    }
+
+    // Notes that a connection of this incarnation ended that was up, on which it was heard last then. Prints that two nodes had its name at
+    // once, if the later one was there by then.
+    fn note_end(
+        &mut self,
+        lines: LineSink<'_>,
+        creation: Option<Creation>,
+        heard: u64,
+    ) -> Result<(), Fault> {
+        if creation == Some(self.creation) {
+            self.ups = self.ups.saturating_sub(1);
+            return Ok(());
+        }
+        match self.elder {
+            Some(elder) if creation == Some(elder.creation) && heard > elder.until => {
+                self.elder = None;
+                lines.put(&[
+                    Text("!  two hosts "),
+                    Name(self.name.as_slice()),
+                    Text(" was up from "),
+                    Host(elder.address),
+                    Text(" while another node of this name was at "),
+                    Host(self.address),
+                ])
+            }
+            _ => Ok(()),
+        }
+    }
+}
+
+// A lookup that no dial followed yet: by which host, when, in nanoseconds since 1970, and of which name.
+#[derive(Drop)]
+struct Lookup {
+    by: IpAddr,
+    at: u64,
+    name: ByteString,
 }
 
 // The node at a port.
@@ -78,8 +143,8 @@ struct Listener {
     place: Endpoint,
     // Without its host if a port mapper alone said it, empty if nobody did.
     name: ByteString,
-    // Which host looked it up and did not dial yet, and when, in nanoseconds since 1970.
-    asked: Option<(IpAddr, u64)>,
+    // The latest lookup that gave this port.
+    asked: Option<Lookup>,
 }
 
 /// All nodes, as far as handshakes and port mappers said.
@@ -130,9 +195,7 @@ impl NodesSeen {
                     if began < known.began {
                         return Ok(());
                     }
-                    known.creation = creation;
-                    known.began = began;
-                    known.ups = 0;
+                    known.renew(creation, address, began);
                 }
                 known.address = address;
                 known.ups = known.ups.saturating_add(ups);
@@ -145,6 +208,7 @@ impl NodesSeen {
                     began,
                     address,
                     ups,
+                    elder: None,
                 };
                 self.known.insert(at, met)?;
             }
@@ -159,28 +223,33 @@ impl NodesSeen {
         lines: LineSink<'_>,
         connection: &CapturedConnection,
     ) -> Result<(), Fault> {
-        let facts = Facts::of(&connection.said);
-        self.note_side(lines, facts.dialler, connection.dialler.address, connection)?;
-        self.note_side(
-            lines,
-            facts.acceptor,
-            connection.acceptor.address,
-            connection,
-        )
+        let Some(handshake) = connection.handshake() else {
+            return Ok(());
+        };
+        let dialler = handshake.description_of(Side::Dialler);
+        self.note_side(lines, dialler, connection.dialler.address, connection)?;
+        let acceptor = handshake.description_of(Side::Acceptor);
+        self.note_side(lines, acceptor, connection.acceptor.address, connection)
     }
 
-    /// Notes that a connection of these two ended that was up.
-    pub fn note_end(&mut self, facts: &Facts<'_>) {
-        for side in [facts.dialler, facts.acceptor] {
-            if let Some(side) = side
-                && let Ok(at) = place_of(&self.known, side.name)
+    /// Notes that a connection ended that was up, and prints if one of the two was up while another node had its name.
+    pub fn note_end(
+        &mut self,
+        lines: LineSink<'_>,
+        connection: &CapturedConnection,
+    ) -> Result<(), Fault> {
+        let Some(handshake) = connection.handshake() else {
+            return Ok(());
+        };
+        for side in [Side::Dialler, Side::Acceptor] {
+            if let Some(node) = handshake.description_of(side)
+                && let Ok(at) = place_of(&self.known, node.name)
             {
-                let known = &mut self.known[at];
-                if Some(known.creation) == side.creation {
-                    known.ups = known.ups.saturating_sub(1);
-                }
+                let heard = connection.flow(side).heard;
+                self.known[at].note_end(lines, node.creation, heard)?;
             }
         }
+        Ok(())
     }
 
     /// The whole name of a node that is known without its host, if it was seen from there.
@@ -223,57 +292,103 @@ impl NodesSeen {
         Ok(())
     }
 
-    /// Notes what a port mapper answered on this connection, if that is a port. Of the lookups by one host at another one the latest counts.
-    pub fn note_answer(
+    /// Notes that a port mapper gave a node's port on this connection, to a lookup of this name. Of the lookups by one host at another one
+    /// the latest counts.
+    pub fn note_found(
         &mut self,
         connection: &CapturedConnection,
-        answer: &Answer,
+        name: &[u8],
+        info: &NodeInfo,
     ) -> Result<(), AllocError> {
-        let Answer::Port(Ok(info)) = answer else {
-            return Ok(());
-        };
-        let (host, address) = (connection.dialler.address, connection.acceptor.address);
+        let (by, address) = (connection.dialler.address, connection.acceptor.address);
         let port = info.port;
         let place = Endpoint { address, port };
         self.note(place, info.name.as_slice())?;
         for it in &mut self.listeners {
-            let asked = it.asked;
-            if it.place == place {
-                it.asked = Some((host, connection.latest));
-            } else if it.place.address == address && matches!(asked, Some((by, _)) if by == host) {
+            if it.place.address == address && it.is_asked_by(by) {
                 it.asked = None;
             }
+        }
+        if let Ok(at) = self.listeners.binary_search_by(|it| it.place.cmp(&place)) {
+            let name = ByteString::from_slice(self.alloc, name)?;
+            let listener = &mut self.listeners[at];
+            listener.asked = Some(Lookup {
+                by,
+                at: connection.latest,
+                name,
+            });
         }
         Ok(())
     }
 
-    /// Prints if the dial of an attempt to this node went elsewhere than its lookup, or late. A lookup counts for one dial.
+    /// Prints if the dial of an attempt to this node went elsewhere than its lookup, or late, or met another node. A lookup counts for one
+    /// dial: to the port that it gave, or to the node that it asked for.
     pub fn put_lookup(
         &mut self,
         lines: LineSink<'_>,
         connection: &CapturedConnection,
         name: &[u8],
     ) -> Result<(), Fault> {
-        let (host, place) = (connection.dialler.address, connection.acceptor);
         for it in &mut self.listeners {
-            if let Some((by, at)) = it.asked
-                && by == host
-                && it.place.address == place.address
-                && short_part(it.name.as_slice()) == short_part(name)
-                && at <= connection.began
+            if it.is_asked_for(connection, name)
+                && let Some(lookup) = mem::replace(&mut it.asked, None)
             {
-                it.asked = None;
-                if it.place.port != place.port {
-                    lines.put(&[
-                        Text("!  lookup    the port mapper gave port "),
-                        Number(u32::from(it.place.port)),
-                        Text(" for this node, and the dial went to another"),
-                    ])?;
-                }
-                let waited = connection.began.saturating_sub(at);
+                lookup.put_followed(lines, it.place.port, connection, name)?;
+                let waited = connection.began.saturating_sub(lookup.at);
                 return put_slow(lines, Side::Dialler, waited, " seconds from lookup to dial");
             }
         }
         Ok(())
+    }
+}
+
+impl Listener {
+    // Whether this host looked it up, and did not dial yet.
+    fn is_asked_by(&self, host: IpAddr) -> bool {
+        match &self.asked {
+            Some(lookup) => lookup.by == host,
+            None => false,
+        }
+    }
+
+    // Whether a dial to a node of this name followed the lookup that gave this port.
+    fn is_asked_for(&self, connection: &CapturedConnection, name: &[u8]) -> bool {
+        let Some(lookup) = &self.asked else {
+            return false;
+        };
+        let place = connection.acceptor;
+        lookup.by == connection.dialler.address
+            && lookup.at <= connection.began
+            && self.place.address == place.address
+            && (self.place.port == place.port || lookup.name.as_slice() == short_part(name))
+    }
+}
+
+impl Lookup {
+    // Prints if the dial went to another port than the one that was given, or met a node of another name.
+    fn put_followed<'x>(
+        &'x self,
+        lines: LineSink<'_>,
+        given: u16,
+        connection: &CapturedConnection,
+        name: &'x [u8],
+    ) -> Result<(), Fault> {
+        if given != connection.acceptor.port {
+            return lines.put(&[
+                Text("!  lookup    the port mapper gave port "),
+                Number(u32::from(given)),
+                Text(" for this node, and the dial went to another"),
+            ]);
+        }
+        if name.is_empty() || short_part(name) == self.name.as_slice() {
+            return Ok(());
+        }
+        lines.put(&[
+            Text("!  lookup    the port mapper gave this port for "),
+            Name(self.name.as_slice()),
+            Text(", and "),
+            Name(name),
+            Text(" is there"),
+        ])
     }
 }

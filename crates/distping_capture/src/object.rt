@@ -1,10 +1,15 @@
 //! The objects of `--json` for a connection of the distribution, and for a pair of nodes.
 
+ghost use Rattle.std.specs.Prelude.{◌≡◌, IfOk, codes, string_bytes};
+ghost use Rattle.distping_capture.specs.{Attempts.verdict_on, Objects.ShowsVerdict};
+
 use crate::connection::CapturedConnection;
-use crate::cookie_check::CookieCheck;
 use crate::dials::PastDial;
-use crate::facts::{Facts, NodeDescription};
-use crate::outcome::AttemptOutcome;
+use crate::left_out::PacketsLeftOut;
+use crate::lines::cookie_sentence;
+use dist_epmd::Request;
+use dist_messages::Side;
+use dist_talk::{HandshakeVerdict, NodeDescription, Terms};
 use distping_report::{Value, object_line};
 use std::alloc::{AllocError, Global};
 
@@ -30,20 +35,10 @@ fn side_values(side: Option<NodeDescription<'_>>) -> [Value<'_>; 3] {
     }
 }
 
-// The cause and the remedy of an outcome, each or null.
-fn outcome_values(outcome: AttemptOutcome) -> [Value<'static>; 2] {
-    match outcome {
-        AttemptOutcome::Verdict(verdict) => {
-            [Value::Text(verdict.cause()), Value::Text(verdict.remedy())]
-        }
-        AttemptOutcome::Taken(taken) => [Value::Text(taken.cause()), Value::Null],
-        _ => [Value::Null, Value::Null],
-    }
-}
-
-fn check_value(check: Option<CookieCheck>) -> Value<'static> {
-    match check {
-        Some(check) => Value::Text(check.sentence()),
+// A sentence, or null.
+fn text_value(text: Option<&'static str>) -> Value<'static> {
+    match text {
+        Some(text) => Value::Text(text),
         None => Value::Null,
     }
 }
@@ -56,20 +51,40 @@ fn name_value(name: &[u8]) -> Value<'_> {
     }
 }
 
-/// The object of a connection, as one line. If its end is not in the capture, it lasts until now.
+// A side of a handshake, if there is one.
+fn side_of(connection: &CapturedConnection, side: Side) -> Option<NodeDescription<'_>> {
+    match connection.handshake() {
+        Some(handshake) => handshake.description_of(side),
+        None => None,
+    }
+}
+
+/// The object of a connection, as one line: what it came to by these terms. If its end is not in the capture, it lasts until now.
 pub fn attempt_object(
     alloc: Global,
     connection: &CapturedConnection,
-    outcome: AttemptOutcome,
-    check: Option<CookieCheck>,
+    terms: &Terms<'_>,
     now: u64,
-) -> Result<String, AllocError> {
-    let facts = Facts::of(&connection.said);
-    let [dialler, dialler_creation, dialler_flags] = side_values(facts.dialler);
-    let [acceptor, acceptor_creation, acceptor_flags] = side_values(facts.acceptor);
-    let [cause, remedy] = outcome_values(outcome);
+) -> Result<String, AllocError>
+    ensures { IfOk result (λ line. ShowsVerdict (codes "handshake")
+        (verdict_on terms.now connection.now.is_at_mapper connection.now.content) (string_bytes line)) }
+{
+    let verdict = connection.verdict_by(terms);
+    let [dialler, dialler_creation, dialler_flags] = side_values(side_of(
+        connection,
+        Side::Dialler,
+    ));
+    let [acceptor, acceptor_creation, acceptor_flags] = side_values(side_of(
+        connection,
+        Side::Acceptor,
+    ));
+    let cookie = text_value(cookie_sentence(connection, terms, verdict));
     let (from, to) = (connection.dialler, connection.acceptor);
     let members = [
+        ("type", Value::Text("handshake")),
+        ("form", Value::Number(1)),
+        ("verdict", Value::Text(verdict.name())),
+        ("exit", Value::Number(u64::from(verdict.status()))),
         ("began", Value::Number(connection.began / 1_000_000)),
         ("dialler", dialler),
         ("dialler_address", Value::Host(from.address)),
@@ -81,12 +96,56 @@ pub fn attempt_object(
         ("acceptor_port", Value::Number(u64::from(to.port))),
         ("acceptor_creation", acceptor_creation),
         ("acceptor_flags", acceptor_flags),
-        ("verdict", Value::Text(outcome.name())),
-        ("cause", cause),
-        ("remedy", remedy),
-        ("cookie", check_value(check)),
+        ("cause", Value::Text(verdict.cause())),
+        ("remedy", Value::Text(verdict.remedy())),
+        ("cookie", cookie),
         ("up", up_value(connection, now)),
-        ("exit", Value::Number(u64::from(outcome.status()))),
+    ];
+    object_line(alloc, &members)
+}
+
+// What a port mapper was asked, and for which name.
+fn request_values(request: Option<&Request>) -> [Value<'_>; 2] {
+    match request {
+        Some(Request::Alive(info)) => {
+            [
+                Value::Text("registration"),
+                Value::Name(info.name.as_slice()),
+            ]
+        }
+        Some(Request::PortPlease(name)) => [Value::Text("lookup"), Value::Name(name.as_slice())],
+        Some(Request::Names) => [Value::Text("names"), Value::Null],
+        None => [Value::Null, Value::Null],
+    }
+}
+
+/// The object of a request to a port mapper that it did not grant, as one line.
+pub fn mapper_object(
+    alloc: Global,
+    connection: &CapturedConnection,
+    request: Option<&Request>,
+    terms: &Terms<'_>,
+) -> Result<String, AllocError>
+    ensures { IfOk result (λ line. ShowsVerdict (codes "mapper")
+        (verdict_on terms.now connection.now.is_at_mapper connection.now.content) (string_bytes line)) }
+{
+    let verdict = connection.verdict_by(terms);
+    let [asked, name] = request_values(request);
+    let (from, to) = (connection.dialler, connection.acceptor);
+    let members = [
+        ("type", Value::Text("mapper")),
+        ("form", Value::Number(1)),
+        ("verdict", Value::Text(verdict.name())),
+        ("exit", Value::Number(u64::from(verdict.status()))),
+        ("began", Value::Number(connection.began / 1_000_000)),
+        ("request", asked),
+        ("name", name),
+        ("dialler_address", Value::Host(from.address)),
+        ("dialler_port", Value::Number(u64::from(from.port))),
+        ("acceptor_address", Value::Host(to.address)),
+        ("acceptor_port", Value::Number(u64::from(to.port))),
+        ("cause", Value::Text(verdict.cause())),
+        ("remedy", Value::Text(verdict.remedy())),
     ];
     object_line(alloc, &members)
 }
@@ -96,11 +155,50 @@ pub fn pair_object(alloc: Global, pair: &PastDial) -> Result<String, AllocError>
     object_line(
         alloc,
         &[
+            ("type", Value::Text("pair")),
+            ("form", Value::Number(1)),
             ("first", name_value(pair.name.as_slice())),
             ("second", name_value(pair.other.as_slice())),
-            ("verdict", Value::Text(pair.outcome.name())),
+            ("verdict", Value::Text(pair.verdict.name())),
             ("count", Value::Number(u64::from(pair.count))),
             ("exit", Value::Number(u64::from(pair.exit))),
         ],
     )
+}
+
+/// The object of what was left out of a capture, as one line, with the verdict if nothing was found, and the exit status.
+pub fn capture_object(
+    alloc: Global,
+    left_out: &PacketsLeftOut,
+    verdict: Option<HandshakeVerdict>,
+    status: u8,
+) -> Result<String, AllocError> {
+    let counts = left_out.counts;
+    let link = match counts.unknown_type {
+        Some(link) => Value::Number(u64::from(link)),
+        None => Value::Null,
+    };
+    let verdict = match verdict {
+        Some(verdict) => Value::Text(verdict.name()),
+        None => Value::Null,
+    };
+    let members = [
+        ("type", Value::Text("capture")),
+        ("form", Value::Number(1)),
+        ("unknown_link", Value::Number(counts.unknown_link)),
+        ("unknown_type", link),
+        ("cut_short", Value::Number(counts.cut_short)),
+        ("vxlan", Value::Number(counts.vxlan)),
+        ("gre", Value::Number(counts.gre)),
+        ("ip_in_ip", Value::Number(counts.ip_in_ip)),
+        ("many_headers", Value::Number(counts.many_headers)),
+        ("fragment", Value::Number(counts.fragment)),
+        ("malformed", Value::Number(counts.malformed)),
+        ("other_protocol", Value::Number(counts.other_protocol)),
+        ("forgotten", Value::Number(left_out.forgotten)),
+        ("cut_off", Value::Bool(left_out.is_cut_off)),
+        ("verdict", verdict),
+        ("exit", Value::Number(u64::from(status))),
+    ];
+    object_line(alloc, &members)
 }

@@ -3,11 +3,11 @@
 use crate::finder::Finder;
 use dist_capture::{Capture, CaptureFault};
 use dist_secret::Cookie;
-use distping_report::LinePiece::Text;
+use dist_talk::{NoCookie, Terms, Viewpoint};
 use distping_report::LineSink;
 use distping_words::{Choices, Fault};
 use std::alloc::Global;
-use std::fs::File;
+use std::fs::{self, File};
 use std::io::{ErrorKind, Read};
 
 // The most bytes that are read at once. Our own choice.
@@ -26,14 +26,14 @@ fn take_segments(capture: &mut Capture, finder: &mut Finder<'_>) -> Result<(), F
     Ok(())
 }
 
-// Takes all segments of a capture. Each is taken as soon as it is read. Returns whether the capture is cut off.
+// Takes all segments of a capture, each as soon as it is read.
 fn take_all<F: Read + Drop>(
     alloc: Global,
     file: F,
+    capture: &mut Capture,
     finder: &mut Finder<'_>,
-) -> Result<bool, Fault> {
+) -> Result<(), Fault> {
     let mut file = file;
-    let mut capture = Capture::new(alloc);
     let mut room = vec![in alloc; 0u8; PIECE]?;
     for _ in 0..u64::MAX {
         let count = match file.read(&mut room) {
@@ -48,13 +48,41 @@ fn take_all<F: Read + Drop>(
             Some(piece) => capture.feed(piece)?,
             None => return Err(Fault::CaptureUnread),
         }
-        take_segments(&mut capture, finder)?;
+        take_segments(capture, finder)?;
     }
-    Ok(capture.is_cut_off())
+    Ok(())
+}
+
+// Opens the file at this path, if it stands on a disk: a named pipe cannot even be opened before somebody writes into it, and a device
+// may have no end. The kind is checked before.
+fn open_stored(rt: &HostRuntime, path: &str) -> Result<File, Fault> {
+    match fs::metadata(rt, path) {
+        Ok(metadata) if metadata.file_type().is_file() => {}
+        Ok(_) => return Err(Fault::CaptureNotStored),
+        Err(_) => return Err(Fault::CaptureClosed),
+    }
+    match File::open(rt, path) {
+        Ok(file) => Ok(file),
+        Err(_) => Err(Fault::CaptureClosed),
+    }
+}
+
+// Takes what can be read of the capture at this path.
+fn take_path(
+    rt: &HostRuntime,
+    path: &str,
+    capture: &mut Capture,
+    finder: &mut Finder<'_>,
+) -> Result<(), Fault> {
+    if path == "-" {
+        take_all(rt.alloc(), rt.stdin(), capture, finder)
+    } else {
+        take_all(rt.alloc(), open_stored(rt, path)?, capture, finder)
+    }
 }
 
 /// Reads the capture at this path (`-` is standard input), prints what it shows, and returns the exit status: the first that is not 0 of
-/// the attempts that are whole.
+/// the attempts.
 pub fn read_capture(
     rt: &HostRuntime,
     path: &str,
@@ -62,18 +90,18 @@ pub fn read_capture(
     cookie: Option<&Cookie>,
 ) -> Result<u8, Fault> {
     let lines = LineSink::on_screen(rt, choices.json);
-    let mut finder = Finder::new(lines, cookie, choices.mapper_port);
-    let taken = if path == "-" {
-        take_all(rt.alloc(), rt.stdin(), &mut finder)
-    } else {
-        match File::open(rt, path) {
-            Ok(file) => take_all(rt.alloc(), file, &mut finder),
-            Err(_) => Err(Fault::CaptureClosed),
-        }
+    let terms = Terms {
+        viewpoint: Viewpoint::Capture,
+        target: None,
+        cookie: cookie.ok_or(NoCookie::Missing),
     };
-    let status = finder.finish()?;
-    if taken? {
-        lines.put(&[Text("!  cut off   the capture ends inside a packet, or before its first")])?;
+    let mut finder = Finder::new(lines, terms, choices.mapper_port);
+    let mut capture = Capture::new(rt.alloc());
+    match take_path(rt, path, &mut capture, &mut finder) {
+        Ok(()) => finder.finish(capture.counts(), capture.is_cut_off()),
+        Err(fault) => {
+            finder.give_up_all()?;
+            Err(fault)
+        }
     }
-    Ok(status)
 }

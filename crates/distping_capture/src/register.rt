@@ -1,26 +1,35 @@
 //! What is printed of connections, and what several of them show together: how often which pair of nodes came to what, restarts, names
 //! that two hosts use, dials that cross, lookups that lead elsewhere, and what leaves a wrong cookie in doubt.
 
-use crate::attempt::{check_of_attempt, conclude};
-use crate::connection::{CapturedConnection, Traffic};
+ghost use Rattle.std.specs.Prelude.{◌≡◌, IfOk};
+ghost use Rattle.distping_capture.specs.Exits.{exit_of, first_exit};
+
+use crate::connection::CapturedConnection;
 use crate::dials::{PastDial, add, by_pairs};
-use crate::facts::Facts;
-use crate::lines::{put_answer, put_attempt, put_end, put_heading, put_mapper_end, put_pair};
+use crate::left_out::PacketsLeftOut;
+use crate::lines::{
+    put_answer, put_attempt, put_end, put_heading, put_mapper_end, put_pair, put_verdict,
+};
 use crate::nodes::NodesSeen;
-use crate::object::{attempt_object, pair_object};
-use crate::outcome::AttemptOutcome;
+use crate::object::{attempt_object, capture_object, mapper_object, pair_object};
+use crate::traffic::Traffic;
 use dist_capture::{Endpoint, Segment};
+use dist_epmd::{Answer, Request};
 use dist_messages::Side;
 use dist_names::ByteString;
-use dist_secret::Cookie;
+use dist_talk::{Handshake, HandshakeVerdict, Terms, Unreached};
 use distping_report::LinePiece::Text;
 use distping_report::LineSink;
 use distping_words::Fault;
 use std::alloc::AllocError;
 use std::mem;
+use std::net::IpAddr;
 
 // The most attempts that are remembered for those that come later. Our own choice.
 const MOST_DIALS: usize = 256;
+
+// The most hosts that are remembered. Of one that is not remembered it is not said that it gives no answer. Our own choice.
+const MOST_HOSTS: usize = 4096;
 
 // What is printed where a node was stopped when it ended a connection as if by a wrong cookie.
 const STOPPED: &str =
@@ -31,32 +40,49 @@ const STOPPED: &str =
 pub struct Register<'x> {
     /// Where lines are printed; if they are left out, objects are.
     pub lines: LineSink<'x>,
-    // The cookie that both digests are compared with.
-    cookie: Option<&'x Cookie>,
+    // What handshakes are judged by.
+    terms: Terms<'x>,
     /// The time of the latest segment.
-    pub now: u64,
+    pub time: u64,
     nodes: NodesSeen,
+    // The hosts that sent a segment, in order.
+    hosts: Vec<IpAddr>,
     // The latest attempts, the oldest first.
     dials: Vec<PastDial>,
     // The earlier ones, counted, in order.
     counted: Vec<PastDial>,
     // Which port the node had whose registration ended last, and when that was.
     unregistered: Option<(u16, u64)>,
+    // Whether anything of the distribution was found.
+    has_found: bool,
     status: u8,
+}
+
+// The first status that is not 0 of these attempts.
+fn first_exit(dials: &[PastDial]) -> u8
+    ensures { result ≡ first_exit dials.now }
+{
+    match dials {
+        [] => 0,
+        [dial, ..] if dial.exit != 0 => dial.exit,
+        [_, rest @ ..] => first_exit(rest),
+    }
 }
 
 impl<'x> Register<'x> {
     /// Nothing is remembered.
-    pub fn new(lines: LineSink<'x>, cookie: Option<&'x Cookie>) -> Register<'x> {
+    pub fn new(lines: LineSink<'x>, terms: Terms<'x>) -> Register<'x> {
         let alloc = lines.alloc;
         Register {
             lines,
-            cookie,
-            now: 0,
+            terms,
+            time: 0,
             nodes: NodesSeen::new(alloc),
+            hosts: Vec::new(alloc),
             dials: Vec::new(alloc),
             counted: Vec::new(alloc),
             unregistered: None,
+            has_found: false,
             status: 0,
         }
     }
@@ -66,7 +92,20 @@ impl<'x> Register<'x> {
         if self.status == 0 {
             self.status = dial.exit;
         }
-        add(&mut self.counted, dial)
+        if dial.is_dial {
+            add(&mut self.counted, dial)?;
+        }
+        Ok(())
+    }
+
+    // Remembers an attempt behind those that are remembered.
+    fn push_dial(&mut self, dial: PastDial) -> Result<(), AllocError> {
+        self.dials.push(dial)?;
+        if self.dials.len() > MOST_DIALS {
+            let oldest = self.dials.remove(0);
+            self.settle(oldest)?;
+        }
+        Ok(())
     }
 
     // Remembers a dial, and prints what it shows together with earlier ones.
@@ -84,12 +123,7 @@ impl<'x> Register<'x> {
         {
             lines.put(&[Text(STOPPED)])?;
         }
-        self.dials.push(dial)?;
-        if self.dials.len() > MOST_DIALS {
-            let oldest = self.dials.remove(0);
-            self.settle(oldest)?;
-        }
-        Ok(())
+        Ok(self.push_dial(dial)?)
     }
 
     // The name of the node where an attempt went, which is remembered; empty if it is not known.
@@ -101,64 +135,122 @@ impl<'x> Register<'x> {
         }
     }
 
+    // An attempt that came to this verdict, between nodes of these names.
+    fn dial_of(
+        &self,
+        connection: &CapturedConnection,
+        verdict: HandshakeVerdict,
+        name: ByteString,
+        other: ByteString,
+    ) -> PastDial {
+        PastDial {
+            name,
+            other,
+            dialler: connection.dialler,
+            acceptor: connection.acceptor,
+            began: connection.began,
+            ended: connection.end_or(self.time),
+            verdict,
+            exit: verdict.status(),
+            count: 1,
+            is_dial: true,
+        }
+    }
+
     // Remembers an attempt, and prints what it shows together with earlier ones.
     fn note_attempt(
         &mut self,
         connection: &CapturedConnection,
-        outcome: AttemptOutcome,
+        verdict: HandshakeVerdict,
     ) -> Result<(), Fault> {
-        let (lines, facts) = (self.lines, Facts::of(&connection.said));
-        let (dialler, acceptor) = (connection.dialler, connection.acceptor);
+        let lines = self.lines;
         self.nodes.note_sides(lines, connection)?;
-        let other = self.acceptor_name(acceptor, facts.name(Side::Acceptor))?;
+        let other = self.acceptor_name(connection.acceptor, connection.name_of(Side::Acceptor))?;
         self.nodes.put_lookup(lines, connection, other.as_slice())?;
-        let name = ByteString::from_slice(lines.alloc, facts.name(Side::Dialler))?;
-        self.take_dial(PastDial {
-            name,
-            other,
-            dialler,
-            acceptor,
-            began: connection.began,
-            ended: connection.end_or(self.now),
-            outcome,
-            exit: outcome.status(),
-            count: 1,
-        })
+        let name = ByteString::from_slice(lines.alloc, connection.name_of(Side::Dialler))?;
+        let dial = self.dial_of(connection, verdict, name, other);
+        self.take_dial(dial)
     }
 
     // Prints an attempt that came up, or whose connection ended, and remembers it.
     fn put_attempt(&mut self, connection: &mut CapturedConnection) -> Result<(), Fault> {
-        let outcome = conclude(self.lines.alloc, connection, self.cookie, self.now)?;
-        connection.outcome = Some(outcome);
-        if !self.lines.quiet {
-            let check = check_of_attempt(connection, outcome, self.cookie);
-            put_attempt(self.lines, connection, outcome, check)?;
-        }
-        self.note_attempt(connection, outcome)
+        self.has_found = true;
+        connection.conclude(&self.terms, self.time);
+        connection.stop_reading();
+        let verdict = put_attempt(self.lines, connection, &self.terms)?;
+        connection.verdict = Some(verdict);
+        connection.strays = 0;
+        self.note_attempt(connection, verdict)
     }
 
     // Prints what there is to say of an attempt at the end of its connection.
     fn end_attempt(&mut self, connection: &mut CapturedConnection) -> Result<(), Fault> {
-        if connection.outcome.is_none() {
+        if connection.verdict.is_none() {
             self.put_attempt(connection)?;
         }
         if let Some(up_at) = connection.up_since() {
-            put_end(self.lines, connection, up_at, self.now)?;
-            self.nodes.note_end(&Facts::of(&connection.said));
+            put_end(self.lines, connection, up_at, self.time)?;
+            self.nodes.note_end(self.lines, connection)?;
         }
-        if self.lines.quiet
-            && let Some(outcome) = connection.outcome
-        {
-            let check = check_of_attempt(connection, outcome, self.cookie);
-            let object = attempt_object(self.lines.alloc, connection, outcome, check, self.now);
+        if self.lines.quiet {
+            let object = attempt_object(self.lines.alloc, connection, &self.terms, self.time);
             self.lines.write_made(object)?;
         }
         Ok(())
     }
 
+    // Prints the verdict on what a port mapper answered, or did not, if it is one.
+    fn put_mapper_verdict(&mut self, connection: &CapturedConnection) -> Result<(), Fault> {
+        let Traffic::Mapper(talk) = &connection.content else {
+            return Ok(());
+        };
+        if talk.verdict().is_none() {
+            return Ok(());
+        }
+        let verdict = connection.verdict_by(&self.terms);
+        if self.lines.quiet {
+            let request = talk.request.as_ref();
+            let object = mapper_object(self.lines.alloc, connection, request, &self.terms);
+            self.lines.write_made(object)?;
+        } else {
+            put_verdict(self.lines, verdict, true)?;
+        }
+        let alloc = self.lines.alloc;
+        let (name, other) = (ByteString::new(alloc), ByteString::new(alloc));
+        let dial = PastDial {
+            is_dial: false,
+            ..self.dial_of(connection, verdict, name, other)
+        };
+        Ok(self.push_dial(dial)?)
+    }
+
+    // Prints what a port mapper answered, and remembers it.
+    fn take_answer(&mut self, connection: &CapturedConnection) -> Result<(), Fault> {
+        let Traffic::Mapper(talk) = &connection.content else {
+            return Ok(());
+        };
+        self.has_found = true;
+        put_answer(self.lines, connection, talk)?;
+        if let (Some(Request::PortPlease(name)), Some(Answer::Port(Ok(info)))) = (
+            &talk.request,
+            &talk.answer,
+        ) {
+            self.nodes.note_found(connection, name.as_slice(), info)?;
+        }
+        self.put_mapper_verdict(connection)
+    }
+
     // Prints how a conversation with a port mapper ended, and if that says something of an attempt before.
-    fn end_mapper(&mut self, connection: &CapturedConnection) -> Result<(), Fault> {
-        put_mapper_end(self.lines, connection)?;
+    fn end_mapper(&mut self, connection: &mut CapturedConnection) -> Result<(), Fault> {
+        connection.conclude_mapper(self.time);
+        let Traffic::Mapper(talk) = &connection.content else {
+            return Ok(());
+        };
+        self.has_found = self.has_found || talk.request.is_some();
+        put_mapper_end(self.lines, connection, talk)?;
+        if talk.answer.is_none() {
+            self.put_mapper_verdict(connection)?;
+        }
         if let Some((port, at)) = connection.lost_registration() {
             self.unregistered = Some((port, at));
             if self.dials.iter().any(|it| it.ended_with(port, at)) {
@@ -168,26 +260,68 @@ impl<'x> Register<'x> {
         Ok(())
     }
 
-    /// Prints what there is to say of a connection at its end, once.
+    // Why a connection was never made, if that is known: of the other host a segment was seen, or it is the port mapper's port of a node.
+    fn connect_fault(&self, connection: &CapturedConnection) -> Option<Unreached> {
+        let unreached = connection.connect_fault(self.time)?;
+        let is_node = self.nodes.listener(connection.acceptor).is_some();
+        let is_seen = self
+            .hosts
+            .binary_search(&connection.acceptor.address)
+            .is_ok();
+        let is_known = is_node || connection.is_at_mapper && is_seen;
+        is_known.then_some(unreached)
+    }
+
+    // Notes what is known of a connection only at its end: that it was never made, that TLS was dialled where a plain node listens, or that
+    // what was said to a node is missing.
+    fn conclude_content(&self, connection: &mut CapturedConnection) {
+        if let Some(unreached) = self.connect_fault(connection) {
+            connection.content = Traffic::Unreached(unreached);
+        }
+        if self.nodes.listener(connection.acceptor).is_none() {
+            return;
+        }
+        match &connection.content {
+            Traffic::Tls => connection.conclude_tls(self.lines.alloc, self.time),
+            Traffic::Unknown if connection.lacks_bytes(Side::Dialler) => {
+                connection.content = Traffic::Handshake(Handshake::new(self.lines.alloc));
+            }
+            _ => {}
+        }
+    }
+
+    // Prints that a connection carries TLS.
+    fn put_tls(&self, connection: &CapturedConnection) -> Result<(), Fault> {
+        put_heading(self.lines, connection)?;
+        self.lines.put(&[Text(
+            "   tls       TLS is not looked into: a node of -proto_dist inet_tls, or another program",
+        )])
+    }
+
+    /// Prints what there is to say of a connection at its end, once. What was said on it is then forgotten.
     pub fn end(&mut self, connection: &mut CapturedConnection) -> Result<(), Fault> {
         if mem::replace(&mut connection.is_reported, true) {
             return Ok(());
         }
-        let is_unreached = connection.connect_fault(self.now).is_some();
-        let is_node = self.nodes.listener(connection.acceptor).is_some();
-        match connection.content {
-            Traffic::Handshake => self.end_attempt(connection),
-            Traffic::Mapper if is_unreached => self.end_attempt(connection),
-            Traffic::Unknown if is_unreached && is_node => self.end_attempt(connection),
-            Traffic::Mapper => self.end_mapper(connection),
-            Traffic::Tls => {
-                put_heading(self.lines, connection)?;
-                self.lines.put(&[Text(
-                    "   tls       TLS is not looked into: a node of -proto_dist inet_tls, or another program",
-                )])
-            }
-            Traffic::Unknown | Traffic::Other => Ok(()),
+        self.conclude_content(connection);
+        match &connection.content {
+            Traffic::Handshake(_) | Traffic::Unreached(_) => self.end_attempt(connection)?,
+            Traffic::Mapper(_) => self.end_mapper(connection)?,
+            Traffic::Tls => self.put_tls(connection)?,
+            Traffic::Unknown | Traffic::Other => {}
         }
+        connection.forget();
+        Ok(())
+    }
+
+    // Notes that this host sent a segment.
+    fn note_host(&mut self, host: IpAddr) -> Result<(), AllocError> {
+        if let Err(at) = self.hosts.binary_search(&host)
+            && self.hosts.len() < MOST_HOSTS
+        {
+            self.hosts.insert(at, host)?;
+        }
+        Ok(())
     }
 
     /// Takes a segment of a connection. Copies of packets that come behind its end are no more than that.
@@ -199,26 +333,24 @@ impl<'x> Register<'x> {
         if connection.is_reported {
             return Ok(());
         }
-        if let Some(answer) = connection.take(self.lines.alloc, segment)? {
-            put_answer(self.lines, connection, &answer)?;
-            self.nodes.note_answer(connection, &answer)?;
+        if connection.flow(connection.side_of(segment)).is_unseen() {
+            self.note_host(segment.from.address)?;
         }
-        if connection.acknowledged_at.is_some() && connection.outcome.is_none() {
+        if connection.take(self.lines.alloc, segment)? {
+            self.take_answer(connection)?;
+        }
+        if connection.verdict.is_none() && connection.is_settled() {
             self.put_attempt(connection)?;
         }
-        if connection.is_over() {
+        if connection.is_over() || matches!(&connection.content, Traffic::Other) {
             return self.end(connection);
         }
         Ok(())
     }
 
-    /// Prints the summary: a line for each pair and each word, or an object. Returns the first status that is not 0 of the attempts, those
-    /// apart that another dial crossed.
-    pub fn finish(&mut self) -> Result<u8, Fault> {
+    // Prints the summary: a line for each pair and each word, or an object.
+    fn put_pairs(&mut self) -> Result<(), Fault> {
         let alloc = self.lines.alloc;
-        for dial in mem::replace(&mut self.dials, Vec::new(alloc)) {
-            self.settle(dial)?;
-        }
         let counted = mem::replace(&mut self.counted, Vec::new(alloc));
         let pairs = by_pairs(alloc, counted, &self.nodes)?;
         for pair in &pairs {
@@ -228,6 +360,47 @@ impl<'x> Register<'x> {
                 self.lines.write_made(pair_object(alloc, pair))?;
             }
         }
-        Ok(self.status)
+        Ok(())
+    }
+
+    // The exit status: the first that is not 0 of the attempts, those apart that another dial crossed, and of the port mappers' answers; or that
+    // nothing was found.
+    fn exit_status(&self) -> u8
+        ensures { result ≡ exit_of self.now }
+    {
+        if !self.has_found {
+            return HandshakeVerdict::NothingFound.status();
+        }
+        if self.status != 0 {
+            return self.status;
+        }
+        first_exit(&self.dials)
+    }
+
+    // Prints what was left out, and that nothing was found, if nothing was.
+    fn put_left_out(&self, left_out: &PacketsLeftOut, status: u8) -> Result<(), Fault> {
+        let verdict = (!self.has_found).then_some(HandshakeVerdict::NothingFound);
+        if self.lines.quiet {
+            let object = capture_object(self.lines.alloc, left_out, verdict, status);
+            return self.lines.write_made(object);
+        }
+        left_out.put(self.lines)?;
+        match verdict {
+            Some(verdict) => put_verdict(self.lines, verdict, true),
+            None => Ok(()),
+        }
+    }
+
+    /// Prints the summary, and what was left out, and returns the exit status.
+    pub fn finish(&mut self, left_out: &PacketsLeftOut) -> Result<u8, Fault>
+        ensures { IfOk result (λ status. status ≡ exit_of self.old) }
+    {
+        let status = self.exit_status();
+        for dial in mem::replace(&mut self.dials, Vec::new(self.lines.alloc)) {
+            self.settle(dial)?;
+        }
+        self.put_pairs()?;
+        self.put_left_out(left_out, status)?;
+        Ok(status)
     }
 }

@@ -1,20 +1,20 @@
 -- What is printed: the pieces of a line, and the lines of a verdict.
-use Rattle.std.specs.Prelude.{◌==◌, false, ℕ, List, [], ◌∷◌, codes, decimal, if◌then◌else◌}
+use Rattle.std.specs.Prelude.{◌≡◌, ◌==◌, false, ℕ, List, [], ◌∷◌, codes, decimal, if◌then◌else◌}
 use Rattle.std.specs.{Fmt.digits, List.concat, List.flat_map, Net.Text.ip_text}
 use Rattle.dist_flags.specs.{Names.all_flags, Names.flag_of, Names.name_of, declared.dflag.Dflag.Dflag}
 use Rattle.dist_names.specs.{Escaped.escapes_of, Escaped.in_double_quotes, Flags.has_all}
 use Rattle.distping_report.specs.declared.piece.LinePiece.{LinePiece}
 use Rattle.distping_report.specs.declared.piece.LinePiece.TheVariants as piece
-use Rattle.dist_probe.specs.{declared.verdict.ProbeVerdict.ProbeVerdict, Sentences.cause_of, Sentences.remedy_of, Words.status_of, Words.verdict_word}
+use Rattle.dist_talk.specs.{declared.verdict.HandshakeVerdict.HandshakeVerdict, Words.status_of, Words.verdict_word}
 
 -- the mark of an exit status, in UTF-8: a check mark for 0, else a cross
 abbrev pub mark_of : ℕ → List ℕ
 mark_of status = if status == 0 then 0xe2 ∷ 0x9c ∷ 0x93 ∷ [] else 0xe2 ∷ 0x9c ∷ 0x97 ∷ []
 
--- THE LINES OF A VERDICT: the mark of its status, its word and its cause; the second line has its remedy
-abbrev pub verdict_lines : ProbeVerdict → List ℕ
-verdict_lines v =
-    concat (mark_of (status_of v) ∷ codes "  " ∷ verdict_word v ∷ codes ": " ∷ cause_of v ∷ codes "\n   remedy    " ∷ remedy_of v ∷ codes "\n" ∷ [])
+-- THE LINES OF A VERDICT begin with the mark of its status and its word; its cause and its remedy follow
+pub record IsVerdictText (v : HandshakeVerdict) (text : List ℕ) : Type 0 where
+  pub behind : List (List ℕ)
+  pub is : text ≡ concat (mark_of (status_of v) ∷ codes "  " ∷ verdict_word v ∷ codes ": " ∷ behind)
 
 -- a blank and the name of a flag, if it is among these flags
 abbrev pub flag_text : ℕ → Dflag → List ℕ

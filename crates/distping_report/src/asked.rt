@@ -2,9 +2,9 @@
 
 use crate::lines::LineSink;
 use crate::listed::Listed;
-use dist_core_setup::Setup;
 use dist_names::NodeName;
 use dist_secret::Cookie;
+use dist_talk::{NoCookie, OwnSide};
 use distping_words::Choices;
 use std::net::SocketAddr;
 
@@ -21,8 +21,8 @@ pub struct Dial<'a> {
     pub own: &'a NodeName,
     /// The node's name.
     pub node: &'a NodeName,
-    /// The cookie that is tried.
-    pub cookie: Option<&'a Cookie>,
+    /// The cookie that is tried, or why there is none.
+    pub cookie: Result<&'a Cookie, NoCookie>,
     /// The other options.
     pub choices: Choices<'a>,
 }
@@ -30,16 +30,12 @@ pub struct Dial<'a> {
 /// A node that listens for one connection.
 #[derive(Clone, Copy)]
 pub struct Listen<'a> {
-    /// Its setup.
-    pub setup: &'a Setup,
+    /// What it says, and by what it judges the other side.
+    pub own: OwnSide<'a>,
     /// Its port.
     pub port: u16,
     /// The address that it listens at; `None` for all of this host.
     pub place: Option<SocketAddr>,
-    /// Its own challenge.
-    pub fresh: u32,
-    /// Whether its cookie is compared.
-    pub compares: bool,
     /// The other options: how long the wait and the talk may take.
     pub choices: Choices<'a>,
 }

@@ -1,10 +1,11 @@
 //! What was found out about a node.
 
 ghost use Rattle.std.specs.Prelude.{◌≡◌, None};
+ghost use Rattle.distping_report.specs.Found.{status_in};
 
 use dist_epmd::PortInfo;
-use dist_messages::Status;
-use dist_probe::{Peer, ProbeVerdict};
+use dist_messages::{Message, Side, Status};
+use dist_talk::{Handshake, HandshakeVerdict, NodeDescription, SentContent};
 use std::net::SocketAddr;
 
 /// What was found out about a node at one address of its host.
@@ -16,25 +17,37 @@ pub struct Found {
     pub registration: Option<PortInfo>,
     /// The port that was dialled.
     pub port: Option<u16>,
-    /// The status that it sent.
-    pub status: Option<Status>,
-    /// What it sent about itself.
-    pub peer: Option<Peer>,
+    /// What was said there, if a connection was made.
+    pub handshake: Option<Handshake>,
 }
 
 impl Found {
     /// Nothing found yet, at this address.
     pub fn nothing(address: Option<SocketAddr>) -> Found
         ensures address { result.address ≡ address }
-        ensures nothing { (result.registration ≡ None) × (result.port ≡ None) × (result.status ≡ None) × (result.peer ≡ None) }
+        ensures nothing { (result.registration ≡ None) × (result.port ≡ None) × (result.handshake ≡ None) }
     {
         Found {
             address,
             registration: None,
             port: None,
-            status: None,
-            peer: None,
+            handshake: None,
         }
+    }
+
+    /// The status with which the node answered.
+    pub fn status(&self) -> Option<Status>
+        ensures { result ≡ status_in self.now.handshake }
+    {
+        match self.handshake.as_ref()?.acceptor.first()?.content {
+            SentContent::Message(Message::Status(status)) => Some(status),
+            _ => None,
+        }
+    }
+
+    /// What the node says of itself.
+    pub fn peer(&self) -> Option<NodeDescription<'_>> {
+        self.handshake.as_ref()?.description_of(Side::Acceptor)
     }
 }
 
@@ -42,11 +55,37 @@ impl Found {
 #[derive(Drop)]
 pub struct ProbeOutcome {
     /// The verdict at the address that got furthest.
-    pub verdict: ProbeVerdict,
+    pub verdict: HandshakeVerdict,
     /// What was found out at that address.
     pub found: Found,
     /// The addresses of the host, in the resolver's order.
     pub addresses: Vec<SocketAddr>,
     /// The verdict at each address that was tried, in this order.
-    pub verdicts: Vec<ProbeVerdict>,
+    pub verdicts: Vec<HandshakeVerdict>,
+}
+
+/// What was found out about the node that dialled.
+#[derive(Drop)]
+pub struct Caller {
+    /// The address that it dialled from.
+    pub address: Option<SocketAddr>,
+    /// What was said, if a connection was taken.
+    pub handshake: Option<Handshake>,
+}
+
+impl Caller {
+    /// Nothing found yet.
+    pub fn nobody() -> Caller
+        ensures { (result.address ≡ None) × (result.handshake ≡ None) }
+    {
+        Caller {
+            address: None,
+            handshake: None,
+        }
+    }
+
+    /// What the node that dialled says of itself.
+    pub fn peer(&self) -> Option<NodeDescription<'_>> {
+        self.handshake.as_ref()?.description_of(Side::Dialler)
+    }
 }

@@ -13,6 +13,6 @@ mod watched;
 
 pub use callers::caller_object;
 pub use many::{left_out_object, more_left_out_object, pair_object, summary_object};
-pub use member::{Value, object_line};
+pub use member::{FORM, Value, object_line};
 pub use nodes::{group_object, object_of};
 pub use watched::{change_object, latency_object};

@@ -5,7 +5,7 @@ ghost use Rattle.distping_report.specs.Watched.{is_colon, word_in_verdict};
 
 use dist_cluster::LatencySummary;
 use dist_names::{ByteString, NodeName};
-use dist_probe::ProbeVerdict;
+use dist_talk::HandshakeVerdict;
 
 /// The result of a probe of a watched node.
 #[derive(Clone, Copy)]
@@ -13,7 +13,7 @@ pub struct Seen<'a> {
     /// The node.
     pub node: &'a NodeName,
     /// The verdict on it.
-    pub verdict: ProbeVerdict,
+    pub verdict: HandshakeVerdict,
     /// How long the probe took, in milliseconds.
     pub latency: u64,
     /// When the probe was done, in seconds since 1970.

@@ -42,6 +42,8 @@ pub enum Fault {
     CaptureAlone,
     /// The capture could not be opened.
     CaptureClosed,
+    /// The capture is no file that stands on a disk.
+    CaptureNotStored,
     /// The capture could not be read.
     CaptureUnread,
     /// The file is no capture, or one whose form is not known.
@@ -74,6 +76,8 @@ impl fmt::Display for Fault {
             Fault::ListenAlone => "--listen goes with --name, and with no NODE",
             Fault::CaptureAlone => "--capture goes with no NODE, and not with --listen or --watch",
             Fault::CaptureClosed => "OpenFailed: the file of --capture",
+            Fault::CaptureNotStored =>
+                "NotStored: --capture takes a file, or - for standard input, and no pipe or device",
             Fault::CaptureUnread => "ReadFailed: the file of --capture",
             Fault::NoCapture => "Malformed: the file of --capture is no pcap and no pcapng",
             Fault::WriteFailed => "WriteFailed",

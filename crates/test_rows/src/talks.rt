@@ -5,10 +5,11 @@
 use crate::digits::{bytes_in, put_bytes, word};
 use crate::streams::{pieces_of, stream_of};
 use dist_core_setup::{Limits, Setup, Version};
+use dist_messages::Side;
 use dist_names::{Creation, Flags, NodeName};
-use dist_probe::{ProbeVerdict, ask_node};
 use dist_secret::{Cookie, Cookies};
 use dist_stream::FaultStream;
+use dist_talk::{HandshakeVerdict, NoCookie, OwnSide, Terms, Viewpoint, speak};
 use std::alloc::Global;
 use std::fmt::Write;
 
@@ -40,22 +41,36 @@ fn put_said(alloc: Global, printed: &mut String, wanted: &str, said: &[u8]) -> O
     put_bytes(alloc, printed, said)
 }
 
-fn put_verdict(printed: &mut String, verdict: ProbeVerdict) -> Option<()> {
+fn put_verdict(printed: &mut String, verdict: HandshakeVerdict) -> Option<()> {
     match verdict {
-        ProbeVerdict::LacksFlags(party, flags) => {
-            write!(printed, "LacksFlags({party:?}, {:x}) ", flags.0).ok()
+        HandshakeVerdict::LacksFlags(side, flags) => {
+            write!(printed, "LacksFlags({side:?}, {:x}) ", flags.0).ok()
         }
         other => write!(printed, "{other:?} ").ok(),
     }
 }
 
-fn verdict_over(alloc: Global, talk: &str, stream: &mut FaultStream) -> Option<ProbeVerdict> {
+fn verdict_over(alloc: Global, talk: &str, stream: &mut FaultStream) -> Option<HandshakeVerdict> {
     let fresh = word(talk, 3).parse::<u32>().ok()?;
     let target = name_at(alloc, talk, 1)?;
     let setup = setup_of(alloc, talk)?;
-    let replies = word(talk, 2) != "-";
-    let talked = ask_node(alloc, stream, &setup, &target, fresh, replies, MOST_TURNS);
-    Some(talked.verdict())
+    let cookie = Cookie::from_bytes(alloc, word(talk, 2).as_bytes()).ok()?;
+    let terms = Terms {
+        viewpoint: Viewpoint::Dialler,
+        target: Some(target.bytes()),
+        cookie: if word(talk, 2) == "-" {
+            Err(NoCookie::Asked)
+        } else {
+            Ok(&cookie)
+        },
+    };
+    let own = OwnSide {
+        side: Side::Dialler,
+        setup: &setup,
+        terms,
+        fresh,
+    };
+    Some(speak(alloc, stream, &own, MOST_TURNS).verdict(&terms))
 }
 
 fn name_at(alloc: Global, talk: &str, place: usize) -> Option<NodeName> {

@@ -1,11 +1,11 @@
 //! The attempt at one address of a host, and how a connection is made there.
 
-ghost use Rattle.std.specs.Prelude.{◌≡◌, IfOk};
+ghost use Rattle.std.specs.Prelude.{◌≡◌, IfOk, None};
 ghost use Rattle.distping.specs.declared.links.attempt.Stop.TheVariants as stop;
 
-use dist_probe::{ProbeVerdict, Unreached, unreached_of};
 use dist_program::{Budget, TimedStep, at_port, without_brackets};
 use dist_stream::{DeadlineStream, connect_by, deadline_after, time_left};
+use dist_talk::{HandshakeVerdict, Unreached, unreached_of};
 use distping_report::{Dial, Found};
 use distping_words::Fault;
 use std::io;
@@ -18,7 +18,7 @@ pub type ProbeStream<'a> = DeadlineStream<&'a HostRuntime>;
 #[derive(Clone, Copy)]
 pub enum Stop {
     /// A verdict before the talk.
-    Verdict(ProbeVerdict),
+    Verdict(HandshakeVerdict),
     /// A fault on this side.
     Fault(Fault),
 }
@@ -77,6 +77,7 @@ impl<'a> AddressAttempt<'a> {
         ensures dial { IfOk result (λ attempt. attempt.dial ≡ dial.now) }
         ensures address { IfOk result (λ attempt. attempt.address ≡ address.now) }
         ensures budget { IfOk result (λ attempt. attempt.budget ≡ budget) }
+        ensures silent { IfOk result (λ attempt. attempt.found.handshake ≡ None) }
     {
         put_address(dial, address, addresses)?;
         Ok(AddressAttempt {
@@ -93,7 +94,9 @@ impl<'a> AddressAttempt<'a> {
         port: u16,
         step: TimedStep,
         next: TimedStep,
-    ) -> io::Result<ProbeStream<'a>> {
+    ) -> io::Result<ProbeStream<'a>>
+        ensures kept { (self.new.dial ≡ self.old.dial) × (self.new.found.handshake ≡ self.old.found.handshake) }
+    {
         let rt = self.dial.rt;
         let until = deadline_after(rt, self.budget.share(step))?;
         let made = connect_by(rt, &at_port(&self.address, port), until);
@@ -109,7 +112,9 @@ impl<'a> AddressAttempt<'a> {
         port: u16,
         step: TimedStep,
         next: TimedStep,
-    ) -> Result<ProbeStream<'a>, Unreached> {
+    ) -> Result<ProbeStream<'a>, Unreached>
+        ensures kept { (self.new.dial ≡ self.old.dial) × (self.new.found.handshake ≡ self.old.found.handshake) }
+    {
         match self.connect_within(port, step, next) {
             Ok(stream) => Ok(stream),
             Err(error) => Err(unreached_by(&error)),

@@ -1,19 +1,16 @@
-//! Takes one connection, as a node takes it, and prints what the other side sends.
+//! Takes one connection, as a node takes it, and prints what the other side says.
 
-ghost use Rattle.std.specs.Prelude.{◌≡◌};
-ghost use Rattle.distping.specs.{Accepting.AwaitsName, Listening.behind_left, Listening.is_probe, Listening.wants_name};
+ghost use Rattle.std.specs.Prelude.{◌≡◌, None, IfOk};
+ghost use Rattle.distping.specs.Coming.{ComesIn};
 
-use crate::links::accepting::{END, hear, open_node, peer_in, step_verdict, talk};
 use crate::links::attempt::ProbeStream;
+use crate::links::speaking::speak_with;
 use crate::links::waiting::{await_caller, bind_listener};
-use dist_core::Node;
-use dist_names::{ByteString, Flags};
-use dist_probe::Peer;
 use dist_program::talk_over;
-use dist_stream::{Limited, SocketStream};
-use distping_report::{Caller, LineSink, Listen, Taken};
+use dist_stream::SocketStream;
+use dist_talk::HandshakeVerdict;
+use distping_report::{Caller, LineSink, Listen};
 use distping_words::Fault;
-use std::alloc::Global;
 use std::io;
 use std::net::{SocketAddr, TcpStream};
 
@@ -43,9 +40,11 @@ fn accept<'a>(
     listen: &Listen<'_>,
     lines: LineSink<'_>,
     caller: &mut Caller,
-) -> Result<Option<ProbeStream<'a>>, Fault> {
+) -> Result<Option<ProbeStream<'a>>, Fault>
+    ensures { caller.new.handshake ≡ caller.old.handshake }
+{
     let listener = or_fault(bind_listener(rt, listen.place, listen.port))?;
-    lines.put_listening(listen.port, &listen.setup.name)?;
+    lines.put_listening(listen.port, &listen.own.setup.name)?;
     match or_fault(await_caller(rt, &listener, listen.choices.patience))? {
         Some((socket, from)) => {
             caller.address = Some(from);
@@ -55,103 +54,39 @@ fn accept<'a>(
     }
 }
 
-// Whether a node asks for a name, instead of sending its own.
-fn wants_name(peer: &Option<Peer>) -> bool
-    ensures { result ≡ wants_name peer.now }
-{
-    match peer {
-        Some(peer) => peer.flags.has(Flags::NAME_ME),
-        None => false,
-    }
-}
-
-// Whether this is the name that a probe gives itself if it is given no other.
-fn is_probe(peer: &Option<Peer>) -> bool
-    ensures { result ≡ is_probe peer.now }
-{
-    match peer {
-        Some(peer) => peer.name.as_slice().starts_with(b"distping@"),
-        None => false,
-    }
-}
-
-// The result, changed if the node that left may be a probe that tries no cookie.
-fn behind_left(taken: Taken, peer: &Option<Peer>) -> Taken
-    ensures { result ≡ behind_left taken peer.now }
-{
-    match taken {
-        Taken::Left if is_probe(peer) => Taken::Stopped,
-        other => other,
-    }
-}
-
-// Talks on after the first body, in which the node said this about itself, and returns the result.
-fn greet(
-    alloc: Global,
-    limited: &mut Limited<'_, ProbeStream<'_>>,
-    node: &mut Node,
-    listen: &Listen<'_>,
-    body: ByteString,
-    peer: &Option<Peer>,
-) -> Taken
-    // `open_node` returned the node.
-    requires { AwaitsName listen.now.setup.now node.old }
-{
-    if wants_name(peer) {
-        return Taken::WantsName;
-    }
-    behind_left(talk(alloc, limited, node, listen, body), peer)
-}
-
-// Talks as this node with the one that dialled, prints what that sent about itself, and returns the result.
-fn meet(
-    limited: &mut Limited<'_, ProbeStream<'_>>,
-    node: &mut Node,
-    listen: &Listen<'_>,
-    lines: LineSink<'_>,
-    caller: &mut Caller,
-) -> Result<Taken, Fault>
-    // `open_node` returned the node.
-    requires { AwaitsName listen.now.setup.now node.old }
-{
-    let body = match hear(lines.alloc, limited, node.awaits(END)) {
-        Ok(body) => body,
-        Err(taken) => return Ok(taken),
-    };
-    match peer_in(lines.alloc, body.as_slice()) {
-        Ok(peer) => caller.peer = peer,
-        Err(_) => return Ok(Taken::NoMemory),
-    }
-    if let Some(peer) = &caller.peer {
-        lines.put_peer(peer.name.as_slice(), peer.flags, peer.creation)?;
-    }
-    Ok(greet(lines.alloc, limited, node, listen, body, &caller.peer))
-}
-
-// Talks with the node that dialled, and returns the result.
+// Talks with the node that dialled, prints what that says of itself, and returns the verdict.
 fn attend(
-    stream: &mut ProbeStream<'_>,
+    rt: &HostRuntime,
+    stream: ProbeStream<'_>,
     listen: &Listen<'_>,
     lines: LineSink<'_>,
     caller: &mut Caller,
-) -> Result<Taken, Fault> {
-    let left = listen.choices.turns();
-    let mut limited = Limited { stream, left };
-    match open_node(lines.alloc, listen.setup) {
-        Ok(mut node) => meet(&mut limited, &mut node, listen, lines, caller),
-        Err(error) => Ok(step_verdict(error)),
+) -> Result<HandshakeVerdict, Fault>
+    ensures { IfOk result (ComesIn listen.now caller.new.handshake) }
+{
+    let limit = listen.choices.turns();
+    let (handshake, _) = speak_with(rt, lines.alloc, stream, &listen.own, limit);
+    let verdict = handshake.verdict(&listen.own.terms);
+    caller.handshake = Some(handshake);
+    if let Some(peer) = caller.peer() {
+        lines.put_peer(peer)?;
     }
+    Ok(verdict)
 }
 
-/// Takes one connection, prints what the other side sends, and returns the result. `caller` gets what was found out.
+/// Takes one connection, prints what the other side says, and returns the verdict. `caller` gets what was found out.
 pub fn take_connection(
     rt: &HostRuntime,
     listen: &Listen<'_>,
     lines: LineSink<'_>,
     caller: &mut Caller,
-) -> Result<Taken, Fault> {
+) -> Result<HandshakeVerdict, Fault>
+    // Nothing was found out before.
+    requires { caller.old.handshake ≡ None }
+    ensures { IfOk result (ComesIn listen.now caller.new.handshake) }
+{
     match accept(rt, listen, lines, caller)? {
-        Some(mut stream) => attend(&mut stream, listen, lines, caller),
-        None => Ok(Taken::NoCaller),
+        Some(stream) => attend(rt, stream, listen, lines, caller),
+        None => Ok(HandshakeVerdict::NoCaller),
     }
 }

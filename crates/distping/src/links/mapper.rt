@@ -1,17 +1,19 @@
 //! Asks the port mapper at an address where the node listens, or for all names, and prints each step.
 
-ghost use Rattle.std.specs.Prelude.{◌≡◌, Ok, IfSome};
-ghost use Rattle.distping.specs.Places.{lookup_verdict};
+ghost use Rattle.std.specs.Prelude.{◌≡◌, Ok, IfErr, IfSome};
+ghost use Rattle.distping.specs.{Coming.StopsOnWay, Places.lookup_verdict};
 
 use crate::links::attempt::{AddressAttempt, ProbeStream, Stop};
 use crate::links::front::FrontStream;
+use dist_cluster::name_in_line;
 use dist_epmd::PortInfo;
 use dist_epmd_calls::{LookupError, ask_names, lookup};
 use dist_names::ByteString;
-use dist_probe::{ProbeVerdict, mapper_verdict};
 use dist_program::{TimedStep, at_port};
 use dist_stream::connect_by;
+use dist_talk::{HandshakeVerdict, mapper_verdict};
 use distping_words::Fault;
+use std::alloc::{AllocError, Global};
 use std::net::SocketAddr;
 use std::time::Instant;
 
@@ -27,13 +29,13 @@ pub struct Names {
 }
 
 /// The verdict for a lookup that failed.
-pub fn lookup_verdict(error: LookupError) -> ProbeVerdict
+pub fn lookup_verdict(error: LookupError) -> HandshakeVerdict
     ensures { result ≡ lookup_verdict error }
 {
     match error {
-        LookupError::NotThere => ProbeVerdict::NotRegistered,
-        LookupError::NoMemory => ProbeVerdict::NoMemory,
-        _ => ProbeVerdict::MapperFault(error),
+        LookupError::NotThere => HandshakeVerdict::NotRegistered,
+        LookupError::NoMemory => HandshakeVerdict::NoMemory,
+        _ => HandshakeVerdict::MapperFault(error),
     }
 }
 
@@ -45,7 +47,38 @@ fn whole_lines(text: &[u8]) -> &[u8] {
     }
 }
 
+// Whether two lines of port mappers name one node, or are one text.
+fn is_one_line(first: &[u8], second: &[u8]) -> bool {
+    match (name_in_line(first), name_in_line(second)) {
+        (Some(first), Some(second)) => first == second,
+        _ => first == second,
+    }
+}
+
 impl Names {
+    // Whether one of its lines names the node of this line, or is this line.
+    fn has(&self, line: &[u8]) -> bool {
+        let mut lines = self.lines().split(|byte| *byte == b'\n');
+        lines.any(|own| is_one_line(own, line))
+    }
+
+    /// Adds what the port mapper at another address of the host knows, each node once.
+    pub fn merge(&mut self, alloc: Global, others: &Names) -> Result<(), AllocError> {
+        let mut text = Vec::from_slice(alloc, self.lines())?;
+        if !text.is_empty() && !text.ends_with(b"\n") {
+            text.push(b'\n')?;
+        }
+        for line in others.lines().split(|byte| *byte == b'\n') {
+            if !line.is_empty() && !self.has(line) {
+                text.extend_from_slice(line)?;
+                text.push(b'\n')?;
+            }
+        }
+        self.text = ByteString::from_vec(text);
+        self.is_cut = self.is_cut || others.is_cut;
+        Ok(())
+    }
+
     /// The whole lines of what was read.
     pub fn lines(&self) -> &[u8] {
         if self.is_cut {
@@ -58,7 +91,11 @@ impl Names {
 
 impl<'a> AddressAttempt<'a> {
     // A connection to the port mapper.
-    fn connect_to_mapper(&mut self) -> Result<FrontStream<ProbeStream<'a>>, Stop> {
+    #[tactic(auto, using(crate::proofs::Ways::way_of_mapper))]
+    fn connect_to_mapper(&mut self) -> Result<FrontStream<ProbeStream<'a>>, Stop>
+        ensures kept { (self.new.dial ≡ self.old.dial) × (self.new.found.handshake ≡ self.old.found.handshake) }
+        ensures stops { IfErr result StopsOnWay }
+    {
         let port = self.dial.choices.mapper_port;
         match self.connect(port, TimedStep::Mapper, TimedStep::Lookup) {
             Ok(stream) => Ok(FrontStream::new(stream)),
@@ -87,7 +124,11 @@ impl<'a> AddressAttempt<'a> {
     }
 
     /// All names that the port mapper knows.
-    pub(crate) fn ask_for_names(&mut self) -> Result<Names, Stop> {
+    #[tactic(auto, using(crate::proofs::Ways::way_of_lookup))]
+    pub(crate) fn ask_for_names(&mut self) -> Result<Names, Stop>
+        ensures kept { (self.new.dial ≡ self.old.dial) × (self.new.found.handshake ≡ self.old.found.handshake) }
+        ensures stops { IfErr result StopsOnWay }
+    {
         let mut front = self.connect_to_mapper()?;
         let answer = self.names_over(&mut front);
         self.budget
@@ -123,7 +164,9 @@ impl<'a> AddressAttempt<'a> {
     }
 
     // What the port mapper answers about the node on this connection.
-    fn look_up(&mut self, front: FrontStream<ProbeStream<'_>>) -> Result<PortInfo, LookupError> {
+    fn look_up(&mut self, front: FrontStream<ProbeStream<'_>>) -> Result<PortInfo, LookupError>
+        ensures kept { (self.new.dial ≡ self.old.dial) × (self.new.found.handshake ≡ self.old.found.handshake) }
+    {
         let mut front = front;
         let (short, limit) = (self.dial.node.short(), self.dial.choices.turns());
         let answer = lookup(self.dial.lines.alloc, &mut front, short, limit);
@@ -133,7 +176,9 @@ impl<'a> AddressAttempt<'a> {
     }
 
     // Prints the node's registration, keeps it, and returns its port.
-    fn take_registration(&mut self, info: PortInfo) -> Result<u16, Fault> {
+    fn take_registration(&mut self, info: PortInfo) -> Result<u16, Fault>
+        ensures kept { (self.new.dial ≡ self.old.dial) × (self.new.found.handshake ≡ self.old.found.handshake) }
+    {
         let port = info.port;
         let lines = self.dial.lines;
         lines.put_registration(self.dial.choices.mapper_port, &info)?;
@@ -142,11 +187,21 @@ impl<'a> AddressAttempt<'a> {
     }
 
     // Asks the port mapper for the node's port.
-    fn ask_for_port(&mut self) -> Result<u16, Stop> {
+    #[tactic(auto, using(crate::proofs::Ways::way_of_lookup))]
+    fn ask_for_port(&mut self) -> Result<u16, Stop>
+        ensures kept { (self.new.dial ≡ self.old.dial) × (self.new.found.handshake ≡ self.old.found.handshake) }
+        ensures stops { IfErr result StopsOnWay }
+    {
         let front = self.connect_to_mapper()?;
         let until = front.stream.deadline();
         match self.look_up(front) {
-            Ok(info) => Ok(self.take_registration(info)?),
+            Ok(info) => match self.take_registration(info)? {
+                0 => {
+                    self.dial.lines.put_port_zero()?;
+                    Err(Stop::Verdict(HandshakeVerdict::PortRefused))
+                }
+                port => Ok(port),
+            },
             Err(error) => {
                 self.put_unregistered(error, until)?;
                 Err(Stop::Verdict(lookup_verdict(error)))
@@ -157,6 +212,8 @@ impl<'a> AddressAttempt<'a> {
     /// The node's port: the given one, or else that of its registration.
     pub fn find_port(&mut self) -> Result<u16, Stop>
         ensures given { IfSome self.old.dial.choices.port (λ port. result ≡ Ok port) }
+        ensures kept { (self.new.dial ≡ self.old.dial) × (self.new.found.handshake ≡ self.old.found.handshake) }
+        ensures stops { IfErr result StopsOnWay }
     {
         match self.dial.choices.port {
             Some(port) => Ok(port),

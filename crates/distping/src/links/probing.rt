@@ -1,29 +1,41 @@
-//! The addresses of a host, one after the other: until a node is found at one, or until a port mapper knows names. Each step is printed.
+//! The addresses of a host, one after the other: until a node is found at one, or to ask the port mapper at each. Each step is printed.
 
-ghost use Rattle.std.specs.Prelude.{◌≡◌, is_some, IfErr, IfOk, IsErrAnd};
-ghost use Rattle.distping.specs.Places.{host_verdict};
+ghost use Rattle.std.specs.Prelude.{◌≡◌, Option, is_some, IfErr, IfOk, IsErrAnd, OnOk};
+ghost use Rattle.dist_talk.specs.declared.handshake.Handshake.{Handshake};
+ghost use Rattle.distping.specs.{Coming.AllCome, Coming.Comes, Coming.OutcomeComes, Places.host_verdict};
+ghost use Rattle.distping_report.specs.declared.asked.Dial.{Dial};
 
 use crate::links::attempt::{AddressAttempt, Stop};
 use crate::links::mapper::Names;
 use crate::links::outcomes::no_host;
 use crate::links::tries::Tries;
-use dist_probe::is_found;
 use dist_program::Addresses;
+use dist_talk::{HandshakeVerdict, is_found};
 use distping_report::{Dial, ProbeOutcome};
 use distping_words::Fault;
+use std::alloc::Global;
 use std::net::SocketAddr;
 
 /// The names that the port mapper of a host knows, or the result if it gave none.
 pub type Census = Result<Names, ProbeOutcome>;
 
+// The verdict of an attempt, of the talk or of the way to it.
+fn verdict_in(outcome: Result<HandshakeVerdict, Stop>) -> Result<HandshakeVerdict, Fault>
+    ensures { IfOk result (λ v. (d : Dial) (h : Option Handshake) → OutcomeComes d h outcome → Comes d h v) }
+{
+    match outcome {
+        Ok(verdict) | Err(Stop::Verdict(verdict)) => Ok(verdict),
+        Err(Stop::Fault(fault)) => Err(fault),
+    }
+}
+
 // Tries each address, until the node is found at one.
-fn find_node(dial: &Dial<'_>, addresses: &[SocketAddr], all: &mut Tries) -> Result<(), Fault> {
+fn find_node(dial: &Dial<'_>, addresses: &[SocketAddr], all: &mut Tries) -> Result<(), Fault>
+    ensures { OnOk result (AllCome dial.now all.old → AllCome dial.now all.new) }
+{
     for address in addresses {
         let mut attempt = AddressAttempt::begin(dial, address, addresses, all.budget)?;
-        let verdict = match attempt.probe_node() {
-            Ok(verdict) | Err(Stop::Verdict(verdict)) => verdict,
-            Err(Stop::Fault(fault)) => return Err(fault),
-        };
+        let verdict = verdict_in(attempt.probe_node())?;
         all.push(attempt, verdict)?;
         if is_found(verdict) {
             break;
@@ -32,26 +44,42 @@ fn find_node(dial: &Dial<'_>, addresses: &[SocketAddr], all: &mut Tries) -> Resu
     Ok(())
 }
 
-// Asks at each address, until a port mapper answers.
+// These names, and those of one more port mapper.
+fn with_more(alloc: Global, known: Option<Names>, more: Names) -> Result<Names, Fault> {
+    match known {
+        None => Ok(more),
+        Some(mut known) => {
+            known.merge(alloc, &more)?;
+            Ok(known)
+        }
+    }
+}
+
+// Asks at each address, and returns what all port mappers that answered know.
 fn find_names(
     dial: &Dial<'_>,
     addresses: &[SocketAddr],
     all: &mut Tries,
 ) -> Result<Option<Names>, Fault> {
+    let mut known: Option<Names> = None;
     for address in addresses {
         let mut attempt = AddressAttempt::begin(dial, address, addresses, all.budget)?;
-        let verdict = match attempt.ask_for_names() {
-            Ok(names) => return Ok(Some(names)),
-            Err(Stop::Verdict(verdict)) => verdict,
+        match attempt.ask_for_names() {
+            Ok(names) => {
+                all.pass(&attempt);
+                known = Some(with_more(dial.lines.alloc, known, names)?);
+            }
+            Err(Stop::Verdict(verdict)) => all.push(attempt, verdict)?,
             Err(Stop::Fault(fault)) => return Err(fault),
-        };
-        all.push(attempt, verdict)?;
+        }
     }
-    Ok(None)
+    Ok(known)
 }
 
 /// Dials the node at the addresses of its host, prints each step, and returns the result.
 pub fn probe(dial: &Dial<'_>, addresses: Addresses) -> Result<ProbeOutcome, Fault>
+    // The verdict is that of what was said, or of the way.
+    ensures comes { IfOk result (λ it. Comes dial.now it.found.handshake it.verdict) }
     ensures found { IfOk addresses (λ all. IfOk result (λ it. it.addresses ≡ all)) }
     ensures no_host { IfErr addresses (λ error. IfOk result (λ it. it.verdict ≡ host_verdict (is_some dial.now.choices.address) error)) }
 {
@@ -65,7 +93,7 @@ pub fn probe(dial: &Dial<'_>, addresses: Addresses) -> Result<ProbeOutcome, Faul
     Ok(all.into_outcome(addresses))
 }
 
-/// Asks the port mapper of a host for all nodes that it knows, at one address after the other until one answers, and prints each step.
+/// Asks the port mappers of a host for all nodes that they know, at each of its addresses, and prints each step.
 pub fn ask_census(dial: &Dial<'_>, addresses: Addresses) -> Result<Census, Fault>
     ensures found { IfOk addresses (λ all. IfOk result (λ census. IfErr census (λ it. it.addresses ≡ all))) }
     ensures no_host { IfErr addresses (λ error. IfOk result

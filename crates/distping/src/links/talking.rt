@@ -1,12 +1,19 @@
-//! Connects to the node, talks with it, and prints what it sends.
+//! Connects to the node, talks with it, and prints what it says.
+
+ghost use Rattle.std.specs.Prelude.{◌≡◌, Bool, IfErr, IfOk, None, Some};
+ghost use Rattle.dist_talk.specs.Terms.{target_of};
+ghost use Rattle.dist_talk.specs.declared.terms.Viewpoint.TheVariants as viewpoint;
+ghost use Rattle.distping.specs.Coming.{Comes, OutcomeComes, StopsOnWay, TalkKept, explanation, is_left_alone};
 
 use crate::links::attempt::{AddressAttempt, ProbeStream, Stop};
 use crate::links::own_setup::{draw_challenge, setup_of};
-use dist_probe::{
-    AwaitedMessage, ProbeVerdict, Report, Service, ask_node, port_verdict, speaks_tls,
-};
+use crate::links::speaking::speak_with;
+use dist_messages::Side;
 use dist_program::{TimedStep, at_port, deadline_in};
 use dist_stream::connect_by;
+use dist_talk::{
+    AwaitedMessage, HandshakeVerdict, OwnSide, Service, Terms, Viewpoint, port_verdict, speaks_tls,
+};
 use distping_report::Dial;
 use distping_words::Fault;
 use std::net::SocketAddr;
@@ -25,24 +32,37 @@ fn is_tls(dial: &Dial<'_>, place: &SocketAddr, until: Instant) -> bool {
     }
 }
 
-// Talks with the node.
-fn talk_with_node(dial: &Dial<'_>, stream: &mut ProbeStream<'_>) -> Result<Report, Fault> {
-    let fresh = draw_challenge(dial.rt)?;
-    let setup = setup_of(dial.rt, dial.own, dial.choices.flags, dial.cookie)?;
-    Ok(ask_node(
-        dial.lines.alloc,
-        stream,
-        &setup,
-        dial.node,
-        fresh,
-        dial.cookie.is_some(),
-        dial.choices.turns(),
-    ))
+// By what a node that is dialled is judged.
+fn terms_of<'d>(dial: &'d Dial<'_>) -> Terms<'d>
+    ensures viewpoint { result.viewpoint ≡ viewpoint.Dialler }
+    ensures target { target_of result ≡ Some dial.now.node.now }
+    ensures cookie { result.cookie ≡ dial.now.cookie }
+{
+    Terms {
+        viewpoint: Viewpoint::Dialler,
+        target: Some(dial.node.bytes()),
+        cookie: dial.cookie,
+    }
+}
+
+// Whether the node ended the connection where its status was due.
+fn is_left_alone(verdict: HandshakeVerdict) -> bool
+    ensures { result ≡ is_left_alone verdict }
+{
+    matches!(
+        verdict,
+        HandshakeVerdict::Gone(AwaitedMessage::Status)
+            | HandshakeVerdict::Reset(AwaitedMessage::Status)
+    )
 }
 
 impl<'a> AddressAttempt<'a> {
     // A connection to the node.
-    fn connect_to_node(&mut self, port: u16) -> Result<ProbeStream<'a>, Stop> {
+    #[tactic(auto, using(crate::proofs::Ways::way_of_port))]
+    fn connect_to_node(&mut self, port: u16) -> Result<ProbeStream<'a>, Stop>
+        ensures kept { (self.new.dial ≡ self.old.dial) × (self.new.found.handshake ≡ self.old.found.handshake) }
+        ensures stops { IfErr result StopsOnWay }
+    {
         match self.connect(port, TimedStep::Port, TimedStep::Talk) {
             Ok(stream) => {
                 self.dial.lines.put_connected(&self.address, port)?;
@@ -55,44 +75,96 @@ impl<'a> AddressAttempt<'a> {
         }
     }
 
-    // Talks with the node, and keeps what it sent. Returns the verdict.
-    fn talk(&mut self, stream: ProbeStream<'_>) -> Result<ProbeVerdict, Fault> {
-        let mut stream = stream;
-        let report = talk_with_node(&self.dial, &mut stream)?;
-        self.budget.settle(TimedStep::Talk, stream.time_left());
-        let verdict = report.verdict();
-        self.found.status = report.status;
-        self.found.peer = report.peer;
+    // Talks with the node, and keeps what was said. Returns the verdict.
+    fn talk(&mut self, stream: ProbeStream<'_>) -> Result<HandshakeVerdict, Fault>
+        ensures comes { IfOk result (TalkKept self.new.dial self.new.found.handshake) }
+        ensures dial { self.new.dial ≡ self.old.dial }
+    {
+        let dial = self.dial;
+        let fresh = draw_challenge(dial.rt)?;
+        let setup = setup_of(dial.rt, dial.own, dial.choices.flags, dial.cookie.ok())?;
+        let own = OwnSide {
+            side: Side::Dialler,
+            setup: &setup,
+            terms: terms_of(&dial),
+            fresh,
+        };
+        let limit = dial.choices.turns();
+        let (handshake, left) = speak_with(dial.rt, dial.lines.alloc, stream, &own, limit);
+        self.budget.settle(TimedStep::Talk, left);
+        let verdict = handshake.verdict(&own.terms);
+        self.found.handshake = Some(handshake);
         Ok(verdict)
     }
 
-    // Prints the status that the node sent, what it sent about itself, and what the verdict says about the cookie.
-    fn put_talk(&self, verdict: ProbeVerdict) -> Result<(), Fault> {
+    // Prints the status that the node sent, what it says of itself, and what the verdict says about the cookie.
+    fn put_talk(&self, verdict: HandshakeVerdict) -> Result<(), Fault> {
         let dial = self.dial;
-        if let Some(status) = self.found.status {
+        if let Some(status) = self.found.status() {
             dial.lines.put_status(dial.own, dial.choices.flags, status)?;
         }
-        if let Some(peer) = &self.found.peer {
-            dial.lines
-                .put_peer(peer.name.as_slice(), peer.flags, peer.creation)?;
+        if let Some(peer) = self.found.peer() {
+            dial.lines.put_peer(peer)?;
         }
         dial.lines.put_cookie(verdict)
     }
 
-    /// Finds the node's port, talks with the node, and prints what it sent.
-    pub(crate) fn probe_node(&mut self) -> Result<ProbeVerdict, Stop> {
+    // Whether the port mapper says that the node speaks no version above 5.
+    fn is_of_version_5(&self) -> bool {
+        self.found
+            .registration
+            .as_ref()
+            .is_some_and(|info| info.highest == 5)
+    }
+
+    // The verdict, where the node may have ended the connection since it speaks another version, or TLS.
+    fn explanation(&self, verdict: HandshakeVerdict, port: u16, until: Instant) -> HandshakeVerdict
+        ensures { (is_old is_tls : Bool) × (result ≡ explanation is_old is_tls verdict) }
+    {
+        if !is_left_alone(verdict) {
+            verdict
+        } else if self.is_of_version_5() {
+            HandshakeVerdict::Version5
+        } else if is_tls(&self.dial, &at_port(&self.address, port), until) {
+            HandshakeVerdict::Foreign(Side::Acceptor, Service::Tls)
+        } else {
+            verdict
+        }
+    }
+
+    // Finds the node's port, and connects to it.
+    fn reach_node(&mut self) -> Result<(u16, ProbeStream<'a>), Stop>
+        ensures kept { (self.new.dial ≡ self.old.dial) × (self.new.found.handshake ≡ self.old.found.handshake) }
+        ensures stops { IfErr result StopsOnWay }
+    {
         let port = self.find_port()?;
         self.found.port = Some(port);
-        let stream = self.connect_to_node(port)?;
+        Ok((port, self.connect_to_node(port)?))
+    }
+
+    // Talks with the node at this port, and prints what it says.
+    #[tactic(auto, using(crate::proofs::Ways::explained_comes))]
+    fn talk_and_print(
+        &mut self,
+        port: u16,
+        stream: ProbeStream<'_>,
+    ) -> Result<HandshakeVerdict, Fault>
+        ensures comes { IfOk result (Comes self.old.dial self.new.found.handshake) }
+    {
         let until = stream.deadline();
         let verdict = self.talk(stream)?;
         self.put_talk(verdict)?;
-        match verdict {
-            ProbeVerdict::Gone(AwaitedMessage::Status) | ProbeVerdict::Reset(AwaitedMessage::Status)
-                if is_tls(&self.dial, &at_port(&self.address, port), until) => {
-                Ok(ProbeVerdict::Foreign(Service::Tls))
-            }
-            other => Ok(other),
-        }
+        Ok(self.explanation(verdict, port, until))
+    }
+
+    /// Finds the node's port, talks with the node, and prints what it says.
+    #[tactic(auto, using(crate::proofs::Ways::stop_comes))]
+    pub(crate) fn probe_node(&mut self) -> Result<HandshakeVerdict, Stop>
+        // `begin` returned the attempt.
+        requires { self.old.found.handshake ≡ None }
+        ensures comes { OutcomeComes self.old.dial self.new.found.handshake result }
+    {
+        let (port, stream) = self.reach_node()?;
+        Ok(self.talk_and_print(port, stream)?)
     }
 }

@@ -3,8 +3,8 @@
 ghost use Rattle.std.specs.Prelude.{◌≡◌, ◌++◌, ◌∷◌, [], length, OnOk};
 
 use crate::links::attempt::AddressAttempt;
-use dist_probe::ProbeVerdict;
 use dist_program::Budget;
+use dist_talk::HandshakeVerdict;
 use distping_report::{Dial, Found};
 use std::alloc::AllocError;
 use std::net::SocketAddr;
@@ -15,7 +15,7 @@ pub struct Tries {
     /// What was found out at each.
     pub found: Vec<Found>,
     /// The verdict on each.
-    pub verdicts: Vec<ProbeVerdict>,
+    pub verdicts: Vec<HandshakeVerdict>,
     /// What is left of the time of each step, for the addresses that are still to be tried.
     pub budget: Budget,
     // Both have the same length.
@@ -35,17 +35,24 @@ impl Tries {
         }
     }
 
+    /// Goes on to the next address, with the time that this attempt left.
+    pub fn pass(&mut self, attempt: &AddressAttempt<'_>)
+        ensures { (self.new.found ≡ self.old.found) × (self.new.verdicts ≡ self.old.verdicts) }
+    {
+        self.budget = attempt.budget;
+        self.budget.go_on();
+    }
+
     /// Adds an address.
     pub fn push(
         &mut self,
         attempt: AddressAttempt<'_>,
-        verdict: ProbeVerdict,
+        verdict: HandshakeVerdict,
     ) -> Result<(), AllocError>
         ensures found { OnOk result (self.new.found.items ≡ self.old.found.items ++ attempt.entry.found ∷ []) }
         ensures verdict { OnOk result (self.new.verdicts.items ≡ self.old.verdicts.items ++ verdict ∷ []) }
     {
-        self.budget = attempt.budget;
-        self.budget.go_on();
+        self.pass(&attempt);
         self.verdicts.push(verdict)?;
         match self.found.push(attempt.found) {
             Ok(()) => Ok(()),

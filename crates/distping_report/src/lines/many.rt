@@ -4,7 +4,7 @@
 use crate::left_out::LeftOut;
 use crate::lines::LineSink;
 use crate::lines::verdicts::exit_mark;
-use crate::many_texts::{answers_line, left_out_line, summary_lines};
+use crate::many_texts::{summary_lines, times_text};
 use crate::moment::utc_text;
 use crate::objects::{
     change_object, latency_object, left_out_object, more_left_out_object, pair_object,
@@ -14,7 +14,7 @@ use crate::piece::LinePiece::{Escaped, Foreign, Name, Number, Text};
 use crate::watched::{Answers, Seen, verdict_word_in};
 use dist_cluster::{Group, Pairing, Summary, VerdictChange};
 use dist_names::NodeName;
-use dist_probe::ProbeVerdict;
+use dist_talk::HandshakeVerdict;
 use distping_words::Fault;
 
 impl LineSink<'_> {
@@ -38,7 +38,8 @@ impl LineSink<'_> {
         if self.quiet {
             self.write_made(left_out_object(self.alloc, group, text))
         } else {
-            self.write_made(left_out_line(self.alloc, text))
+            let front = Text("!  epmd      no node's name, and left out: ");
+            self.put(&[front, Name(text)])
         }
     }
 
@@ -110,7 +111,7 @@ impl LineSink<'_> {
         self,
         time: &'x str,
         node: &'x NodeName,
-        verdict: ProbeVerdict,
+        verdict: HandshakeVerdict,
         before: &'x [u8],
     ) -> Result<(), Fault> {
         self.put(&[
@@ -141,12 +142,22 @@ impl LineSink<'_> {
         self.put_watched(&time, seen.node, seen.verdict, before)
     }
 
+    // Prints the line of how long a node's answers took.
+    fn put_times<'x>(self, node: &'x NodeName, times: &'x str) -> Result<(), Fault> {
+        self.put(&[
+            Text("   latency   "),
+            Name(node.bytes()),
+            Text(": "),
+            Escaped(times),
+        ])
+    }
+
     /// Prints how long a watched node's answers took.
     pub fn put_answers(self, answers: &Answers<'_>) -> Result<(), Fault> {
         if self.quiet {
-            self.write_made(latency_object(self.alloc, answers))
-        } else {
-            self.write_made(answers_line(self.alloc, answers))
+            return self.write_made(latency_object(self.alloc, answers));
         }
+        let times = times_text(self.alloc, answers.rounds, answers.summary)?;
+        self.put_times(answers.node, &times)
     }
 }

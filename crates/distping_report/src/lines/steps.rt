@@ -7,8 +7,8 @@ use dist_epmd::PortInfo;
 use dist_epmd_calls::LookupError;
 use dist_flags::{Dflag, Release, ReleaseShown, is_refused_by_all, oldest_refusal, release_shown};
 use dist_messages::Status;
-use dist_names::{Creation, Flags, NodeName, escape_lines};
-use dist_probe::{ProbeVerdict, Unreached, is_long_and_short};
+use dist_names::{Flags, NodeName, escape_lines};
+use dist_talk::{HandshakeVerdict, NodeDescription, Unreached, is_long_and_short};
 use distping_words::Fault;
 use std::net::SocketAddr;
 
@@ -107,6 +107,13 @@ impl LineSink<'_> {
             Text(" to "),
             Number(u32::from(info.highest)),
         ])
+    }
+
+    /// Prints that port 0 is registered.
+    pub fn put_port_zero(self) -> Result<(), Fault> {
+        self.put_text(
+            "✗  epmd      port 0 is registered, at which nothing can listen: what registered it takes no connections",
+        )
     }
 
     // Prints why a step ended at this port.
@@ -214,11 +221,16 @@ impl LineSink<'_> {
     }
 
     /// Prints what a node says about itself.
-    pub fn put_peer(self, name: &[u8], flags: Flags, creation: Creation) -> Result<(), Fault> {
+    pub fn put_peer(self, node: NodeDescription<'_>) -> Result<(), Fault> {
+        let flags = node.flags;
         let kind = if flags.has(Dflag::Published.flags()) {
-            ", published, creation "
+            ", published"
         } else {
-            ", hidden, creation "
+            ", hidden"
+        };
+        let (front, creation) = match node.creation {
+            Some(creation) => (", creation ", Number(creation.0)),
+            None => (", without a creation", Text("")),
         };
         let (before, release) = match release_shown(flags) {
             ReleaseShown::Just(release) => (": ", release),
@@ -226,9 +238,10 @@ impl LineSink<'_> {
         };
         self.put(&[
             Text("✓  node      "),
-            Name(name),
+            Name(node.name),
             Text(kind),
-            Number(creation.0),
+            Text(front),
+            creation,
             Text(", flags "),
             Digits(flags),
             Text(before),
@@ -239,15 +252,15 @@ impl LineSink<'_> {
     }
 
     /// Prints the result for the cookie, if one was tried.
-    pub fn put_cookie(self, verdict: ProbeVerdict) -> Result<(), Fault> {
+    pub fn put_cookie(self, verdict: HandshakeVerdict) -> Result<(), Fault> {
         match verdict {
-            ProbeVerdict::Up => {
+            HandshakeVerdict::Up | HandshakeVerdict::Dropped => {
                 self.put_text("✓  cookie    the node took our digest, and its own is right")
             }
-            ProbeVerdict::WrongCookie => {
+            HandshakeVerdict::WrongCookie(_) => {
                 self.put_text("✗  cookie    the node closed the connection upon our digest")
             }
-            ProbeVerdict::WrongAck => self.put_text("✗  cookie    the node's digest is wrong"),
+            HandshakeVerdict::WrongAck => self.put_text("✗  cookie    the node's digest is wrong"),
             _ => Ok(()),
         }
     }

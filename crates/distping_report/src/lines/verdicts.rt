@@ -1,17 +1,16 @@
 //! The lines of the result of a probe, and of a connection that was taken, or their objects.
 
 ghost use Rattle.std.specs.Prelude.{◌≡◌, IfOk, string_bytes};
-ghost use Rattle.distping_report.specs.Texts.{mark_of, verdict_lines};
+ghost use Rattle.distping_report.specs.Texts.{IsVerdictText, mark_of};
 
 use crate::asked::{Dial, Listen};
-use crate::found::ProbeOutcome;
+use crate::found::{Caller, ProbeOutcome};
 use crate::lines::LineSink;
 use crate::objects::{caller_object, group_object, object_of};
 use crate::piece::LinePiece::{Host, Name, Number, Text};
-use crate::taken::{Caller, Taken};
 use dist_cluster::Group;
 use dist_names::NodeName;
-use dist_probe::ProbeVerdict;
+use dist_talk::HandshakeVerdict;
 use distping_words::Fault;
 use std::alloc::{AllocError, Global};
 use std::net::SocketAddr;
@@ -24,8 +23,8 @@ pub fn exit_mark(status: u8) -> &'static str
 }
 
 // The two lines of a verdict: word and cause, then the remedy.
-fn verdict_lines(alloc: Global, verdict: ProbeVerdict) -> Result<String, AllocError>
-    ensures { IfOk result (λ text. string_bytes text ≡ verdict_lines verdict) }
+fn verdict_lines(alloc: Global, verdict: HandshakeVerdict) -> Result<String, AllocError>
+    ensures { IfOk result (λ text. IsVerdictText verdict (string_bytes text)) }
 {
     let mark = exit_mark(verdict.status());
     let (name, cause, remedy) = (verdict.name(), verdict.cause(), verdict.remedy());
@@ -33,28 +32,17 @@ fn verdict_lines(alloc: Global, verdict: ProbeVerdict) -> Result<String, AllocEr
 }
 
 impl LineSink<'_> {
-    /// Prints the line of the result of a connection that was taken.
-    pub fn put_outcome(self, taken: Taken) -> Result<(), Fault> {
-        self.put(&[
-            Text(exit_mark(taken.status())),
-            Text("  "),
-            Text(taken.name()),
-            Text(": "),
-            Text(taken.cause()),
-        ])
-    }
-
     /// Prints the result of a connection that was taken.
     pub fn put_connection(
         self,
         listen: &Listen<'_>,
         caller: &Caller,
-        taken: Taken,
+        verdict: HandshakeVerdict,
     ) -> Result<(), Fault> {
         if self.quiet {
-            self.write_made(caller_object(self.alloc, listen, caller, taken))
+            self.write_made(caller_object(self.alloc, listen, caller, verdict))
         } else {
-            self.put_outcome(taken)
+            self.put_verdict(verdict)
         }
     }
 
@@ -79,10 +67,10 @@ impl LineSink<'_> {
     }
 
     // Prints what belongs before the lines of a verdict: the missing flags, or how many bytes arrived without a whole message.
-    fn put_details(self, verdict: ProbeVerdict) -> Result<(), Fault> {
+    fn put_details(self, verdict: HandshakeVerdict) -> Result<(), Fault> {
         match verdict {
-            ProbeVerdict::LacksFlags(_, flags) => self.put_flags("   lacking  ", flags),
-            ProbeVerdict::Silent(_, count) if count > 0 => {
+            HandshakeVerdict::LacksFlags(_, flags) => self.put_flags("   lacking  ", flags),
+            HandshakeVerdict::Silent(_, count) if count > 0 => {
                 let count = u32::try_from(count).unwrap_or(u32::MAX);
                 self.put_count("   came      ", count, " bytes, and no whole message")
             }
@@ -91,7 +79,7 @@ impl LineSink<'_> {
     }
 
     /// Prints the lines of a verdict.
-    pub fn put_verdict(self, verdict: ProbeVerdict) -> Result<(), Fault> {
+    pub fn put_verdict(self, verdict: HandshakeVerdict) -> Result<(), Fault> {
         self.put_details(verdict)?;
         self.write_made(verdict_lines(self.alloc, verdict))
     }

@@ -1,38 +1,28 @@
 //! What was found out about a connection that was taken, as one JSON object.
 
 ghost use Rattle.std.specs.Prelude.{◌≡◌, IfOk, OnOk, string_bytes};
-ghost use Rattle.distping_report.specs.Layouts.{call_layout, caller_layout, taken_layout};
-ghost use Rattle.distping_report.specs.Objects.{IsObjectLine, PutsMembers, layout_of};
+ghost use Rattle.distping_report.specs.Layouts.{IsCallerLine, call_layout, caller_layout};
+ghost use Rattle.distping_report.specs.Objects.{PutsMembers, layout_of};
 
 use crate::asked::Listen;
-use crate::objects::member::{Member, Value, begin_line, end_line, put_members};
-use crate::objects::parts::{peer_lacks, put_peer};
+use crate::found::Caller;
+use crate::objects::member::{FORM, Member, Value, begin_line, end_line, put_members};
+use crate::objects::parts::{Judged, put_peer, verdict_members};
 use crate::objects::values::{address_or_null, small_number};
-use crate::taken::{Caller, Taken};
-use dist_names::Flags;
+use dist_talk::{HandshakeVerdict, NodeDescription};
 use json::Writer;
 use std::alloc::{AllocError, Global};
 
 // The listener's name, and where the connection came from and went to.
-fn call_members<'x>(listen: &Listen<'x>, caller: &Caller) -> [Member<'x>; 3]
+fn call_members<'x>(listen: &Listen<'x>, caller: &Caller) -> [Member<'x>; 5]
     ensures { layout_of result ≡ call_layout listen.now caller.now }
 {
     [
-        ("name", Value::Name(listen.setup.name.bytes())),
+        ("type", Value::Text("connection")),
+        ("form", FORM),
+        ("name", Value::Name(listen.own.setup.name.bytes())),
         ("address", address_or_null(caller.address)),
         ("port", small_number(listen.port)),
-    ]
-}
-
-// The result of a connection.
-fn taken_members(lacking: Flags, taken: Taken) -> [Member<'static>; 4]
-    ensures { layout_of result ≡ taken_layout lacking.0 taken }
-{
-    [
-        ("lacking", Value::Names(lacking)),
-        ("verdict", Value::Text(taken.name())),
-        ("cause", Value::Text(taken.cause())),
-        ("exit", small_number(u16::from(taken.status()))),
     ]
 }
 
@@ -42,13 +32,14 @@ fn put_caller(
     out: &mut Writer,
     listen: &Listen<'_>,
     caller: &Caller,
-    taken: Taken,
+    peer: Option<NodeDescription<'_>>,
+    judged: Judged,
 ) -> Result<(), AllocError>
-    ensures { OnOk result (PutsMembers (caller_layout listen.now caller.now taken) out.old out.new) }
+    ensures { OnOk result (PutsMembers (caller_layout listen.now caller.now peer.entry judged) out.old out.new) }
 {
     put_members(alloc, out, &call_members(listen, caller))?;
-    put_peer(alloc, out, &caller.peer)?;
-    put_members(alloc, out, &taken_members(peer_lacks(&caller.peer), taken))
+    put_peer(alloc, out, peer)?;
+    put_members(alloc, out, &verdict_members(peer, judged))
 }
 
 /// What was found out about a caller, and the result, as one line.
@@ -56,12 +47,18 @@ pub fn caller_object(
     alloc: Global,
     listen: &Listen<'_>,
     caller: &Caller,
-    taken: Taken,
+    verdict: HandshakeVerdict,
 ) -> Result<String, AllocError>
-    ensures { IfOk result
-        (λ line. IsObjectLine (caller_layout listen.now caller.now taken) (string_bytes line)) }
+    ensures { IfOk result (λ line. IsCallerLine listen.now caller.now verdict (string_bytes line)) }
 {
     let mut out = begin_line(alloc)?;
-    put_caller(alloc, &mut out, listen, caller, taken)?;
+    put_caller(
+        alloc,
+        &mut out,
+        listen,
+        caller,
+        caller.peer(),
+        Judged::of(verdict),
+    )?;
     end_line(out)
 }

@@ -1,13 +1,13 @@
 //! What is printed about several nodes, as JSON objects on a line each: what a port mapper has in place of a name, what can be said of
 //! a pair, and a summary.
 
-ghost use Rattle.std.specs.Prelude.{◌≡◌, IfOk, OnOk, string_bytes};
-ghost use Rattle.distping_report.specs.Layouts.{counts_layout, left_out_layout, more_left_out_layout, pair_layout, summary_layout};
+ghost use Rattle.std.specs.Prelude.{◌≡◌, ℕ, List, IfOk, OnOk, codes, string_bytes};
+ghost use Rattle.distping_report.specs.Layouts.{counts_layout, headed, left_out_layout, more_left_out_layout, pair_layout, summary_layout};
 ghost use Rattle.distping_report.specs.Objects.{IsObjectLine, PutsMembers, layout_of, member, no_member, number, object};
 
 use crate::left_out::LeftOut;
 use crate::objects::member::{
-    Member, Value, begin_line, end_line, object_line, put_members, put_object,
+    FORM, Member, Value, begin_line, end_line, object_line, put_members, put_object,
 };
 use crate::objects::values::small_number;
 use dist_cluster::{Group, Pairing, Summary, WordCount};
@@ -25,6 +25,8 @@ pub fn left_out_object<'x>(
         (λ line. IsObjectLine (left_out_layout group.now text.now) (string_bytes line)) }
 {
     let members = [
+        ("type", Value::Text("left_out")),
+        ("form", FORM),
         ("host", Value::Name(group.word())),
         ("left_out", Value::Name(text)),
     ];
@@ -40,6 +42,8 @@ pub fn more_left_out_object(
     ensures { IfOk result (λ line. IsObjectLine (more_left_out_layout group.now left_out) (string_bytes line)) }
 {
     let members = [
+        ("type", Value::Text("more_left_out")),
+        ("form", FORM),
         ("host", Value::Name(group.word())),
         ("more_lines", Value::Number(u64::from(left_out.lines))),
         ("more_nodes", Value::Number(u64::from(left_out.nodes))),
@@ -56,9 +60,11 @@ pub fn pair_object<'x>(
     pairing: Pairing,
 ) -> Result<String, AllocError>
     ensures { IfOk result
-        (λ line. IsObjectLine (pair_layout first.now second.now pairing) (string_bytes line)) }
+        (λ line. (cause : List ℕ) × IsObjectLine (pair_layout first.now second.now pairing cause) (string_bytes line)) }
 {
     let members = [
+        ("type", Value::Text("pair")),
+        ("form", FORM),
         ("first", Value::Name(first.bytes())),
         ("second", Value::Name(second.bytes())),
         ("pair", Value::Text(pairing.name())),
@@ -104,6 +110,17 @@ fn put_number(
     put_members(alloc, out, &[(name, Value::Number(value))])
 }
 
+// The kind of the object, and how many nodes were dialled.
+fn front_members(summary: &Summary) -> [Member<'static>; 3]
+    ensures { layout_of result ≡ headed (codes "summary") (member (codes "nodes") (number summary.now.nodes) no_member) }
+{
+    [
+        ("type", Value::Text("summary")),
+        ("form", FORM),
+        ("nodes", Value::Number(summary.nodes)),
+    ]
+}
+
 // Writes the summary of all nodes.
 fn put_summary(
     alloc: Global,
@@ -113,7 +130,7 @@ fn put_summary(
 ) -> Result<(), AllocError>
     ensures { OnOk result (PutsMembers (summary_layout summary.now status) out.old out.new) }
 {
-    put_number(alloc, out, "nodes", summary.nodes)?;
+    put_members(alloc, out, &front_members(summary))?;
     put_counts(alloc, out, "verdicts", &summary.verdicts)?;
     put_number(alloc, out, "pairs", summary.pairs)?;
     put_counts(alloc, out, "pairings", &summary.pairings)?;

@@ -32,6 +32,9 @@ pub enum Value<'a> {
     Host(IpAddr),
 }
 
+/// The version of the form of all objects. A new member keeps it; one that goes, or means something else, does not.
+pub const FORM: Value<'static> = Value::Number(1);
+
 /// A member: its name and its value.
 pub type Member<'a> = (&'static str, Value<'a>);
 

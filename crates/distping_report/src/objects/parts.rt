@@ -2,40 +2,56 @@
 
 ghost use Rattle.std.specs.Prelude.{◌≡◌, OnOk, codes, option_map};
 ghost use Rattle.dist_messages.specs.Spelling.{text_of};
-ghost use Rattle.distping_report.specs.Layouts.{lacking_flags, peer_lacks, peer_layout, peer_shape, registration_shape, tries_in, try_layout, verdict_layout};
+ghost use Rattle.distping_report.specs.Found.{status_in};
+ghost use Rattle.distping_report.specs.Layouts.{lacking_flags, peer_layout, peer_shape, registration_shape, tries_in, try_layout, verdict_layout};
 ghost use Rattle.distping_report.specs.Objects.{PutsMembers, PutsObjects, PutsValue, layout_of};
 ghost use Rattle.distping_report.specs.Objects.{member, no_member, number_or_null, object, objects, text_or_null};
 
 use crate::found::{Found, ProbeOutcome};
 use crate::objects::member::{Member, Value, put_inner, put_members, put_object};
 use crate::objects::values::{
-    answer_or_null, number_or_null, release_word, small_number, status_or_null,
+    answer_or_null, creation_or_null, number_or_null, release_word, small_number, status_or_null,
 };
 use dist_epmd::PortInfo;
 use dist_flags::{Dflag, Release, missing, release_of};
 use dist_names::Flags;
-use dist_probe::{Peer, ProbeVerdict};
+use dist_talk::{HandshakeVerdict, NodeDescription};
 use json::Writer;
 use std::alloc::{AllocError, Global};
 use std::net::SocketAddr;
 
-/// The flags that a node lacks for newer releases, if it sent its own.
-pub fn peer_lacks(peer: &Option<Peer>) -> Flags
-    ensures { result.0 ≡ peer_lacks peer.now }
-{
-    match peer {
-        Some(peer) => missing(peer.flags, Release::Otp28.required()),
-        None => Flags(0),
+/// A verdict, and the sentences that go with it.
+#[derive(Clone, Copy)]
+pub struct Judged {
+    /// The verdict.
+    pub verdict: HandshakeVerdict,
+    /// What happened.
+    pub cause: &'static str,
+    /// What can be done about it.
+    pub remedy: &'static str,
+}
+
+impl Judged {
+    /// This verdict.
+    pub fn of(verdict: HandshakeVerdict) -> Judged
+        ensures { result.verdict ≡ verdict }
+    {
+        Judged {
+            verdict,
+            cause: verdict.cause(),
+            remedy: verdict.remedy(),
+        }
     }
 }
 
-/// The missing flags: those for which the node refuses the probe, or else those for which newer releases refuse the node.
-pub fn lacking_flags(verdict: ProbeVerdict, peer: &Option<Peer>) -> Flags
-    ensures { result.0 ≡ lacking_flags verdict peer.now }
+// The missing flags: those for which a node refuses another, or else those for which newer releases refuse the node.
+fn lacking_flags(verdict: HandshakeVerdict, peer: Option<NodeDescription<'_>>) -> Flags
+    ensures { result.0 ≡ lacking_flags verdict peer.entry }
 {
-    match verdict {
-        ProbeVerdict::LacksFlags(_, flags) => flags,
-        _ => peer_lacks(peer),
+    match (verdict, peer) {
+        (HandshakeVerdict::LacksFlags(_, flags), _) => flags,
+        (_, Some(peer)) => missing(peer.flags, Release::Otp28.required()),
+        (_, None) => Flags(0),
     }
 }
 
@@ -61,14 +77,14 @@ pub fn put_registration(
     }
 }
 
-// What a node sent about itself.
-fn peer_members(peer: &Peer) -> [Member<'_>; 6]
-    ensures { layout_of result ≡ peer_layout peer.now }
+// What a node says of itself.
+fn peer_members<'x>(peer: NodeDescription<'x>) -> [Member<'x>; 6]
+    ensures { layout_of result ≡ peer_layout peer.entry }
 {
     let flags = peer.flags;
     [
-        ("name", Value::Name(peer.name.as_slice())),
-        ("creation", Value::Number(u64::from(peer.creation.0))),
+        ("name", Value::Name(peer.name)),
+        ("creation", creation_or_null(peer.creation)),
         ("flags", Value::Digits(flags)),
         ("flag_names", Value::Names(flags)),
         ("release", Value::Text(release_word(release_of(flags)))),
@@ -76,9 +92,13 @@ fn peer_members(peer: &Peer) -> [Member<'_>; 6]
     ]
 }
 
-/// Writes what a node sent about itself, or null.
-pub fn put_peer(alloc: Global, out: &mut Writer, peer: &Option<Peer>) -> Result<(), AllocError>
-    ensures { OnOk result (PutsMembers (member (codes "peer") (peer_shape peer.now) no_member)
+/// Writes what a node says of itself, or null.
+pub fn put_peer(
+    alloc: Global,
+    out: &mut Writer,
+    peer: Option<NodeDescription<'_>>,
+) -> Result<(), AllocError>
+    ensures { OnOk result (PutsMembers (member (codes "peer") (peer_shape peer.entry) no_member)
         out.old out.new) }
 {
     match peer {
@@ -90,23 +110,24 @@ pub fn put_peer(alloc: Global, out: &mut Writer, peer: &Option<Peer>) -> Result<
 /// The port that was dialled and the status that the node sent.
 pub fn answer_members(found: &Found) -> [Member<'static>; 2]
     ensures { layout_of result ≡ member (codes "port") (number_or_null found.now.port)
-        (member (codes "status") (text_or_null (option_map text_of found.now.status)) no_member) }
+        (member (codes "status") (text_or_null (option_map text_of (status_in found.now.handshake))) no_member) }
 {
     [
         ("port", number_or_null(found.port)),
-        ("status", status_or_null(found.status)),
+        ("status", status_or_null(found.status())),
     ]
 }
 
-/// The verdict.
-pub fn verdict_members(lacking: Flags, verdict: ProbeVerdict) -> [Member<'static>; 5]
-    ensures { layout_of result ≡ verdict_layout lacking.0 verdict }
+/// The verdict on a node that says this of itself.
+pub fn verdict_members(peer: Option<NodeDescription<'_>>, judged: Judged) -> [Member<'static>; 5]
+    ensures { layout_of result ≡ verdict_layout peer.entry judged }
 {
+    let verdict = judged.verdict;
     [
-        ("lacking", Value::Names(lacking)),
+        ("lacking", Value::Names(lacking_flags(verdict, peer))),
         ("verdict", Value::Text(verdict.name())),
-        ("cause", Value::Text(verdict.cause())),
-        ("remedy", Value::Text(verdict.remedy())),
+        ("cause", Value::Text(judged.cause)),
+        ("remedy", Value::Text(judged.remedy)),
         ("exit", small_number(u16::from(verdict.status()))),
     ]
 }
@@ -116,7 +137,7 @@ fn put_try(
     alloc: Global,
     out: &mut Writer,
     address: &SocketAddr,
-    verdict: ProbeVerdict,
+    verdict: HandshakeVerdict,
 ) -> Result<(), AllocError>
     ensures { OnOk result (PutsValue (object (try_layout address.now verdict)) out.old out.new) }
 {
@@ -133,7 +154,7 @@ fn put_each_try(
     alloc: Global,
     out: &mut Writer,
     addresses: &[SocketAddr],
-    verdicts: &[ProbeVerdict],
+    verdicts: &[HandshakeVerdict],
 ) -> Result<(), AllocError>
     ensures { OnOk result (PutsObjects (tries_in addresses.now verdicts.now) out.old out.new) }
 {

@@ -8,7 +8,8 @@ ghost use Rattle.distping_report.specs.Objects.{number, number_or_null, shape_of
 use crate::objects::member::Value;
 use dist_flags::Release;
 use dist_messages::Status;
-use dist_probe::{ProbeVerdict, Unreached};
+use dist_names::Creation;
+use dist_talk::{HandshakeVerdict, Unreached};
 use std::net::SocketAddr;
 
 /// A number of 16 bits.
@@ -24,6 +25,16 @@ pub fn number_or_null(value: Option<u16>) -> Value<'static>
 {
     match value {
         Some(value) => small_number(value),
+        None => Value::Null,
+    }
+}
+
+/// A creation, or null.
+pub fn creation_or_null(creation: Option<Creation>) -> Value<'static>
+    ensures { shape_of result ≡ number_or_null (option_map (λ c. c.0) creation) }
+{
+    match creation {
+        Some(creation) => Value::Number(u64::from(creation.0)),
         None => Value::Null,
     }
 }
@@ -49,16 +60,15 @@ pub fn status_or_null(status: Option<Status>) -> Value<'static>
 }
 
 /// How a connect ended, if the verdict is about that, or null.
-pub fn answer_or_null(verdict: ProbeVerdict) -> Value<'static>
+pub fn answer_or_null(verdict: HandshakeVerdict) -> Value<'static>
     ensures { shape_of result ≡ text_or_null (answer_word verdict) }
 {
     match verdict {
-        ProbeVerdict::MapperRefused | ProbeVerdict::PortRefused => Value::Text(
+        HandshakeVerdict::MapperRefused | HandshakeVerdict::PortRefused => Value::Text(
             Unreached::Refused.name(),
         ),
-        ProbeVerdict::MapperUnreachable(unreached) | ProbeVerdict::PortUnreachable(unreached) => {
-            Value::Text(unreached.name())
-        }
+        HandshakeVerdict::MapperUnreachable(unreached)
+        | HandshakeVerdict::PortUnreachable(unreached) => { Value::Text(unreached.name()) }
         _ => Value::Null,
     }
 }

@@ -1,11 +1,11 @@
 //! What is printed about a watched node, as JSON objects on a line each.
 
-ghost use Rattle.std.specs.Prelude.{◌≡◌, IfOk, option_map, string_bytes};
+ghost use Rattle.std.specs.Prelude.{◌≡◌, ℕ, List, IfOk, option_map, string_bytes};
 ghost use Rattle.dist_names.specs.Escaped.{escapes_of};
 ghost use Rattle.distping_report.specs.Objects.{IsObjectLine, shape_of, text_or_null};
 ghost use Rattle.distping_report.specs.{Watched.word_in_verdict, Layouts.change_layout, Layouts.latency_layout};
 
-use crate::objects::member::{Value, object_line};
+use crate::objects::member::{FORM, Value, object_line};
 use crate::watched::{Answers, Seen, verdict_word_in};
 use dist_cluster::VerdictChange;
 use std::alloc::{AllocError, Global};
@@ -27,9 +27,11 @@ fn object_of_change<'x>(
     seen: &Seen<'x>,
     change: &'x VerdictChange,
 ) -> Result<String, AllocError>
-    ensures { IfOk result (λ line. IsObjectLine (change_layout time.now seen.now change.now) (string_bytes line)) }
+    ensures { IfOk result (λ line. (cause : List ℕ) × IsObjectLine (change_layout time.now seen.now change.now cause) (string_bytes line)) }
 {
     let members = [
+        ("type", Value::Text("change")),
+        ("form", FORM),
         ("time", Value::Name(time.as_bytes())),
         ("node", Value::Name(seen.node.bytes())),
         ("verdict", Value::Text(seen.verdict.name())),
@@ -47,7 +49,7 @@ pub fn change_object(
     seen: &Seen<'_>,
     change: &VerdictChange,
 ) -> Result<String, AllocError>
-    ensures { IfOk result (λ line. IsObjectLine (change_layout time.now seen.now change.now) (string_bytes line)) }
+    ensures { IfOk result (λ line. (cause : List ℕ) × IsObjectLine (change_layout time.now seen.now change.now cause) (string_bytes line)) }
 {
     object_of_change(alloc, time, seen, change)
 }
@@ -62,6 +64,8 @@ pub fn latency_object(alloc: Global, answers: &Answers<'_>) -> Result<String, Al
     match answers.summary {
         Some(it) => {
             let members = [
+                ("type", Value::Text("latency")),
+                ("form", FORM),
                 ("node", node),
                 ("rounds", rounds),
                 ("answers", Value::Number(it.count)),
@@ -73,6 +77,8 @@ pub fn latency_object(alloc: Global, answers: &Answers<'_>) -> Result<String, Al
         }
         None => {
             let members = [
+                ("type", Value::Text("latency")),
+                ("form", FORM),
                 ("node", node),
                 ("rounds", rounds),
                 ("answers", Value::Number(0)),

@@ -5,6 +5,13 @@ use Rattle.distping_report.proofs.objects.callers.caller_object.Goals as goal
 
 pub returns : goal.returns
 returns c =
-    let layout = caller_layout c.args.listen.now c.args.caller.now c.args.taken in
-    let shallow = caller_shallow c.args.listen.now c.args.caller.now c.args.taken in
-    IfOk-weaker c.end_line.result _ _ (λ line ends. ends c.in_ok-out.out c.in_ok-out.ensures layout shallow.less c.in_ok-put_caller.ensures) c.end_line.ensures
+    let peer = c.peer.result in
+    let judged = c.of.result in
+    let layout = caller_layout c.args.listen.now c.args.caller.now peer judged in
+    let shallow = caller_shallow c.args.listen.now c.args.caller.now peer judged in
+    IfOk-weaker c.end_line.result _ _ (λ line ends. record {
+      peer = peer;
+      judged = judged;
+      verdict = c.of.ensures;
+      is = ends c.in_ok-out.out c.in_ok-out.ensures layout shallow.less c.in_ok-put_caller.ensures;
+    }) c.end_line.ensures

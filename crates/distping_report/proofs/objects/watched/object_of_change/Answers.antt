@@ -3,4 +3,4 @@ use Rattle.distping_report.specs.Objects.{IsObjectLine}
 use Rattle.distping_report.proofs.objects.watched.object_of_change.Goals as goal
 
 pub returns : goal.returns
-returns c = IfOk-weaker c.object_line.result _ _ (λ line is. subst (λ l. IsObjectLine l (string_bytes line)) (search rules) is) c.object_line.ensures
+returns c = IfOk-weaker c.object_line.result _ _ (λ line is. (c.cause.result.now, subst (λ l. IsObjectLine l (string_bytes line)) (search rules) is)) c.object_line.ensures

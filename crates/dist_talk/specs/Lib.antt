@@ -1,0 +1,14 @@
+pub mod Bodies
+pub mod Services
+pub mod Words
+pub mod Styles
+pub mod Terms
+pub mod Handshake
+pub mod Opened
+pub mod Verdicts
+pub mod Standing
+pub mod Ended
+pub mod Unreached
+pub mod Reaching
+pub mod CookieCheck
+pub mod Speaking

@@ -1,0 +1,131 @@
+-- WHERE A VERDICT COMES FROM: a handshake that was spoken, or the way to it.
+use Rattle.std.specs.Prelude.{◌≡◌, ℕ, ◌<◌, ◌⊎◌, ◌&&◌, Bool, true, false, List, length, Option, Some, None, Result, Ok, Err, if◌then◌else◌}
+use Rattle.std.specs.{Borrow.Bor, List.slice_index_or}
+use Rattle.dist_messages.specs.declared.message.Side.{TheVariants.Dialler, TheVariants.Acceptor}
+use Rattle.dist_stream.specs.Stream.{StreamState}
+use Rattle.dist_talk.specs.{Ended.verdict_of, Speaking.Spoke, Terms.target_of, Words.status_of}
+use Rattle.dist_talk.specs.declared.{handshake.Handshake.Handshake, speaking.OwnSide.OwnSide}
+use Rattle.dist_talk.specs.declared.verdict.{NoCookie.NoCookie, HandshakeVerdict.HandshakeVerdict}
+use Rattle.dist_talk.specs.declared.service.Service.TheVariants as service
+use Rattle.dist_talk.specs.declared.terms.Viewpoint.TheVariants as viewpoint
+use Rattle.dist_talk.specs.declared.verdict.AwaitedMessage.TheVariants as awaited
+use Rattle.dist_talk.specs.declared.verdict.HandshakeVerdict.TheVariants as verdict
+use Rattle.distping.specs.declared.links.{attempt.Stop.Stop, tries.Tries.Tries}
+use Rattle.distping.specs.declared.links.attempt.Stop.TheVariants as stop
+use Rattle.distping_report.specs.declared.{asked.Dial.Dial, asked.Listen.Listen, found.Found.Found}
+
+-- both sides said the same; behind it at most an end was noted
+abbrev pub GoesOnAs : Handshake → Handshake → Type 0
+GoesOnAs talk h = (h.dialler.items ≡ talk.dialler.items) × (h.acceptor.items ≡ talk.acceptor.items) × (h.missing ≡ talk.missing)
+    × ((h.ending ≡ talk.ending) ⊎ (talk.ending ≡ None))
+
+-- THIS SIDE OF THE HANDSHAKE WAS SPOKEN OVER A STREAM: what both sides said is what passed
+pub record IsSpoken (own : OwnSide) (h : Handshake) : Type 0 where
+  pub talk : Handshake
+  pub before : StreamState
+  pub after : StreamState
+  pub spoke : Spoke own.side talk before after
+  pub behind : GoesOnAs talk h
+
+-- ---- a node that is dialled
+
+-- what is said and judged of a node that is dialled
+pub record IsDialling (d : Dial) (own : OwnSide) : Type 0 where
+  pub side : own.side ≡ Dialler
+  pub viewpoint : own.terms.viewpoint ≡ viewpoint.Dialler
+  pub target : target_of own.terms ≡ Some d.node.now
+  pub cookie : own.terms.cookie ≡ d.cookie
+  pub name : own.setup.now.name ≡ d.own.now
+
+-- the node ended the connection where its status was due
+abbrev pub is_left_alone : HandshakeVerdict → Bool
+is_left_alone (verdict.Gone awaited.Status) = true
+is_left_alone (verdict.Reset awaited.Status) = true
+is_left_alone other = false
+
+-- the same verdict; of such a node one of version 5, by its registration, or one that speaks TLS, by a second connection
+abbrev pub explanation : Bool → Bool → HandshakeVerdict → HandshakeVerdict
+explanation is_old is_tls v =
+    if is_old && is_left_alone v then verdict.Version5 else
+    if is_tls && is_left_alone v then verdict.Foreign Acceptor service.Tls else v
+
+-- THE VERDICT OF A TALK: what the handshake came to, in which this side was spoken
+pub record TalkComesTo (d : Dial) (h : Handshake) (v : HandshakeVerdict) : Type 0 where
+  pub own : OwnSide
+  pub dialling : IsDialling d own
+  pub spoken : IsSpoken own h
+  pub is : v ≡ verdict_of own.terms h
+
+-- the same, explanation
+pub record ComesOf (d : Dial) (h : Handshake) (v : HandshakeVerdict) : Type 0 where
+  pub came : HandshakeVerdict
+  pub talk : TalkComesTo d h came
+  pub is_old : Bool
+  pub is_tls : Bool
+  pub is : v ≡ explanation is_old is_tls came
+
+-- the same of a handshake that was kept
+abbrev pub TalkKept : Dial → Option Handshake → HandshakeVerdict → Type 0
+TalkKept d None v = ⊥
+TalkKept d (Some h) v = TalkComesTo d h v
+
+-- a verdict of the way to a node: on its host, the port mapper, the registration, the port, or this machine
+abbrev pub is_way : HandshakeVerdict → Bool
+is_way (verdict.NoHost cause) = true
+is_way verdict.ResolverSilent = true
+is_way verdict.MapperRefused = true
+is_way (verdict.MapperUnreachable cause) = true
+is_way (verdict.MapperFault error) = true
+is_way verdict.NotRegistered = true
+is_way verdict.PortRefused = true
+is_way (verdict.PortUnreachable cause) = true
+is_way verdict.NoMemory = true
+is_way verdict.NoDescriptors = true
+is_way other = false
+
+-- THE VERDICT OF A PROBE: that of the talk, or, if none was made, one of the way
+abbrev pub Comes : Dial → Option Handshake → HandshakeVerdict → Type 0
+Comes d None v = is_way v ≡ true
+Comes d (Some h) v = ComesOf d h v
+
+-- what stops a probe before the talk: one of these, or a fault of this side
+abbrev pub StopsOnWay : Stop → Type 0
+StopsOnWay (stop.Verdict v) = is_way v ≡ true
+StopsOnWay (stop.Fault fault) = Unit {0}
+
+-- the verdict, or what stopped the probe, comes of what was said, if anything was
+abbrev pub OutcomeComes : Dial → Option Handshake → Result HandshakeVerdict Stop → Type 0
+OutcomeComes d h (Ok v) = Comes d h v
+OutcomeComes d h (Err (stop.Verdict v)) = Comes d h v
+OutcomeComes d h (Err (stop.Fault fault)) = Unit {0}
+
+-- the same of each address that was tried
+abbrev pub AllCome : Dial → Tries → Type 0
+AllCome d all = (i : ℕ) (f : Found) (v : HandshakeVerdict) → i < length all.verdicts.items
+    → Comes d (let found = slice_index_or all.found.items i f in found.handshake) (slice_index_or all.verdicts.items i v)
+
+-- some probe of this node came to the verdict
+pub record ComesTo (d : Dial) (v : HandshakeVerdict) : Type 0 where
+  pub handshake : Option Handshake
+  pub comes : Comes d handshake v
+
+-- some probe of the node of this name, with this cookie, came to the verdict
+pub record ProbeComesTo (node : List ℕ) (cookie : Result (Bor (List ℕ)) NoCookie) (v : HandshakeVerdict) : Type 0 where
+  pub dial : Dial
+  pub node_is : dial.node.now ≡ node
+  pub cookie_is : dial.cookie ≡ cookie
+  pub comes : ComesTo dial v
+
+-- ---- a node that dials
+
+-- THE VERDICT OF A CONNECTION: that of the handshake in which this side was spoken; without a connection that nobody dialled
+abbrev pub ComesIn : Listen → Option Handshake → HandshakeVerdict → Type 0
+ComesIn l None v = v ≡ verdict.NoCaller
+ComesIn l (Some h) v = IsSpoken l.own h × (v ≡ verdict_of l.own.terms h)
+
+-- the exit status is that of such a verdict
+pub record EndsWith (l : Listen) (status : ℕ) : Type 0 where
+  pub handshake : Option Handshake
+  pub verdict : HandshakeVerdict
+  pub comes : ComesIn l handshake verdict
+  pub is : status ≡ status_of verdict

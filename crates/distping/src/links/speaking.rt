@@ -1,0 +1,55 @@
+//! One side of a handshake over a connection, and whether that ends at once behind it.
+
+ghost use Rattle.distping.specs.Coming.{GoesOnAs, IsSpoken};
+
+use crate::links::attempt::ProbeStream;
+use dist_stream::{DeadlineStream, Heard, Stream, deadline_after};
+use dist_talk::{Handshake, HandshakeVerdict, HowEnded, OwnSide, other_side, speak};
+use std::alloc::Global;
+use std::time::Duration;
+
+/// How many milliseconds an end is awaited. Our own choice: a node that refuses another after the handshake closes at once.
+const MOMENT: u64 = 100;
+
+// Notes in the handshake if the other side of this connection has ended it.
+#[tactic(auto, using(crate::proofs::Ends::first_stays))]
+fn look_for_end(stream: &mut ProbeStream<'_>, own: &OwnSide<'_>, handshake: &mut Handshake)
+    ensures { GoesOnAs handshake.old handshake.new }
+{
+    match stream.read(&mut [0]) {
+        Heard::Bytes(0) => handshake.end(other_side(own.side), HowEnded::Closed),
+        Heard::Failed => handshake.end(other_side(own.side), HowEnded::Reset),
+        Heard::Bytes(_) | Heard::Quiet => {}
+    }
+}
+
+// After a handshake was made: waits a moment, and notes in it if the other side ends the connection.
+#[tactic(auto, using(crate::proofs::Ends::goes_on))]
+fn note_end(rt: &HostRuntime, stream: ProbeStream<'_>, own: &OwnSide<'_>, handshake: &mut Handshake)
+    ensures { GoesOnAs handshake.old handshake.new }
+{
+    if handshake.verdict(&own.terms) == HandshakeVerdict::Up
+        && let Ok(until) = deadline_after(rt, Duration::from_millis(MOMENT))
+    {
+        let mut stream = DeadlineStream::new(stream.into_inner(), rt, until);
+        look_for_end(&mut stream, own, handshake);
+    }
+}
+
+/// Speaks this side of a handshake, in at most this many reads and writes, and returns what was said, and how much of its time it left.
+/// After a handshake that was made it waits a moment for an end.
+pub fn speak_with(
+    rt: &HostRuntime,
+    alloc: Global,
+    stream: ProbeStream<'_>,
+    own: &OwnSide<'_>,
+    limit: usize,
+) -> (Handshake, Duration)
+    ensures { IsSpoken own.now result.0 }
+{
+    let mut stream = stream;
+    let mut handshake = speak(alloc, &mut stream, own, limit);
+    let left = stream.time_left();
+    note_end(rt, stream, own, &mut handshake);
+    (handshake, left)
+}

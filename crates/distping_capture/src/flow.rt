@@ -1,0 +1,284 @@
+//! What one side of a connection sends, by its sequence numbers (RFC 9293, 3.4: they are compared modulo 2^32).
+
+use dist_capture::{Segment, SegmentStream};
+use std::alloc::{AllocError, Global};
+
+// The most bytes that are kept behind a gap, of each side. Our own choice: a handshake has some hundred.
+const MOST_WAITING: usize = 65_536;
+
+// The most bytes of a side that are in order and not read yet, before no more of it are kept. Our own choice: a frame has fewer, and so
+// has what a port mapper answers to a lookup.
+const MOST_UNREAD: usize = 131_072;
+
+/// How a side ended the connection, or its direction of it.
+#[derive(Clone, Copy)]
+pub struct FlowEnd {
+    /// When, in nanoseconds since 1970.
+    pub at: u64,
+    /// Whether it reset the connection.
+    pub is_reset: bool,
+    /// The number behind its last byte.
+    pub number: u32,
+    /// Up to which number it had received what the other side sent, if it ever said so.
+    pub received: Option<u32>,
+    /// Whether the other side had ended before, in the order of the capture.
+    pub is_second: bool,
+}
+
+/// What one side sends.
+#[derive(Drop)]
+pub struct Flow {
+    // Its bytes, as long as they are read; before its first segment nothing.
+    stream: Option<SegmentStream>,
+    is_read: bool,
+    // The number behind the last byte that a segment of it shows, and up to which the other side received.
+    sent: Option<u32>,
+    acknowledged: Option<u32>,
+    // The most bytes that it was ready to take.
+    window: u16,
+    // Whether bytes of it were cut off, or came too far behind a gap to be kept.
+    has_lost: bool,
+    /// Whether any byte of it was captured.
+    pub has_spoken: bool,
+    /// When its latest segment was captured that is no reset.
+    pub heard: u64,
+    /// When its latest bytes were captured; before them, when its connection's first segment was.
+    pub latest: u64,
+    /// How many packets it sent again, since the other side acknowledged something new.
+    pub again: u32,
+    /// How it ended.
+    pub end: Option<FlowEnd>,
+}
+
+/// Whether a sequence number is behind another one.
+pub fn is_ahead(number: u32, other: u32) -> bool {
+    let ahead = number.wrapping_sub(other);
+    ahead != 0 && ahead < 0x8000_0000
+}
+
+// The same, where nothing is known yet.
+fn is_beyond(number: u32, known: Option<u32>) -> bool {
+    match known {
+        Some(known) => is_ahead(number, known),
+        None => true,
+    }
+}
+
+// The number of the first byte of a segment.
+fn first_of(segment: &Segment) -> u32 {
+    segment.sequence.wrapping_add(u32::from(segment.is_syn))
+}
+
+// The number behind the last byte of a segment.
+fn behind(segment: &Segment) -> u32 {
+    let length = segment.payload.len().saturating_add(segment.missing) % 0x1_0000_0000;
+    first_of(segment).wrapping_add(length as u32)
+}
+
+impl Flow {
+    /// Nothing was sent yet, and the connection's first segment was captured at this time.
+    pub fn new(at: u64) -> Flow {
+        Flow {
+            stream: None,
+            is_read: true,
+            sent: None,
+            acknowledged: None,
+            window: 0,
+            has_lost: false,
+            has_spoken: false,
+            heard: at,
+            latest: at,
+            again: 0,
+            end: None,
+        }
+    }
+
+    /// Whether no segment of it was captured.
+    pub fn is_unseen(&self) -> bool {
+        self.sent.is_none()
+    }
+
+    /// The bytes that follow those that were read, as far as none is missing.
+    pub fn bytes(&self) -> &[u8] {
+        match &self.stream {
+            Some(stream) => stream.ready(),
+            None => b"",
+        }
+    }
+
+    /// Takes the first bytes away.
+    pub fn consume(&mut self, count: usize) {
+        if let Some(stream) = &mut self.stream {
+            stream.consume(count);
+        }
+    }
+
+    /// How many bytes of memory it keeps.
+    pub fn kept_bytes(&self) -> usize {
+        match &self.stream {
+            Some(stream) => stream.waiting().saturating_mul(2),
+            None => 0,
+        }
+    }
+
+    /// Reads no more of its bytes.
+    pub fn stop_reading(&mut self) {
+        self.stream = None;
+        self.is_read = false;
+    }
+
+    /// The number of the next byte that is missing or to come; once it is not read any more, the one behind all that were sent.
+    pub fn next(&self) -> Option<u32> {
+        match &self.stream {
+            Some(stream) => Some(stream.next_number()),
+            None => self.sent,
+        }
+    }
+
+    // Up to which number the other side received what this one sent.
+    fn note_acknowledged(&mut self, number: u32) {
+        if is_beyond(number, self.acknowledged) {
+            self.acknowledged = Some(number);
+            self.again = 0;
+        }
+    }
+
+    // The number of the first byte that is to be read: the one that the other side awaited before, if that is close.
+    fn beginning(&self, segment: &Segment) -> u32 {
+        let first = first_of(segment);
+        match self.acknowledged {
+            Some(number) if !segment.is_syn && first.wrapping_sub(number) < 0x1_0000 => number,
+            _ => first,
+        }
+    }
+
+    // Notes when bytes came, and whether they were sent before, and not received.
+    fn note_bytes(&mut self, segment: &Segment) {
+        if segment.payload.is_empty() && segment.missing == 0 {
+            return;
+        }
+        self.has_spoken = true;
+        self.latest = segment.time;
+        let number = behind(segment);
+        if !is_beyond(number, self.sent) && is_beyond(number, self.acknowledged) {
+            self.again = self.again.saturating_add(1);
+        }
+    }
+
+    // Takes the bytes of a segment.
+    fn feed(&mut self, alloc: Global, segment: &Segment) -> Result<(), AllocError> {
+        if self.is_read && self.stream.is_none() {
+            let first = self.beginning(segment);
+            self.stream = Some(SegmentStream::new(alloc, first, MOST_WAITING));
+        }
+        if let Some(stream) = &mut self.stream {
+            let has_room = stream.ready().len() < MOST_UNREAD;
+            let is_kept = has_room && stream.take(first_of(segment), &segment.payload)?;
+            self.has_lost = self.has_lost || !is_kept || segment.missing > 0;
+        }
+        Ok(())
+    }
+
+    /// Takes a segment of this side. A reset has no bytes, and a close without bytes may have any number.
+    pub fn take(&mut self, alloc: Global, segment: &Segment) -> Result<(), AllocError> {
+        if segment.is_reset {
+            return Ok(());
+        }
+        self.heard = segment.time;
+        self.window = self.window.max(segment.window);
+        self.note_bytes(segment);
+        self.feed(alloc, segment)?;
+        let number = behind(segment);
+        let has_number = !segment.is_fin || !segment.payload.is_empty() || self.sent.is_none();
+        if has_number && is_beyond(number, self.sent) {
+            self.sent = Some(number);
+        }
+        Ok(())
+    }
+
+    /// Notes what a segment of the other side acknowledges.
+    pub fn take_answer(&mut self, segment: &Segment) {
+        if let Some(number) = segment.acknowledges {
+            self.note_acknowledged(number);
+        }
+    }
+
+    /// Whether this segment of this side, which was taken, can end the connection: the number of a reset is one that the other side awaits
+    /// (RFC 9293, 3.10.7.4), which is ready to take this much; that of a close is none that came before.
+    pub fn may_end(&self, segment: &Segment, window: u16) -> bool {
+        let number = behind(segment);
+        match self.next() {
+            Some(next) if segment.is_reset => {
+                number.wrapping_sub(next) <= u32::from(window) || self.acknowledged == Some(number)
+            }
+            Some(next) => !is_ahead(next, number),
+            None => true,
+        }
+    }
+
+    /// Notes that this side ended the connection by this segment. An end that is behind a gap gives way to one that is not.
+    pub fn note_end(&mut self, segment: &Segment, other: &Flow) {
+        if self.known_end().is_none() {
+            self.end = Some(FlowEnd {
+                at: segment.time,
+                is_reset: segment.is_reset,
+                number: behind(segment),
+                received: other.acknowledged,
+                is_second: other.end.is_some(),
+            });
+        }
+    }
+
+    /// The most bytes that it was ready to take.
+    pub fn window(&self) -> u16 {
+        self.window
+    }
+
+    fn is_behind_gap(&self, end: FlowEnd) -> bool {
+        self.next().is_some_and(|next| is_ahead(end.number, next))
+    }
+
+    /// How it ended, if no byte before that is missing.
+    pub fn known_end(&self) -> Option<FlowEnd> {
+        match self.end {
+            Some(end) if !self.is_behind_gap(end) => Some(end),
+            _ => None,
+        }
+    }
+
+    /// Whether the other side, which ended so, had not received all bytes of this one that are in the capture.
+    pub fn is_unread_by(&self, end: FlowEnd) -> bool {
+        match (self.next(), end.received) {
+            (Some(next), Some(received)) => is_ahead(next, received),
+            _ => false,
+        }
+    }
+
+    // Whether the other side, which ended so, had received no byte of this one that is not in the capture.
+    fn is_whole_for(&self, end: FlowEnd) -> bool {
+        match (self.next(), end.received) {
+            (Some(next), Some(received)) => !is_ahead(received, next),
+            _ => false,
+        }
+    }
+
+    /// Whether the capture lacks bytes of this side: the other side received more, or segments stand behind a gap. `reader` is how that
+    /// other side ended: if it had not received them either, they are not missing.
+    pub fn lacks_bytes(&self, reader: Option<FlowEnd>) -> bool {
+        let Some(next) = self.next() else {
+            return self.acknowledged.is_some();
+        };
+        let is_closed = self.known_end().is_some_and(|end| !end.is_reset);
+        let last = next.wrapping_add(u32::from(is_closed));
+        if self
+            .acknowledged
+            .is_some_and(|number| is_ahead(number, last))
+        {
+            return true;
+        }
+        let is_cut = self.has_lost
+            || self.sent.is_some_and(|number| is_ahead(number, last))
+            || self.end.is_some_and(|end| is_ahead(end.number, last));
+        is_cut && !reader.is_some_and(|end| self.is_whole_for(end))
+    }
+}
