@@ -3,10 +3,16 @@ use Rattle.std.specs.Prelude.{◌≡◌, ℕ, ◌+◌, ◌<◌, ◌⊎◌, Bool,
 use Rattle.std.specs.{List.list_any, Int.w16}
 use Rattle.dist_names.specs.Bytes.{number}
 use Rattle.dist_frames.specs.Stream.{body_frame}
+use Rattle.dist_messages.specs.declared.message.Side.{Side, TheVariants.Dialler, TheVariants.Acceptor}
 use Rattle.dist_stream.specs.{Stream.StreamState, Turns.Hears, declared.turn_error.TurnError.TurnError}
 use Rattle.dist_epmd_calls.specs.Serving.{IsInside}
 use Rattle.dist_talk.specs.declared.bodies.Came.{Came}
 use Rattle.dist_talk.specs.declared.bodies.Came.TheVariants as came
+
+-- the tags of a side's messages: name in both forms, status, complement, reply; status, challenge in both forms, acknowledgement
+abbrev pub tags_of : Side → List ℕ
+tags_of Dialler = 0x6e ∷ 0x4e ∷ 0x73 ∷ 0x63 ∷ 0x72 ∷ []
+tags_of Acceptor = 0x73 ∷ 0x6e ∷ 0x4e ∷ 0x61 ∷ []
 
 -- the byte is one of these
 abbrev pub is_one_of : List ℕ → ℕ → Bool

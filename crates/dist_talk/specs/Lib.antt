@@ -11,4 +11,5 @@ pub mod Ended
 pub mod Unreached
 pub mod Reaching
 pub mod CookieCheck
+pub mod OwnSide
 pub mod Speaking

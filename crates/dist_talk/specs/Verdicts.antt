@@ -1,5 +1,5 @@
 -- THE TABLE OF VERDICTS: what it means that this was said where that was due.
-use Rattle.std.specs.Prelude.{ℕ, Bool, false, ◌==◌, List, Option, Some, None, Ok, Err, if◌then◌else◌}
+use Rattle.std.specs.Prelude.{ℕ, Bool, false, ◌==◌, List, Option, Some, None, if◌then◌else◌}
 use Rattle.std.specs.Cmp.Lexicographic.{pointwise}
 use Rattle.dist_names.specs.declared.flags.Flags.{Flags}
 use Rattle.dist_secret.specs.Digest.{digest_of}

@@ -2,7 +2,7 @@
 
 ghost use Rattle.std.specs.{Prelude.◌≡◌, Prelude.◌<◌, Prelude.IfErr, Prelude.length, Int.w16};
 ghost use Rattle.dist_names.specs.Bytes.{number};
-ghost use Rattle.dist_talk.specs.Bodies.{Fills, HearsBehind, HearsFrameOf};
+ghost use Rattle.dist_talk.specs.Bodies.{Fills, HearsBehind, HearsFrameOf, tags_of};
 
 use dist_frames::first_body;
 use dist_messages::Side;
@@ -19,7 +19,9 @@ const OF_ACCEPTOR: [u8; 4] = [0x73, 0x6e, 0x4e, 0x61];
 const OF_DIALLER: [u8; 5] = [0x6e, 0x4e, 0x73, 0x63, 0x72];
 
 /// The tags of a side's messages.
-pub fn tags_of(side: Side) -> &'static [u8] {
+pub fn tags_of(side: Side) -> &'static [u8]
+    ensures { result.now ≡ tags_of side }
+{
     match side {
         Side::Dialler => &OF_DIALLER,
         Side::Acceptor => &OF_ACCEPTOR,

@@ -1,7 +1,7 @@
 //! Which sides showed a cookie.
 
 ghost use Rattle.std.specs.Prelude.{◌≡◌};
-ghost use Rattle.dist_talk.specs.CookieCheck.{check_of, is_digest_of};
+ghost use Rattle.dist_talk.specs.CookieCheck.{check_of, cookie_check, is_digest_of};
 
 use crate::handshake::{Handshake, SentMessage};
 use dist_secret::{Cookie, digest};
@@ -44,6 +44,24 @@ fn is_digest_of(cookie: &Cookie, challenge: u32, said: [u8; 16]) -> bool
     digest(cookie, challenge) == said
 }
 
+// Which sides showed this cookie, by a challenge, the reply to it, and its acknowledgement.
+fn cookie_check(
+    cookie: &Cookie,
+    challenge: u32,
+    reply: (u32, [u8; 16]),
+    ack: Option<[u8; 16]>,
+    is_refused: bool,
+) -> CookieCheck
+    ensures { result ≡ cookie_check cookie.now challenge reply ack is_refused }
+{
+    let (fresh, replied) = reply;
+    let ack = match ack {
+        Some(said) => Some(is_digest_of(cookie, fresh, said)),
+        None => None,
+    };
+    check_of(is_digest_of(cookie, challenge, replied), ack, is_refused)
+}
+
 fn challenge_in(said: &[SentMessage]) -> Option<u32> {
     said.iter().find_map(|sent| sent.content.challenge())
 }
@@ -60,12 +78,8 @@ impl Handshake {
     /// Which sides showed this cookie, if a challenge and a reply to it were said. `is_refused` says that the reply was refused.
     pub fn check_cookie(&self, cookie: &Cookie, is_refused: bool) -> Option<CookieCheck> {
         let challenge = challenge_in(&self.acceptor)?;
-        let (fresh, replied) = reply_in(&self.dialler)?;
-        let ack = match ack_in(&self.acceptor) {
-            Some(said) => Some(is_digest_of(cookie, fresh, said)),
-            None => None,
-        };
-        Some(check_of(is_digest_of(cookie, challenge, replied), ack, is_refused))
+        let reply = reply_in(&self.dialler)?;
+        Some(cookie_check(cookie, challenge, reply, ack_in(&self.acceptor), is_refused))
     }
 }
 

@@ -13,7 +13,7 @@ use crate::verdict::{AwaitedMessage, HandshakeVerdict, NoCookie};
 use dist_messages::Side;
 
 // The name that opened a handshake; empty if none did.
-fn opener(said: &[SentMessage]) -> &[u8]
+pub(crate) fn opener(said: &[SentMessage]) -> &[u8]
     ensures { result.now ≡ opener said.now }
 {
     match said {

@@ -1,10 +1,10 @@
 -- WHERE A VERDICT COMES FROM: a handshake that was spoken, or the way to it.
-use Rattle.std.specs.Prelude.{◌≡◌, ℕ, ◌<◌, ◌⊎◌, ◌&&◌, Bool, true, false, List, length, Option, Some, None, Result, Ok, Err, if◌then◌else◌}
+use Rattle.std.specs.Prelude.{◌≡◌, ℕ, ◌+◌, ◌<◌, ◌⊎◌, ◌&&◌, Bool, true, false, List, length, Option, Some, None, Result, Ok, Err, if◌then◌else◌}
 use Rattle.std.specs.{Borrow.Bor, List.slice_index_or}
 use Rattle.dist_messages.specs.declared.message.Side.{TheVariants.Dialler, TheVariants.Acceptor}
 use Rattle.dist_stream.specs.Stream.{StreamState}
 use Rattle.dist_talk.specs.{Ended.verdict_of, Speaking.Spoke, Terms.target_of, Words.status_of}
-use Rattle.dist_talk.specs.declared.{handshake.Handshake.Handshake, speaking.OwnSide.OwnSide}
+use Rattle.dist_talk.specs.declared.{handshake.Handshake.Handshake, own_side.OwnSide.OwnSide}
 use Rattle.dist_talk.specs.declared.verdict.{NoCookie.NoCookie, HandshakeVerdict.HandshakeVerdict}
 use Rattle.dist_talk.specs.declared.service.Service.TheVariants as service
 use Rattle.dist_talk.specs.declared.terms.Viewpoint.TheVariants as viewpoint
@@ -12,6 +12,7 @@ use Rattle.dist_talk.specs.declared.verdict.AwaitedMessage.TheVariants as awaite
 use Rattle.dist_talk.specs.declared.verdict.HandshakeVerdict.TheVariants as verdict
 use Rattle.distping.specs.declared.links.{attempt.Stop.Stop, tries.Tries.Tries}
 use Rattle.distping.specs.declared.links.attempt.Stop.TheVariants as stop
+use Rattle.distping_words.specs.declared.command.Choices.{Choices}
 use Rattle.distping_report.specs.declared.{asked.Dial.Dial, asked.Listen.Listen, found.Found.Found}
 
 -- both sides said the same; behind it at most an end was noted
@@ -19,13 +20,17 @@ abbrev pub GoesOnAs : Handshake → Handshake → Type 0
 GoesOnAs talk h = (h.dialler.items ≡ talk.dialler.items) × (h.acceptor.items ≡ talk.acceptor.items) × (h.missing ≡ talk.missing)
     × ((h.ending ≡ talk.ending) ⊎ (talk.ending ≡ None))
 
--- THIS SIDE OF THE HANDSHAKE WAS SPOKEN OVER A STREAM: what both sides said is what passed
-pub record IsSpoken (own : OwnSide) (h : Handshake) : Type 0 where
+-- THIS SIDE OF THE HANDSHAKE WAS SPOKEN OVER A STREAM, in at most this many reads and writes: what both sides said is what passed
+pub record IsSpoken (own : OwnSide) (turns : ℕ) (h : Handshake) : Type 0 where
   pub talk : Handshake
   pub before : StreamState
   pub after : StreamState
-  pub spoke : Spoke own.side talk before after
+  pub spoke : Spoke own talk before after turns
   pub behind : GoesOnAs talk h
+
+-- the most reads and writes of a talk
+abbrev pub turns_of : Choices → ℕ
+turns_of c = c.seconds + 4096
 
 -- ---- a node that is dialled
 
@@ -36,6 +41,7 @@ pub record IsDialling (d : Dial) (own : OwnSide) : Type 0 where
   pub target : target_of own.terms ≡ Some d.node.now
   pub cookie : own.terms.cookie ≡ d.cookie
   pub name : own.setup.now.name ≡ d.own.now
+  pub flags : own.setup.now.flags ≡ d.choices.flags
 
 -- the node ended the connection where its status was due
 abbrev pub is_left_alone : HandshakeVerdict → Bool
@@ -53,7 +59,7 @@ explanation is_old is_tls v =
 pub record TalkComesTo (d : Dial) (h : Handshake) (v : HandshakeVerdict) : Type 0 where
   pub own : OwnSide
   pub dialling : IsDialling d own
-  pub spoken : IsSpoken own h
+  pub spoken : IsSpoken own (turns_of d.choices) h
   pub is : v ≡ verdict_of own.terms h
 
 -- the same, explanation
@@ -121,7 +127,7 @@ pub record ProbeComesTo (node : List ℕ) (cookie : Result (Bor (List ℕ)) NoCo
 -- THE VERDICT OF A CONNECTION: that of the handshake in which this side was spoken; without a connection that nobody dialled
 abbrev pub ComesIn : Listen → Option Handshake → HandshakeVerdict → Type 0
 ComesIn l None v = v ≡ verdict.NoCaller
-ComesIn l (Some h) v = IsSpoken l.own h × (v ≡ verdict_of l.own.terms h)
+ComesIn l (Some h) v = IsSpoken l.own (turns_of l.choices) h × (v ≡ verdict_of l.own.terms h)
 
 -- the exit status is that of such a verdict
 pub record EndsWith (l : Listen) (status : ℕ) : Type 0 where

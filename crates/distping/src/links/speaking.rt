@@ -45,7 +45,7 @@ pub fn speak_with(
     own: &OwnSide<'_>,
     limit: usize,
 ) -> (Handshake, Duration)
-    ensures { IsSpoken own.now result.0 }
+    ensures { IsSpoken own.now limit result.0 }
 {
     let mut stream = stream;
     let mut handshake = speak(alloc, &mut stream, own, limit);
