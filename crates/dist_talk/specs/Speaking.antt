@@ -167,8 +167,10 @@ pub record Going (own : OwnSide) (count : ℕ) (h : Handshake) (old new : Stream
 
 -- a turn, behind any that were taken before: one more, and the handshake goes on; or its end
 abbrev pub Moves : Bool → OwnSide → Handshake → Handshake → StreamState → StreamState → ℕ → ℕ → Type 0
-Moves true own h k old new turns left = (count : ℕ) (start : StreamState) (total : ℕ) → Going own count h start old total turns → Going own (count + 1) k start new total left
-Moves false own h k old new turns left = (count : ℕ) (start : StreamState) (total : ℕ) → Going own count h start old total turns → Spoke own k start new total
+Moves true own h k old new turns left =
+    (count : ℕ) (start : StreamState) (total : ℕ) → Going own count h start old total turns → Going own (count + 1) k start new total left
+Moves false own h k old new turns left =
+    (count : ℕ) (start : StreamState) (total : ℕ) → Going own count h start old total turns → Spoke own k start new total
 
 -- both sides said the same
 pub record SaidSame (h k : Handshake) : Type 0 where
