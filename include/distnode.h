@@ -3,8 +3,8 @@
  * random numbers. docs/C_LIBRARY.md has the order of calls, and examples/c/join.c a whole program.
  *
  * There is no input or output in this library, no thread, no lock, no callback and no global state. No call aborts, blocks,
- * prints, draws a number or asks the time. What a call does is proved to be the step of the node's definition; what the
- * caller owes is not checked by anything, and stands in the three demands.
+ * prints, draws a number or asks the time. What a call does is proved to be the step of the node's definition. Nothing
+ * checks what the caller owes: the three demands.
  *
  * THE THREE DEMANDS
  *
@@ -52,8 +52,8 @@ typedef enum dn_code {
     DN_NOT_A_NODE = 1,      /* the struct holds no node, or no registry: it is zero, or was let go */
     DN_IN_USE = 2,          /* the struct holds one already */
     DN_NO_MEMORY = 3,
-    DN_NO_ROOM = 4,         /* the caller's room is too short; the length that is needed was told */
-    DN_AWAITS = 5,          /* no whole frame stands at the front: call again with these bytes and those that follow */
+    DN_NO_ROOM = 4,         /* the caller's room is too short; the length that it needs is reported */
+    DN_AWAITS = 5,          /* the bytes begin with no whole frame: call again with these and those that follow */
     DN_NO_SUCH = 6,         /* a cause, a place or a version names nothing */
     DN_TOO_LONG = 8,        /* a body has more than 65,535 bytes, and no frame can have it */
     DN_PEER_IN_USE = 9,     /* a peer that is up would get another cookie */
@@ -68,14 +68,14 @@ typedef enum dn_code {
     DN_NAME_TOO_SHORT = 20, /* a name has fewer than 3 bytes */
     DN_NAME_TOO_LONG = 21,  /* a name has more than 255 bytes */
     DN_NAME_BAD_BYTE = 22,  /* a name has a byte that is not from 0x21 to 0x7E */
-    DN_NAME_BAD_AT = 23,    /* a name has not exactly one @, or nothing before or behind it */
-    DN_COOKIE_EMPTY = 30,   /* no byte of a cookie stands at the front of the text */
-    DN_COOKIE_BAD_BYTE = 31, /* behind the cookie stands what is no line end and no space */
+    DN_NAME_BAD_AT = 23,    /* a name has not exactly one @, or nothing before or after it */
+    DN_COOKIE_EMPTY = 30,   /* the text does not begin with a cookie */
+    DN_COOKIE_BAD_BYTE = 31, /* the cookie is followed by something other than line ends and spaces */
     DN_COOKIE_TOO_LONG = 32, /* the cookie has more than 255 bytes, or its text more than 4,096 */
     DN_EPMD_MALFORMED = 40, /* the bytes are no such message, or it has no spelling, being too long */
     DN_EPMD_SHORT = 41,     /* the message ends inside a field: read on to the end of the connection */
-    DN_EPMD_TRAILING = 42,  /* bytes stand behind the message */
-    DN_HALF_FLAGS = 50      /* a setup announces DFLAG_MANDATORY_25_DIGEST without the flags that it stands for */
+    DN_EPMD_TRAILING = 42,  /* bytes follow the message */
+    DN_HALF_FLAGS = 50      /* a setup announces DFLAG_MANDATORY_25_DIGEST without the flags that it means */
 } dn_code;
 
 /* Why an end is closed. The caller tells a loss with one of the first five or with DN_WHY_NO_MEMORY. */
@@ -109,7 +109,7 @@ typedef enum dn_status {
     DN_STATUS_FALSE = 7            /* false: it is not */
 } dn_status;
 
-/* How an end stands: what it awaits of the other side, where it is open and not up. */
+/* The state of an end: what it awaits of the other side, if it is open and not up. */
 typedef enum dn_phase {
     DN_PHASE_NONE = 0,            /* the number was never given out */
     DN_PHASE_CLOSED = 1,
@@ -135,19 +135,19 @@ typedef enum dn_state {
     DN_STATE_CHALLENGED = 4 /* one that is up, and one that was accepted, on which the peer came anew and which is not up */
 } dn_state;
 
-/* What a node is set up with, beside its name and its cookie. Fields that are 0 have their usual values. */
+/* What a node is set up with, apart from its name and its cookie. Fields that are 0 have their usual values. */
 typedef struct dn_setup {
     uint64_t flags;          /* that it announces; those of the handshake's version are added and removed as they must be */
-    uint64_t required;       /* that it asks of a peer, beside those of the version */
+    uint64_t required;       /* that it requires of a peer, in addition to those of the version */
     uint32_t creation;       /* the number of this incarnation, as the port mapper answered it */
-    uint32_t version;        /* the highest version of the handshake that it knows: 5 or 6; 0 stands for 6 */
+    uint32_t version;        /* the highest version of the handshake that it knows: 5 or 6; 0 means 6 */
     uint32_t limited;        /* not 0: only peers that dn_node_allow lets in may connect */
-    uint32_t most_ends;      /* that it ever gives out, closed ones counted too; 0 stands for 4,294,967,295 */
-    uint64_t most_steps;     /* that it makes, losses not counted; 0 stands for 2^64 - 1 */
-    uint32_t most_entries;   /* peers with which it has or makes a connection at one time; 0 stands for 65,536 */
-    uint32_t most_open_ends; /* ends that are open at one time; 0 stands for 65,536. Where most_entries is no less, a newcomer
+    uint32_t most_ends;      /* that it ever gives out, closed ones counted too; 0 means 4,294,967,295 */
+    uint64_t most_steps;     /* that it makes, losses not counted; 0 means 2^64 - 1 */
+    uint32_t most_entries;   /* peers with which it has or makes a connection at one time; 0 means 65,536 */
+    uint32_t most_open_ends; /* ends that are open at one time; 0 means 65,536. If most_entries is no less, a newcomer
                                 finds room as long as some open end is not up */
-    uint64_t mandatory_25;   /* the flags that DFLAG_MANDATORY_25_DIGEST stands for: DN_MANDATORY_25, or 0 for none */
+    uint64_t mandatory_25;   /* the flags that DFLAG_MANDATORY_25_DIGEST means: DN_MANDATORY_25, or 0 for none */
 } dn_setup;
 
 /* DFLAG_MANDATORY_25_DIGEST, 0x4000000, in the flags of a peer: OTP 25 and later read it as the flags that they ask for
@@ -156,8 +156,8 @@ typedef struct dn_setup {
  * where the digest is among the flags of a name or a challenge that comes, those of mandatory_25 are added to them before
  * anything else is done with them: the lower 32 bits alone, where the name or the challenge is an older one and has no more.
  *
- * What came is then read as what it stands for, and the common flags that are told are those that this node announced and that
- * were read so. They are the same on both sides where a node that announces the digest also announces what it stands for, as
+ * The digest is then read as what it means, and the common flags that are reported are those that this node announced and that
+ * were read so. They are the same on both sides if a node that announces the digest also announces what it means, as
  * every release up to 29 does, and as every node of this library does: dn_node_new refuses another setup as DN_HALF_FLAGS,
  * whatever its own mandatory_25 is, and a mandatory_25 that is neither DN_MANDATORY_25 nor 0. So the digest changes nothing between
  * nodes of this library, which agree as the theorem says. */
@@ -201,7 +201,7 @@ typedef struct dn_end {
 
 /* ---- a node is made, and let go */
 
-/* Makes a node without ends. The name is `alive@host`, at most 255 bytes, with no 0 behind. The cookie is a text as the file
+/* Makes a node without ends. The name is `alive@host`, at most 255 bytes, without a 0 at the end. The cookie is a text as the file
  * .erlang.cookie has it: 1 to 255 bytes from 0x20 to 0x7E, and then line ends or spaces alone; it is the one for every peer
  * that has no cookie of its own.
  * Errors: DN_IN_USE, DN_NO_SUCH (the version), DN_NAME_*, DN_COOKIE_*, DN_HALF_FLAGS (the flags that it announces, or a
@@ -264,8 +264,8 @@ uint32_t dn_node_usual_cookie(dn_node *node, const uint8_t *cookie, size_t cooki
  * there is none the oldest of all that are not up. So connections on which nothing is said, however many are held or made, take
  * no place from a handshake that has begun; peers that say names and show no cookie can still give each other, and a handshake
  * that goes on, no longer than it takes for as many names to come as there are ends. reply->closed is DN_WHY_GAVE_UP then, and
- * reply->closed_id that end, whose connection is to be closed; it has nothing to say. Both are told with every code, and are 0
- * where no end was given up: so look at reply->closed also where the newcomer itself is refused, as by DN_NO_MEMORY.
+ * reply->closed_id that end, whose connection is to be closed; it has nothing to say. Both are reported with every code, and are 0
+ * if no end was given up: so look at reply->closed also if the newcomer itself is refused, as by DN_NO_MEMORY.
  *
  * A peer that is up is never given up for a newcomer. DN_FULL is left where all open ends are up; and, where most_entries is
  * less than most_open_ends, where it is used up by peers that are up or that hold a later end than the one given up. */
@@ -318,7 +318,7 @@ uint32_t dn_node_lost(dn_node *node, uint32_t id, uint32_t why, dn_reply *reply)
  * Errors: DN_NOT_A_NODE, DN_NO_SUCH_END, DN_GONE, DN_WRONG_PHASE (it is not up), DN_SPENT, DN_NO_MEMORY. */
 uint32_t dn_node_tick(dn_node *node, uint32_t id, dn_reply *reply);
 
-/* Forgets why the ends below this number were closed: their cause is told as DN_WHY_ENDED from now on. They answer DN_GONE as
+/* Forgets why the ends below this number were closed: from now on their cause is reported as DN_WHY_ENDED. They answer DN_GONE as
  * ever, no number is given out twice, and what is open stays as it is, whatever its number. This is no step: it isn't counted,
  * and the reply that dn_node_say copies stays. It needs no memory, and gives back what was kept of those ends: a node that
  * calls it from time to time, as with the number of its newest end, keeps the memory of its open ends, however many there
@@ -341,7 +341,7 @@ uint32_t dn_node_say_body(dn_node *node, size_t place, uint8_t *room, size_t roo
 
 /* The status that the newest step says, and the one that it heard, in the frame that it took: each a dn_status. So it is known
  * why a peer said no where an end was closed with DN_WHY_STATUS_REFUSED: it heard DN_STATUS_NOK, of a peer whose own attempt
- * goes on, DN_STATUS_NOT_ALLOWED, or DN_STATUS_FALSE. A status is told that either side can say; one of the wrong side closes
+ * goes on, DN_STATUS_NOT_ALLOWED, or DN_STATUS_FALSE. A status that either side can say is reported; one of the wrong side closes
  * its end with DN_WHY_MALFORMED. Both are DN_STATUS_NONE before the first step.
  * Errors: DN_NOT_A_NODE. */
 uint32_t dn_node_status(dn_node *node, uint32_t *said, uint32_t *heard);
@@ -367,8 +367,8 @@ uint32_t dn_node_ready_body(dn_node *node, uint32_t id, const uint8_t *body, siz
  * Errors: DN_NOT_A_NODE, DN_NAME_*, DN_NO_MEMORY. */
 uint32_t dn_node_entry(dn_node *node, const uint8_t *peer, size_t peer_len, dn_entry *entry);
 
-/* How an end stands, and the name of its peer, also before it is up: which peer an end would let in; or, before dn_node_lost,
- * how far its handshake came. The name is copied to the room, which 255 bytes fill at most, and the rest is told also beside
+/* The state of an end, and the name of its peer, also before it is up: which peer an end would let in; or, before dn_node_lost,
+ * how far its handshake came. The name is copied to the room, which 255 bytes fill at most; the rest is reported also with
  * DN_NO_ROOM.
  * Errors: DN_NOT_A_NODE, DN_NO_ROOM. */
 uint32_t dn_node_end(dn_node *node, uint32_t id, dn_end *end, uint8_t *room, size_t room_len);
@@ -379,16 +379,16 @@ uint32_t dn_node_end(dn_node *node, uint32_t id, dn_end *end, uint8_t *room, siz
 uint32_t dn_node_oldest(dn_node *node, uint32_t *id);
 
 /* The peer at a place among those that are up, in the order of their names, from 0 on; and the peer that is up on an end. The
- * name is copied to the room, which 255 bytes fill at most, and the rest is told also beside DN_NO_ROOM.
+ * name is copied to the room, which 255 bytes fill at most; the rest is reported also with DN_NO_ROOM.
  * Errors: DN_NOT_A_NODE, DN_NO_SUCH, DN_NO_ROOM. */
 uint32_t dn_node_peer_at(dn_node *node, size_t place, dn_peer *peer, uint8_t *room, size_t room_len);
 uint32_t dn_node_peer_of(dn_node *node, uint32_t id, dn_peer *peer, uint8_t *room, size_t room_len);
 
-/* The peer that is up and comes next behind this name, in the order of names, whether or not the name is known; the first of all
+/* The peer that is up and comes next after this name, in the order of names, whether or not the name is known; the first of all
  * where name_len is 0. Called again with the name that it found, it goes through all peers, and each call searches the table once:
  * dn_node_peer_at walks the table from its beginning each time. A peer that comes up or is lost in between is met or not. The room
  * is another one than the name's.
- * Errors: DN_NOT_A_NODE, DN_NAME_*, DN_NO_MEMORY, DN_NO_SUCH (no peer is behind), DN_NO_ROOM. */
+ * Errors: DN_NOT_A_NODE, DN_NAME_*, DN_NO_MEMORY, DN_NO_SUCH (no peer comes after it), DN_NO_ROOM. */
 uint32_t dn_node_next_peer(dn_node *node, const uint8_t *name, size_t name_len, dn_peer *peer, uint8_t *room, size_t room_len);
 
 /* The digest of a challenge under a cookie's text: MD5 of the cookie and of the challenge in decimal digits.
@@ -437,8 +437,8 @@ typedef struct dn_registry {
 /* What became of a request. */
 typedef struct dn_served {
     size_t taken;        /* how many bytes of those given were taken */
-    uint32_t registered; /* 1: the connection is to be kept, and dn_registry_closed told of its end; else it is to be closed
-                            once the answer was written */
+    uint32_t registered; /* 1: keep the connection, and report its end by dn_registry_closed; else close it once the answer
+                            was written */
 } dn_served;
 
 /* Makes a registry without nodes, of the port mapper at this port. The first node that is accepted gets the creation `first`,
@@ -467,7 +467,7 @@ uint32_t dn_registry_say(dn_registry *registry, uint8_t *room, size_t room_len, 
  * Errors: DN_NOT_A_NODE. */
 uint32_t dn_registry_closed(dn_registry *registry, uint64_t connection);
 
-/* ---- words, for messages: ASCII, with no 0 behind; 16 bytes of room are enough for any */
+/* ---- words, for messages: ASCII, without a 0 at the end; 16 bytes of room are enough for any */
 
 /* The word of a code, as `NoMemory`, and `Unknown` where there is none. Errors: DN_NO_ROOM (*len is the length). */
 uint32_t dn_code_name(uint32_t code, uint8_t *room, size_t room_len, size_t *len);

@@ -10,7 +10,7 @@ type Code uint32
 const (
 	NotANode   Code = C.DN_NOT_A_NODE  // it was let go
 	NoMemory   Code = C.DN_NO_MEMORY   // the same call does its work once there is some
-	Awaits     Code = C.DN_AWAITS      // no whole frame stands at the front: call again with these bytes and those that follow
+	Awaits     Code = C.DN_AWAITS      // the bytes begin with no whole frame: call again with these and those that follow
 	NoSuch     Code = C.DN_NO_SUCH     // a cause, a place or a version names nothing
 	TooLong    Code = C.DN_TOO_LONG    // a body has more than 65,535 bytes, and no frame can have it
 	PeerInUse  Code = C.DN_PEER_IN_USE // a peer that is up would get another cookie
@@ -22,7 +22,7 @@ const (
 	Full       Code = C.DN_FULL        // the ends that may be open are up, or no entry or no cookie is left
 	OpenEnds   Code = C.DN_OPEN_ENDS   // an end is open, and the node does not begin anew
 	ShownEnd   Code = C.DN_SHOWN_END   // an end that is up would be closed, and has to be lost first
-	HalfFlags  Code = C.DN_HALF_FLAGS  // a setup announces DFLAG_MANDATORY_25_DIGEST without the flags that it stands for
+	HalfFlags  Code = C.DN_HALF_FLAGS  // a setup announces DFLAG_MANDATORY_25_DIGEST without the flags that it means
 )
 
 // Error is the code's word, as NoMemory.

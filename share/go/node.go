@@ -18,21 +18,21 @@ const longestName = 255
 // bodyRoom is more than the longest frame that a node says.
 const bodyRoom = 1024
 
-// Mandatory25 has the flags that DFLAG_MANDATORY_25_DIGEST stands for, as OTP 25 and later read it.
+// Mandatory25 has the flags that DFLAG_MANDATORY_25_DIGEST means, as OTP 25 and later read it.
 const Mandatory25 = C.DN_MANDATORY_25
 
-// Setup is what a node is set up with, beside its name and its cookie. Fields that are 0 have their usual values.
+// Setup is what a node is set up with, apart from its name and its cookie. Fields that are 0 have their usual values.
 type Setup struct {
 	Flags        uint64 // that it announces; those of the handshake's version are added and removed as they must be
-	Required     uint64 // that it asks of a peer, beside those of the version
+	Required     uint64 // that it requires of a peer, in addition to those of the version
 	Creation     uint32 // the number of this incarnation, as the port mapper answered it
-	Version      uint32 // the highest version of the handshake that it knows: 5 or 6; 0 stands for 6
+	Version      uint32 // the highest version of the handshake that it knows: 5 or 6; 0 means 6
 	Limited      bool   // only peers that Allow names may connect
-	MostEnds     uint32 // that it ever gives out; 0 stands for 4,294,967,295
-	MostSteps    uint64 // that it makes, losses not counted; 0 stands for 2^64 - 1
-	MostEntries  uint32 // peers with which it has or makes a connection at one time; 0 stands for 65,536
-	MostOpenEnds uint32 // ends that are open at one time; 0 stands for 65,536. A newcomer finds room as long as one is not up
-	Mandatory25  uint64 // the flags that DFLAG_MANDATORY_25_DIGEST of a peer stands for: Mandatory25, or 0 for none
+	MostEnds     uint32 // that it ever gives out; 0 means 4,294,967,295
+	MostSteps    uint64 // that it makes, losses not counted; 0 means 2^64 - 1
+	MostEntries  uint32 // peers with which it has or makes a connection at one time; 0 means 65,536
+	MostOpenEnds uint32 // ends that are open at one time; 0 means 65,536. A newcomer finds room as long as one is not up
+	Mandatory25  uint64 // the flags that DFLAG_MANDATORY_25_DIGEST of a peer means: Mandatory25, or 0 for none
 }
 
 // Reply is what a step did; of Ready and ReadyBody, what it would do.
@@ -149,7 +149,7 @@ func (n *Node) SetUsualCookie(cookie []byte) error {
 }
 
 // replied makes a call and reads its reply but for what it says, and how many bytes those are. An end that made room is reported
-// beside an error too.
+// with an error too.
 func (n *Node) replied(call func(reply *C.dn_reply) C.uint32_t) (Reply, int, error) {
 	if n.node == nil {
 		return Reply{}, 0, NotANode
@@ -177,7 +177,7 @@ func (n *Node) step(call func(reply *C.dn_reply) C.uint32_t) (Reply, error) {
 }
 
 // Dial reports that the node is to connect to this peer: the reply has a new end. Closed and Other name an end that was given up
-// to make room, beside an error too. isNew opens by the name N of version 6, else by n.
+// to make room, with an error too. isNew opens by the name N of version 6, else by n.
 func (n *Node) Dial(peer []byte, isNew bool) (Reply, error) {
 	name, length := bytesOf(peer)
 	return n.step(func(reply *C.dn_reply) C.uint32_t { return C.dn_node_dial(n.node, name, length, number(isNew), reply) })
@@ -189,7 +189,7 @@ func (n *Node) Opened(end uint32) (Reply, error) {
 }
 
 // Incoming reports that a connection was accepted: the reply has a new end. Closed and Other name an end that was given up to
-// make room, beside an error too.
+// make room, with an error too.
 func (n *Node) Incoming() (Reply, error) {
 	return n.step(func(reply *C.dn_reply) C.uint32_t { return C.dn_node_incoming(n.node, reply) })
 }

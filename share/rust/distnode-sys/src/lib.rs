@@ -119,7 +119,7 @@ pub struct dn_setup {
     pub mandatory_25: u64,
 }
 
-/// The flags that `DFLAG_MANDATORY_25_DIGEST` stands for, as OTP 25 and later read it.
+/// The flags that `DFLAG_MANDATORY_25_DIGEST` means, as OTP 25 and later read it.
 pub const DN_MANDATORY_25: u64 = 0x1070f94;
 
 /// What a step did.

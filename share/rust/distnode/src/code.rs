@@ -34,7 +34,7 @@ impl Error {
     pub const OPEN_ENDS: Self = Self(sys::DN_OPEN_ENDS);
     /// An end that is up would be closed, and has to be lost first.
     pub const SHOWN_END: Self = Self(sys::DN_SHOWN_END);
-    /// A setup announces `DFLAG_MANDATORY_25_DIGEST` without the flags that it stands for.
+    /// A setup announces `DFLAG_MANDATORY_25_DIGEST` without the flags that it means.
     pub const HALF_FLAGS: Self = Self(sys::DN_HALF_FLAGS);
 
     /// The code's number in the header.

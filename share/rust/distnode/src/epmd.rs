@@ -31,7 +31,7 @@ pub fn alive_request(info: &Info, alive: &[u8]) -> Result<Vec<u8>, Error> {
         node_type: info.node_type,
         protocol: 0,
     };
-    // SAFETY: each pointer leads to so many bytes as is said beside it.
+    // SAFETY: each pointer leads to as many bytes as its length says.
     copied(ROOM, |room, len| unsafe {
         sys::dn_epmd_alive_request(
             &info,

@@ -10,29 +10,29 @@ const LONGEST_NAME: usize = 255;
 /// The longest frame that a node says is shorter.
 const BODY_ROOM: usize = 1024;
 
-/// What a node is set up with, beside its name and its cookie. Fields that are 0 have their usual values.
+/// What a node is set up with, apart from its name and its cookie. Fields that are 0 have their usual values.
 #[derive(Clone, Copy, Debug, Default)]
 pub struct Setup {
     /// What it announces; the flags of the handshake's version are added and removed as they must be.
     pub flags: u64,
-    /// What it asks of a peer, beside those of the version.
+    /// What it requires of a peer, in addition to those of the version.
     pub required: u64,
     /// The number of this incarnation, as the port mapper answered it.
     pub creation: u32,
-    /// The highest version of the handshake that it knows: 5 or 6; 0 stands for 6.
+    /// The highest version of the handshake that it knows: 5 or 6; 0 means 6.
     pub version: u32,
     /// Only peers that `allow` names may connect.
     pub limited: bool,
-    /// The most ends that it ever gives out; 0 stands for 4,294,967,295.
+    /// The most ends that it ever gives out; 0 means 4,294,967,295.
     pub most_ends: u32,
-    /// The most steps that it makes, losses not counted; 0 stands for 2^64 - 1.
+    /// The most steps that it makes, losses not counted; 0 means 2^64 - 1.
     pub most_steps: u64,
-    /// The most peers with which it has or makes a connection at one time; 0 stands for 65,536.
+    /// The most peers with which it has or makes a connection at one time; 0 means 65,536.
     pub most_entries: u32,
-    /// The most ends that are open at one time; 0 stands for 65,536. Beyond them a newcomer finds room as long as one is not
+    /// The most ends that are open at one time; 0 means 65,536. Beyond them a newcomer finds room as long as one is not
     /// up.
     pub most_open_ends: u32,
-    /// The flags that `DFLAG_MANDATORY_25_DIGEST` of a peer stands for: [`crate::MANDATORY_25`], or 0 for none.
+    /// The flags that `DFLAG_MANDATORY_25_DIGEST` of a peer means: [`crate::MANDATORY_25`], or 0 for none.
     pub mandatory_25: u64,
 }
 
@@ -118,7 +118,7 @@ impl Node {
         let setup = setup.as_given();
         // (name and cookie may be the caller's same bytes, which no two pointers of a call lead to)
         let cookie = cookie.to_vec();
-        // SAFETY: the node is all zero, and each pointer leads to so many bytes as is said beside it.
+        // SAFETY: the node is all zero, and each pointer leads to as many bytes as its length says.
         done(unsafe {
             sys::dn_node_new(
                 &mut *node,
