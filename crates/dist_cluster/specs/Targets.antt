@@ -35,8 +35,14 @@ abbrev pub Names : Result (List ℕ) NameError → List ℕ → Type 0
 Names (Ok name) bytes = name_of_bytes bytes ≡ Ok name
 Names (Err error) bytes = RefusedOr (is_name_memory_error error) error (name_of_bytes bytes)
 
+-- the same for a group
+abbrev pub NamesGroup : Result Group NameError → List ℕ → Type 0
+NamesGroup (Ok group) bytes = name_of_bytes bytes ≡ Ok group.own
+NamesGroup (Err error) bytes = RefusedOr (is_name_memory_error error) error (name_of_bytes bytes)
+
 -- the same for a target, which is a group or a node
 abbrev pub NamesTarget : Result Target NameError → List ℕ → Bool → Type 0
 NamesTarget (Ok (target.Node name)) bytes is_group = (name_of_bytes bytes ≡ Ok name) × (is_group ≡ false)
 NamesTarget (Ok (target.Group group)) bytes is_group = (name_of_bytes bytes ≡ Ok group.own) × (is_group ≡ true)
+NamesTarget (Ok (target.Service service)) bytes is_group = ⊥
 NamesTarget (Err error) bytes is_group = RefusedOr (is_name_memory_error error) error (name_of_bytes bytes)

@@ -27,6 +27,6 @@ pub use name_lines::name_in_line;
 pub use pairs::{AddressKinds, Half, Pairing, pairing_of};
 pub use statuses::first_of;
 pub use summary::{Summary, WordCount};
-pub use targets::{Group, MOST_NODES, Target, USUAL, target_of, word_in};
+pub use targets::{Group, MOST_NODES, ServiceName, Target, USUAL, group_of, target_of, word_in};
 pub use watch::Watch;
 pub use watch_error::WatchError;

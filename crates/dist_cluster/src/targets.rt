@@ -3,9 +3,9 @@
 ghost use Rattle.std.specs.Prelude.{◌≡◌, ◌∷◌, ◌++◌, true, false};
 ghost use Rattle.std.specs.{List.before_first, List.position, List.position_or_len, Str.IsTrimAscii};
 ghost use Rattle.dist_names.specs.NodeName.{host_of};
-ghost use Rattle.dist_cluster.specs.Targets.{Names, NamesTarget, begins_with_at, group_word, is_hash, name_behind, usual_prefix};
+ghost use Rattle.dist_cluster.specs.Targets.{Names, NamesGroup, NamesTarget, begins_with_at, group_word, is_hash, name_behind, usual_prefix};
 
-use dist_names::{NameError, NodeName};
+use dist_names::{ByteString, NameError, NodeName};
 use std::alloc::Global;
 
 /// The most nodes that are dialled in one run, since each two of them are compared. Our own choice.
@@ -21,6 +21,8 @@ pub enum Target {
     Node(NodeName),
     /// Each node that the port mapper of a host knows.
     Group(Group),
+    /// What stands at each address of a name.
+    Service(ServiceName),
 }
 
 /// Each node that the port mapper of a host knows, `@HOST`.
@@ -51,6 +53,29 @@ impl Group {
     }
 }
 
+/// What stands at each address of a name, as nodes are named that find each other by a name server: `SHORT@ADDRESS`, or all nodes of each
+/// address.
+#[derive(Drop)]
+pub struct ServiceName {
+    /// What stands before the `@` of each node's name. It is empty for each node that the port mapper of an address knows.
+    pub short: ByteString,
+    /// The name, as a group.
+    pub group: Group,
+}
+
+impl ServiceName {
+    /// What stands at an address: the node `SHORT@ADDRESS`, or `@ADDRESS`.
+    pub fn member(&self, alloc: Global, address: &[u8]) -> Result<Target, NameError>
+        ensures { let word = self.now.short ++ 0x40 ∷ address.now in NamesTarget result (name_behind word) (begins_with_at word) }
+    {
+        let mut back = Vec::from_slice(alloc, b"@")?;
+        back.extend_from_slice(address)?;
+        let mut word = Vec::from_slice(alloc, self.short.as_slice())?;
+        word.extend_from_slice(&back)?;
+        target_of(alloc, &word)
+    }
+}
+
 // The name that these two pieces make, one behind the other.
 #[tactic(auto, using(crate::proofs::Naming::named))]
 fn name_of_parts(alloc: Global, front: &[u8], back: &[u8]) -> Result<NodeName, NameError>
@@ -68,12 +93,12 @@ fn begins_with_at(word: &[u8]) -> bool
     matches!(word, [b'@', ..])
 }
 
-// All nodes of the host that a word names.
-fn group_of(alloc: Global, word: &[u8]) -> Result<Target, NameError>
-    ensures { NamesTarget result (usual_prefix ++ word.now) true }
+/// The group of the host that a word names, `@HOST`.
+pub fn group_of(alloc: Global, word: &[u8]) -> Result<Group, NameError>
+    ensures { NamesGroup result (usual_prefix ++ word.now) }
 {
     let own = name_of_parts(alloc, USUAL, word)?;
-    Ok(Target::Group(Group { own }))
+    Ok(Group { own })
 }
 
 #[tactic(auto, using(crate::proofs::Naming::named))]
@@ -90,7 +115,7 @@ pub fn target_of(alloc: Global, word: &[u8]) -> Result<Target, NameError>
     ensures { NamesTarget result (name_behind word.now) (begins_with_at word.now) }
 {
     if begins_with_at(word) {
-        group_of(alloc, word)
+        Ok(Target::Group(group_of(alloc, word)?))
     } else {
         named_node(alloc, word)
     }

@@ -133,15 +133,20 @@ abbrev pub due_verdict : Terms → Handshake → AwaitedMessage → HandshakeVer
 due_verdict t h due =
     if is_missing (side_of due) h.missing then unfinished_verdict h else ended_verdict t (opener h.dialler.items) due h.ending
 
+-- it was made, and ended at once behind that: of a probe that dials that is no fault
+abbrev pub ended_at_once : Viewpoint → List ℕ → HandshakeVerdict
+ended_at_once viewpoint.Dialler own = verdict.Dropped
+ended_at_once other own = if is_probe_name own then verdict.Up else verdict.Dropped
+
 -- it was made; a side that took part sees whether the connection ended at once behind that
-abbrev pub made_verdict : Viewpoint → Option HandshakeEnd → HandshakeVerdict
-made_verdict viewpoint.Capture e = verdict.Up
-made_verdict other None = verdict.Up
-made_verdict other (Some e) = verdict.Dropped
+abbrev pub made_verdict : Viewpoint → List ℕ → Option HandshakeEnd → HandshakeVerdict
+made_verdict viewpoint.Capture own e = verdict.Up
+made_verdict other own None = verdict.Up
+made_verdict other own (Some e) = ended_at_once other own
 
 abbrev pub standing_verdict : Terms → Handshake → Standing → HandshakeVerdict
 standing_verdict t h (Due due) = due_verdict t h due
-standing_verdict t h (Decided verdict.Up) = made_verdict t.viewpoint h.ending
+standing_verdict t h (Decided verdict.Up) = made_verdict t.viewpoint (opener h.dialler.items) h.ending
 standing_verdict t h (Decided other) = other
 
 -- WHAT IT CAME TO

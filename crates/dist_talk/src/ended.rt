@@ -1,7 +1,7 @@
 //! What a handshake came to, with the way in which it ended.
 
 ghost use Rattle.std.specs.Prelude.{◌≡◌};
-ghost use Rattle.dist_talk.specs.Ended.{closed_verdict, due_verdict, ended_verdict, has_ack, has_reply, is_closed, is_missing, left_verdict};
+ghost use Rattle.dist_talk.specs.Ended.{closed_verdict, due_verdict, ended_at_once, ended_verdict, has_ack, has_reply, is_closed, is_missing, left_verdict};
 ghost use Rattle.dist_talk.specs.Ended.{opener, probe_verdict, reset_verdict, turn_verdict, unfinished_verdict, verdict_of, without_beginning};
 
 use crate::handshake::{Handshake, HandshakeEnd, HowEnded, SentMessage};
@@ -41,6 +41,16 @@ fn left_verdict(terms: &Terms<'_>, own: &[u8]) -> HandshakeVerdict
         Viewpoint::Dialler => probe_verdict(terms, own),
         _ if is_probe_name(own) => HandshakeVerdict::Stopped,
         _ => HandshakeVerdict::Left,
+    }
+}
+
+// The handshake was made, and the connection ended at once behind that, as a probe that dials ends it.
+fn ended_at_once(viewpoint: Viewpoint, own: &[u8]) -> HandshakeVerdict
+    ensures { result ≡ ended_at_once viewpoint own.now }
+{
+    match viewpoint {
+        Viewpoint::Acceptor | Viewpoint::Capture if is_probe_name(own) => HandshakeVerdict::Up,
+        _ => HandshakeVerdict::Dropped,
     }
 }
 
@@ -173,7 +183,7 @@ impl Handshake {
     /// What it came to.
     ///
     /// `Up` needs both digests to be those of the cookie that is known. A side that took part sees `Dropped` if the connection ended at
-    /// once behind that. In a capture bytes may be missing: what depends on them is not judged.
+    /// once behind that, unless a probe dialled. In a capture bytes may be missing: what depends on them is not judged.
     pub fn verdict(&self, terms: &Terms<'_>) -> HandshakeVerdict
         ensures { result ≡ verdict_of terms.now self.now }
     {
@@ -186,7 +196,7 @@ impl Handshake {
                 Standing::Decided(HandshakeVerdict::Up),
                 Viewpoint::Dialler | Viewpoint::Acceptor,
                 Some(_),
-            ) => HandshakeVerdict::Dropped,
+            ) => ended_at_once(terms.viewpoint, opener(&self.dialler)),
             (Standing::Decided(verdict), _, _) => verdict,
         }
     }

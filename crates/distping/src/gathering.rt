@@ -6,20 +6,21 @@ ghost use Rattle.dist_talk.specs.Words.{status_of};
 
 use crate::common::Context;
 use crate::grouping::is_among;
-use crate::links::{Names, ask_census, no_dial};
+use crate::links::{Names, ask_census, no_dial, no_host};
 use crate::nodes::Nodes;
-use dist_cluster::{Group, Target, first_of, name_in_line};
+use dist_cluster::{Group, ServiceName, Target, first_of, name_in_line};
 use dist_names::{NameError, NodeName};
 use dist_program::Resolving;
 use dist_talk::HandshakeVerdict;
 use distping_report::{LeftOut, LineSink, MOST_SHOWN, ProbeOutcome};
-use distping_words::{Fault, Wanted};
+use distping_words::Fault;
+use std::net::SocketAddr;
 
 // Whether the command line, or the file, names this node itself.
 fn is_named(targets: &[Target], node: &NodeName) -> bool {
     targets.iter().any(|target| match target {
         Target::Node(name) => name.is_same(node),
-        Target::Group(_) => false,
+        Target::Group(_) | Target::Service(_) => false,
     })
 }
 
@@ -27,7 +28,9 @@ fn is_named(targets: &[Target], node: &NodeName) -> bool {
 #[derive(Drop)]
 struct Gathering<'a> {
     lines: LineSink<'a>,
-    wanted: &'a Wanted<'a>,
+    // What is named itself.
+    targets: &'a [Target],
+    mapper_port: u16,
     group: &'a Group,
     // How many lines name a node.
     named: u32,
@@ -51,7 +54,7 @@ impl Gathering<'_> {
     // Adds a node, unless it is there already, or there are enough.
     fn push_new(&mut self, nodes: &mut Nodes, node: NodeName) -> Result<(), Fault> {
         self.named = self.named.saturating_add(1);
-        if is_among(&nodes.names, &node) || is_named(&self.wanted.targets, &node) {
+        if is_among(&nodes.names, &node) || is_named(self.targets, &node) {
             return Ok(());
         }
         if nodes.is_full() {
@@ -97,20 +100,21 @@ impl Gathering<'_> {
             let verdict = HandshakeVerdict::NotRegistered;
             return self.put_nobody(&no_dial(lines.alloc, Some(names.address), verdict));
         }
-        lines.put_known(self.wanted.choices.mapper_port, self.named)?;
+        lines.put_known(self.mapper_port, self.named)?;
         Ok(self.left_out.status())
     }
 }
 
 // Asks the port mapper of a host for its nodes, and returns the status.
-fn ask_group<'x, R: Resolving>(
-    context: &Context<'x, R>,
-    group: &'x Group,
+fn ask_group<'g, R: Resolving>(
+    context: &'g Context<'_, R>,
+    group: &'g Group,
     nodes: &mut Nodes,
 ) -> Result<u8, Fault> {
     let mut gathering = Gathering {
         lines: context.screen(),
-        wanted: context.wanted,
+        targets: &context.wanted.targets,
+        mapper_port: context.wanted.choices.mapper_port,
         group,
         named: 0,
         shown: 0,
@@ -128,6 +132,62 @@ fn ask_group<'x, R: Resolving>(
     }
 }
 
+// Adds a node that is not there yet.
+fn push_node(nodes: &mut Nodes, node: NodeName) -> Result<(), Fault> {
+    if is_among(&nodes.names, &node) {
+        return Ok(());
+    }
+    if nodes.is_full() {
+        return Err(Fault::TooManyNodes);
+    }
+    Ok(nodes.push(node)?)
+}
+
+// Adds what stands at an address of a service, and returns the status.
+fn take_member<'x, R: Resolving>(
+    context: &Context<'x, R>,
+    service: &ServiceName,
+    address: &SocketAddr,
+    nodes: &mut Nodes,
+) -> Result<u8, Fault> {
+    let alloc = context.rt.alloc();
+    let text = format!(in alloc; "{}", address.ip())?;
+    match service.member(alloc, text.as_bytes()) {
+        Ok(Target::Node(node)) => {
+            push_node(nodes, node)?;
+            Ok(0)
+        }
+        Ok(Target::Group(group)) => ask_group(context, &group, nodes),
+        Ok(Target::Service(_)) => Ok(0),
+        Err(NameError::NoMemory) => Err(Fault::NoMemory),
+        Err(_) => Err(Fault::BadName),
+    }
+}
+
+// Adds what stands at each address of a service, and returns the status: if it has no address, that of its name.
+fn ask_service<'x, R: Resolving>(
+    context: &Context<'x, R>,
+    service: &'x ServiceName,
+    nodes: &mut Nodes,
+) -> Result<u8, Fault> {
+    let group = &service.group;
+    let addresses = match context.addresses(&group.own) {
+        Ok(addresses) => addresses,
+        Err(error) => {
+            let lines = context.screen();
+            lines.put_heading(group.word())?;
+            let outcome = no_host(lines.alloc, &context.wanted.choices, error);
+            lines.put_nobody(group, &outcome)?;
+            return Ok(outcome.verdict.status());
+        }
+    };
+    let mut status = 0;
+    for address in &addresses {
+        status = first_of(status, take_member(context, service, address, nodes)?);
+    }
+    Ok(status)
+}
+
 // Adds the nodes of a target, and returns the status.
 fn take_target<'x, R: Resolving>(
     context: &Context<'x, R>,
@@ -143,6 +203,7 @@ fn take_target<'x, R: Resolving>(
             Ok(0)
         }
         Target::Group(group) => ask_group(context, group, nodes),
+        Target::Service(service) => ask_service(context, service, nodes),
     }
 }
 

@@ -18,6 +18,6 @@ mod waiting;
 
 pub use listening::take_connection;
 pub use mapper::Names;
-pub use outcomes::no_dial;
+pub use outcomes::{no_dial, no_host};
 pub use own_setup::{draw_challenge, setup_of};
 pub use probing::{Census, ask_census, probe};

@@ -42,18 +42,20 @@ use watching::watch_all;
 /// The help.
 const HELP: &str =
     "usage: distping NODE.. [--nodes FILE] [--name NAME] [--cookie FILE | --no-cookie] [--cookie-unsafe] [--flags FLAG,..|HEX]
-                [--epmd-port N] [--port N] [--address HOST] [--seconds N] [--watch SECONDS] [--count N]
-                [--all-pairs] [--json]
+                [--epmd-port N] [--port N] [--address HOST] [--tls-through P] [--seconds N]
+                [--watch SECONDS] [--count N] [--prometheus F] [--all-pairs]
+                [--quiet | --verbose] [--json]
        distping --listen PORT --name NAME [--cookie FILE | --no-cookie] [--cookie-unsafe] [--flags FLAG,..|HEX]
-                [--address HOST] [--seconds N] [--json]
+                [--address HOST] [--seconds N] [--quiet | --verbose] [--json]
        distping --capture FILE [--cookie FILE] [--cookie-unsafe] [--epmd-port N] [--json]
        distping --help | --version
 
 Dials a live Erlang node at each address of its host until it is found, reports what happens, step by step, and ends with one verdict, its cause and its remedy.
 Of several nodes it also reports what can be reported of each two of them: of more than two those pairs that have a fault, and a summary.
 
-  NODE            the node to dial, NAME@HOST, or @HOST: each node that the port mapper of that host knows
-  --nodes FILE    further nodes, one or @HOST a line, # before a comment; - is standard input
+  NODE            the node to dial, NAME@HOST, or NAME@HOST:PORT, and the port mapper is not asked; @HOST: each node that the port
+                  mapper of that host knows; NAME@dns:SERVICE, @dns:SERVICE: NAME@ADDRESS, @ADDRESS of each address of that name
+  --nodes FILE    further nodes, one of these a line, # before a comment; - is standard input
   --name NAME     the own name (distping@ and the host part of NODE)
   --cookie FILE   the file of the cookie ($HOME/.erlang.cookie)
   --no-cookie     stop at the node's challenge: no cookie is tried
@@ -62,15 +64,19 @@ Of several nodes it also reports what can be reported of each two of them: of mo
   --epmd-port N   the port of the port mapper (ERL_EPMD_PORT, else 4369)
   --port N        the node's port: the port mapper is not asked
   --address HOST  the host to connect to, in place of the host part of NODE; with --listen the one to listen at (all of this host)
+  --tls-through P the tunnel of TLS to the node, which is open at P, an ADDRESS:PORT: the port mapper is not asked
   --seconds N     the most that the look-up of the host, a connect, a lookup of the node and the talk may take each (8), at all
                   addresses of the host together; with --listen also the wait for a connection (without end)
   --listen PORT   takes one connection as the node NAME would, and reports what the other side says
   --capture FILE  reads a capture of packets (pcap or pcapng; - is standard input), and reports each handshake in it
   --watch SECONDS probes all nodes again every so many seconds, and reports what changes
   --count N       with --watch: ends after so many rounds, and reports how long the answers took
+  --prometheus F  with --watch: writes what was observed to the file F after each round, as node_exporter's textfile collector reads it
   --all-pairs     reports of each pair of more than two nodes
+  --quiet         the verdict alone
+  --verbose       the names of the node's flags, too
   --json          an object of JSON for each node, each pair, each connection taken and each one of a capture, in place of the lines
-  --help, --version
+  -h, --help, -V, --version
 
 Status: 0 up, 1 a fault here, 2 a bad command line, 3 the host's name, 4 the port mapper, 5 the registration,
 6 the node's port, 7 what listens there, 8 what the node allows, 9 the node's name, 10 the cookie,
@@ -84,6 +90,7 @@ Hosts are found by the C library; in a static program by /etc/hosts and the name
 fn main(rt: HostRuntime) -> ExitCode {
     ExitCode::from(match perform(&rt, &rt) {
         Ok(status) => status,
+        Err(Refusal::Fault(Fault::OutputClosed)) => 0,
         Err(refusal) => report(&mut rt.stderr(), "distping", &refusal, refusal.status()),
     })
 }
@@ -161,7 +168,7 @@ fn read_names(rt: &HostRuntime, wanted: &mut Wanted<'_>) -> Result<(), Refusal> 
     let Some(path) = wanted.choices.roster else {
         return Ok(());
     };
-    read_roster(rt, path, &mut wanted.targets)?;
+    read_roster(rt, path, &mut wanted.targets, &mut wanted.ports)?;
     if wanted.targets.is_empty() {
         return Err(Refusal::Fault(Fault::NoNode));
     }

@@ -10,9 +10,10 @@ use dist_names::{ByteString, NodeName};
 use dist_program::{Resolving, deadline_in};
 use dist_stream::time_left;
 use dist_talk::HandshakeVerdict;
-use distping_report::{Answers, LineSink, Seen, now_seconds};
+use distping_report::{Answers, LineSink, Seen, metrics_text, now_seconds};
 use distping_words::{Fault, Rhythm};
 use std::alloc::{AllocError, Global};
+use std::fs;
 use std::thread::{self, map_indices};
 use std::time::Instant;
 
@@ -21,9 +22,11 @@ const CHANGED: u8 = 11;
 
 // What is kept of all nodes from round to round.
 #[derive(Drop)]
-struct Course {
+struct Course<'n> {
     watch: Watch,
     latencies: Vec<Latencies>,
+    // What was observed in this round.
+    round: Vec<Seen<'n>>,
     // Whether something changed after the first round.
     has_changed: bool,
 }
@@ -37,7 +40,7 @@ fn verdict_text(alloc: Global, verdict: HandshakeVerdict) -> Result<ByteString, 
 }
 
 // A course for this many nodes, with none probed.
-fn new_course(alloc: Global, nodes: usize) -> Result<Course, AllocError> {
+fn new_course<'n>(alloc: Global, nodes: usize) -> Result<Course<'n>, AllocError> {
     let mut latencies = Vec::new(alloc);
     for _ in 0..nodes {
         latencies.push(Latencies::new(alloc))?;
@@ -45,6 +48,7 @@ fn new_course(alloc: Global, nodes: usize) -> Result<Course, AllocError> {
     Ok(Course {
         watch: Watch::new(alloc, nodes)?,
         latencies,
+        round: Vec::new(alloc),
         has_changed: false,
     })
 }
@@ -65,14 +69,15 @@ fn look_at<'n, R: Resolving>(
     })
 }
 
-impl Course {
+impl<'n> Course<'n> {
     // Takes the result of a probe, and prints it if it is a change. Keeps the time that the answer took.
     fn take_in(
         &mut self,
         lines: LineSink<'_>,
         target: usize,
-        seen: &Seen<'_>,
+        seen: &Seen<'n>,
     ) -> Result<(), Fault> {
+        self.round.push(*seen)?;
         if seen.verdict.status() == 0
             && let Some(latencies) = self.latencies.get_mut(target)
         {
@@ -106,11 +111,11 @@ fn look_at_group<'n, R: Resolving + Sync>(
 }
 
 // Probes these nodes once, group by group, and takes the results in their order. `front` is the place of the first among all nodes.
-fn play_round<R: Resolving + Sync>(
+fn play_round<'n, R: Resolving + Sync>(
     context: &Context<'_, R>,
     front: usize,
-    nodes: &[NodeName],
-    course: &mut Course,
+    nodes: &'n [NodeName],
+    course: &mut Course<'n>,
 ) -> Result<(), Fault> {
     if nodes.is_empty() {
         return Ok(());
@@ -124,12 +129,29 @@ fn play_round<R: Resolving + Sync>(
     play_round(context, target, others, course)
 }
 
+// Writes what was observed in a round to the file of `--prometheus`, if there is one: to a file beside it, which then takes its place, so
+// that it is always whole.
+fn write_metrics<R: Resolving>(context: &Context<'_, R>, round: &[Seen<'_>]) -> Result<(), Fault> {
+    let Some(path) = context.wanted.choices.metrics else {
+        return Ok(());
+    };
+    let rt = context.rt;
+    let text = metrics_text(rt.alloc(), round)?;
+    let beside = format!(in rt.alloc(); "{path}.tmp")?;
+    if fs::write(rt, beside.as_str(), text.as_bytes()).is_err()
+        || fs::rename(rt, beside.as_str(), path).is_err()
+    {
+        return Err(Fault::MetricsFailed);
+    }
+    Ok(())
+}
+
 // Prints the times that each node's answers took.
 fn put_all_answers(
     lines: LineSink<'_>,
     nodes: &[NodeName],
     rounds: u64,
-    course: &Course,
+    course: &Course<'_>,
 ) -> Result<(), Fault> {
     for (node, latencies) in nodes.iter().zip(course.latencies.iter()) {
         lines.put_answers(&Answers {
@@ -142,11 +164,11 @@ fn put_all_answers(
 }
 
 // Probes all nodes again and again, prints what changes, and at the end the times that their answers took.
-fn play_rounds<R: Resolving + Sync>(
+fn play_rounds<'n, R: Resolving + Sync>(
     context: &Context<'_, R>,
-    nodes: &[NodeName],
+    nodes: &'n [NodeName],
     rhythm: Rhythm,
-    course: &mut Course,
+    course: &mut Course<'n>,
 ) -> Result<(), Fault> {
     let rt = context.rt;
     let mut until = Instant::now(rt).ok().ok_or(Fault::NoTime)?;
@@ -154,6 +176,8 @@ fn play_rounds<R: Resolving + Sync>(
         thread::sleep(rt, time_left(rt, until));
         until = deadline_in(rt, rhythm.seconds).ok().ok_or(Fault::NoTime)?;
         play_round(context, 0, nodes, course)?;
+        write_metrics(context, &course.round)?;
+        course.round.clear();
     }
     put_all_answers(context.screen(), nodes, rhythm.rounds, course)
 }

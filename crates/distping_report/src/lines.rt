@@ -7,9 +7,9 @@ use crate::page::Page;
 use crate::piece::LinePiece::{self, Names, Number, Text};
 use crate::piece::line_of;
 use dist_names::Flags;
-use distping_words::Fault;
+use distping_words::{Choices, Detail, Fault};
 use std::alloc::{AllocError, Global};
-use std::io::{Stdout, Write};
+use std::io::{self, ErrorKind, Stdout, Write};
 
 mod many;
 mod steps;
@@ -31,8 +31,49 @@ pub struct LineSink<'p> {
     pub alloc: Global,
     /// Where they are written.
     pub out: Output<'p>,
-    /// Whether the lines of steps are left out.
+    /// Whether objects are printed in place of lines.
     pub quiet: bool,
+    // How much is printed of a probe.
+    detail: Detail,
+    // Whether the run ends once nobody reads its output. A run that ends by itself goes on to its verdict.
+    ends_when_closed: bool,
+    // Whether marks have a colour.
+    has_colors: bool,
+}
+
+// The marks at the front of a line, and each in its colour: green, red, yellow.
+const COLORS: [(&str, &str); 3] = [
+    ("✓", "\x1b[32m✓\x1b[0m"),
+    ("✗", "\x1b[31m✗\x1b[0m"),
+    ("!", "\x1b[33m!\x1b[0m"),
+];
+
+// Appends a line, with its mark in colour.
+fn push_colored(text: &mut String, line: &str) -> Result<(), AllocError> {
+    for (mark, colored) in &COLORS {
+        if let Some(rest) = line.strip_prefix(*mark) {
+            text.push_str(colored)?;
+            return text.push_str(rest);
+        }
+    }
+    text.push_str(line)
+}
+
+// The lines of a text, with their marks in colour.
+fn with_colors(alloc: Global, text: &str) -> Result<String, AllocError> {
+    let mut made = String::new(alloc);
+    for line in text.lines() {
+        push_colored(&mut made, line)?;
+        made.push('\n')?;
+    }
+    Ok(made)
+}
+
+// Prints a text at once.
+fn print(screen: Stdout, text: &str) -> io::Result<()> {
+    let mut screen = screen;
+    screen.write_all(text.as_bytes())?;
+    screen.flush()
 }
 
 impl<'p> LineSink<'p> {
@@ -44,6 +85,21 @@ impl<'p> LineSink<'p> {
             alloc: rt.alloc(),
             out: Output::Screen(rt.stdout()),
             quiet,
+            detail: Detail::Flags,
+            ends_when_closed: false,
+            has_colors: false,
+        }
+    }
+
+    /// The same for a probe; `has_colors` says whether marks have a colour.
+    pub fn for_probe(self, choices: &Choices<'_>, has_colors: bool) -> LineSink<'p>
+        ensures { result.quiet ≡ self.entry.quiet }
+    {
+        LineSink {
+            detail: choices.detail,
+            ends_when_closed: choices.watch.is_some(),
+            has_colors: has_colors && !self.quiet,
+            ..self
         }
     }
 
@@ -52,20 +108,34 @@ impl<'p> LineSink<'p> {
         ensures { result.quiet ≡ self.entry.quiet }
     {
         LineSink {
-            alloc: self.alloc,
             out: Output::Page(page),
-            quiet: self.quiet,
+            ..self
         }
     }
 
     /// Writes a text to the screen, and flushes; or to the page.
     pub fn write(self, text: &str) -> Result<(), Fault> {
         match self.out {
-            Output::Screen(mut screen) => {
-                screen.write_all(text.as_bytes())?;
-                Ok(screen.flush()?)
+            Output::Screen(screen) if self.has_colors => {
+                self.show(screen, &with_colors(self.alloc, text)?)
             }
+            Output::Screen(screen) => self.show(screen, text),
             Output::Page(page) => Ok(page.push(text)?),
+        }
+    }
+
+    // Writes a text to the screen, and flushes.
+    fn show(self, screen: Stdout, text: &str) -> Result<(), Fault> {
+        match print(screen, text) {
+            Ok(()) => Ok(()),
+            Err(error) if error.kind() == ErrorKind::BrokenPipe => {
+                if self.ends_when_closed {
+                    Err(Fault::OutputClosed)
+                } else {
+                    Ok(())
+                }
+            }
+            Err(error) => Err(error.into()),
         }
     }
 
@@ -77,12 +147,20 @@ impl<'p> LineSink<'p> {
         }
     }
 
-    /// Prints a line of these pieces, unless steps are left out.
-    pub fn put(self, pieces: &[LinePiece<'_>]) -> Result<(), Fault> {
+    /// Prints a line of these pieces, unless objects are printed in place of lines.
+    pub fn put_result(self, pieces: &[LinePiece<'_>]) -> Result<(), Fault> {
         if self.quiet {
             Ok(())
         } else {
             self.write_made(line_of(self.alloc, pieces))
+        }
+    }
+
+    /// The same, unless the verdict alone is printed.
+    pub fn put(self, pieces: &[LinePiece<'_>]) -> Result<(), Fault> {
+        match self.detail {
+            Detail::Verdict => Ok(()),
+            Detail::Steps | Detail::Flags => self.put_result(pieces),
         }
     }
 

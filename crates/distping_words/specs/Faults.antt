@@ -12,9 +12,12 @@ abbrev pub fault_status : Fault → ℕ
 fault_status fault.BadName = 2
 fault_status fault.NoNode = 2
 fault_status fault.TwoCookies = 2
+fault_status fault.TwoDetails = 2
 fault_status fault.OneNodeAlone = 2
+fault_status fault.TunnelAlone = 2
 fault_status fault.TooManyNodes = 2
 fault_status fault.CountAlone = 2
+fault_status fault.MetricsAlone = 2
 fault_status fault.ListenAlone = 2
 fault_status fault.CaptureAlone = 2
 fault_status other = 1

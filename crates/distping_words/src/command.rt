@@ -7,15 +7,15 @@ ghost use Rattle.distping_words.specs.declared.command.Instead.TheVariants as in
 
 use crate::fault::Fault;
 use crate::refusal::{Refusal, refuse};
-use crate::roster::push_target;
+use crate::target_words::{GivenPort, push_target};
 use clap::error::ErrorKind;
 use clap::{Arg, ArgAction, ArgMatches, Command, Error};
 use dist_cluster::Target;
 use dist_flags::{Dflag, Release};
 use dist_names::{Flags, NameError, NodeName, number_in};
 use dist_program::{
-    CONNECT_SECONDS, WordFault, command_line, name_in, name_sentence, option_number,
-    parser_sentence, with_options, with_word,
+    CONNECT_SECONDS, WordFault, command_line, name_in, option_number, parser_sentence,
+    with_options, with_word,
 };
 use std::alloc::Global;
 use std::time::Duration;
@@ -59,6 +59,8 @@ pub enum CookieSource<'a> {
 pub struct Wanted<'a> {
     /// The targets. There is at least one, unless the program listens or reads a capture, or a file names more.
     pub targets: Vec<Target>,
+    /// The ports that the words for nodes give.
+    pub ports: Vec<GivenPort>,
     /// The name that the probe gives itself, if one is given.
     pub name: Option<NodeName>,
     /// The rest.
@@ -78,6 +80,8 @@ pub struct Choices<'a> {
     pub port: Option<u16>,
     /// The host to connect to, if it is not that of the node's name.
     pub address: Option<&'a str>,
+    /// Whether a tunnel of TLS is at that address and port, so that frames have lengths of 4 bytes.
+    pub is_tunnelled: bool,
     /// The most seconds that a connect, a lookup and a talk may each take, at least one.
     pub seconds: u16,
     /// The same, if the command line gives it; then it also limits the wait for a connection.
@@ -88,14 +92,29 @@ pub struct Choices<'a> {
     pub json: bool,
     /// Whether the cookie's file is read even if others than its owner may use it.
     pub takes_any_file: bool,
+    /// How much is printed of a probe.
+    pub detail: Detail,
     /// The file that names more nodes.
     pub roster: Option<&'a str>,
     /// Whether every pair is printed, also the good ones of more than two nodes.
     pub all_pairs: bool,
     /// How often the nodes are probed to see what changes, if they are watched.
     pub watch: Option<Rhythm>,
+    /// The file in which what is observed of watched nodes is written after each round, if there is one.
+    pub metrics: Option<&'a str>,
     /// The capture that is read, instead of dialling.
     pub capture: Option<&'a str>,
+}
+
+/// How much is printed of a probe, unless objects are.
+#[derive(Clone, Copy, PartialEq, Eq)]
+pub enum Detail {
+    /// The verdict.
+    Verdict,
+    /// Each step, and the remedy.
+    Steps,
+    /// The names of the node's flags, too.
+    Flags,
 }
 
 /// How often nodes are probed that are watched.
@@ -149,10 +168,26 @@ impl<'a> Choices<'a> {
 const PROGRAM: &str = "distping";
 
 // The options that take no value.
-const SWITCHES: [&str; 4] = ["no-cookie", "json", "cookie-unsafe", "all-pairs"];
+const SWITCHES: [&str; 6] = [
+    "no-cookie",
+    "json",
+    "cookie-unsafe",
+    "all-pairs",
+    "quiet",
+    "verbose",
+];
 
 // The options that take a text.
-const VALUES: [&str; 6] = ["name", "cookie", "flags", "address", "nodes", "capture"];
+const VALUES: [&str; 8] = [
+    "name",
+    "cookie",
+    "flags",
+    "address",
+    "nodes",
+    "capture",
+    "tls-through",
+    "prometheus",
+];
 
 // The options that take a number.
 const VALUES_IN_DIGITS: [&str; 6] = ["epmd-port", "port", "listen", "seconds", "watch", "count"];
@@ -224,24 +259,20 @@ fn own_name_in(alloc: Global, matches: &ArgMatches<'_>) -> Result<Option<NodeNam
     }
 }
 
-// The refusal of a word that names no target.
-fn bad_target(alloc: Global, word: &str) -> Refusal {
-    if !word.starts_with('@') {
-        return refuse(name_sentence(alloc, word));
-    }
-    let front = "behind the @ of @HOST stands a host, of 1 to 246 bytes and without a further @: ";
-    refuse(with_word(alloc, front, word))
-}
-
-// The targets that the command line names.
-fn targets_in(alloc: Global, matches: &ArgMatches<'_>) -> Result<Vec<Target>, Refusal> {
-    let mut targets = Vec::new(alloc);
+// Adds the targets that the command line names, and the ports that it gives them.
+fn push_targets(
+    alloc: Global,
+    matches: &ArgMatches<'_>,
+    targets: &mut Vec<Target>,
+    ports: &mut Vec<GivenPort>,
+) -> Result<(), Refusal> {
     for word in matches.get_strs("node").unwrap_or(&[]) {
-        if !push_target(alloc, &mut targets, word.as_bytes())? {
-            return Err(bad_target(alloc, word));
+        if let Some(bad) = push_target(alloc, targets, ports, word.as_bytes())? {
+            let rule = bad.rule(word.starts_with('@'));
+            return Err(refuse(with_word(alloc, rule, word)));
         }
     }
-    Ok(targets)
+    Ok(())
 }
 
 fn cookie_in<'a>(matches: &ArgMatches<'a>) -> Result<CookieSource<'a>, Fault> {
@@ -250,6 +281,15 @@ fn cookie_in<'a>(matches: &ArgMatches<'a>) -> Result<CookieSource<'a>, Fault> {
         (true, None) => Ok(CookieSource::Nowhere),
         (false, Some(file)) => Ok(CookieSource::File(file)),
         (false, None) => Ok(CookieSource::Home),
+    }
+}
+
+fn detail_in(matches: &ArgMatches<'_>) -> Result<Detail, Fault> {
+    match (matches.get_flag("quiet"), matches.get_flag("verbose")) {
+        (true, true) => Err(Fault::TwoDetails),
+        (true, false) => Ok(Detail::Verdict),
+        (false, true) => Ok(Detail::Flags),
+        (false, false) => Ok(Detail::Steps),
     }
 }
 
@@ -269,6 +309,34 @@ fn address_in<'a>(alloc: Global, matches: &ArgMatches<'a>) -> Result<Option<&'a 
             Err(refuse(with_word(alloc, front, host)))
         }
         address => Ok(address),
+    }
+}
+
+// Where a tunnel is open, as a host and its port.
+fn tunnel_of(text: &str) -> Option<(&str, u16)> {
+    let (host, port) = text.rsplit_once(':')?;
+    let port = u16::try_from(number_in(port.as_bytes(), 10)?).ok()?;
+    if host.is_empty() || port == 0 {
+        None
+    } else {
+        Some((host, port))
+    }
+}
+
+// The tunnel that a node is dialled through, if one is given: it stands for host and port.
+fn tunnel_in<'a>(
+    alloc: Global,
+    matches: &ArgMatches<'a>,
+) -> Result<Option<(&'a str, u16)>, Refusal> {
+    let Some(text) = matches.get_str("tls-through") else {
+        return Ok(None);
+    };
+    match tunnel_of(text) {
+        Some(tunnel) => Ok(Some(tunnel)),
+        None => {
+            let front = "--tls-through takes ADDRESS:PORT, where a tunnel is open: ";
+            Err(refuse(with_word(alloc, front, text)))
+        }
     }
 }
 
@@ -294,20 +362,32 @@ fn choices_in<'a>(
     let cookie = cookie_in(matches)?;
     let flags = flags_in(alloc, matches)?;
     let [mapper_port, port, listen, seconds, watch, count] = numbers_in(alloc, matches)?;
+    let address = address_in(alloc, matches)?;
+    let tunnel = tunnel_in(alloc, matches)?;
+    if tunnel.is_some() && (port.is_some() || address.is_some()) {
+        return Err(Refusal::Fault(Fault::TunnelAlone));
+    }
+    let (address, port) = match tunnel {
+        Some((host, port)) => (Some(host), Some(port)),
+        None => (address, port),
+    };
     Ok(Choices {
         cookie,
         flags,
         mapper_port: mapper_port.unwrap_or(usual_port),
         port,
-        address: address_in(alloc, matches)?,
+        address,
+        is_tunnelled: tunnel.is_some(),
         seconds: seconds.unwrap_or(CONNECT_SECONDS),
         patience: seconds,
         listen,
         json: matches.get_flag("json"),
+        detail: detail_in(matches)?,
         takes_any_file: matches.get_flag("cookie-unsafe"),
         roster: matches.get_str("nodes"),
         all_pairs: matches.get_flag("all-pairs"),
         watch: rhythm_in(watch, count)?,
+        metrics: matches.get_str("prometheus"),
         capture: matches.get_str("capture"),
     })
 }
@@ -324,6 +404,13 @@ impl Wanted<'_> {
     {
         let choices = &self.choices;
         let has_targets = !self.targets.is_empty() || choices.roster.is_some();
+        let is_dial = choices.capture.is_none() && choices.listen.is_none();
+        if choices.is_tunnelled && !is_dial {
+            return Some(Fault::TunnelAlone);
+        }
+        if choices.metrics.is_some() && choices.watch.is_none() {
+            return Some(Fault::MetricsAlone);
+        }
         if choices.capture.is_some() {
             if has_targets || choices.listen.is_some() || choices.watch.is_some() {
                 return Some(Fault::CaptureAlone);
@@ -351,9 +438,11 @@ fn wanted_in<'a>(
 {
     let choices = choices_in(alloc, matches, usual_port)?;
     let name = own_name_in(alloc, matches)?;
-    let targets = targets_in(alloc, matches)?;
+    let (mut targets, mut ports) = (Vec::new(alloc), Vec::new(alloc));
+    push_targets(alloc, matches, &mut targets, &mut ports)?;
     let wanted = Wanted {
         targets,
+        ports,
         name,
         choices,
     };

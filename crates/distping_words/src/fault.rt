@@ -16,10 +16,14 @@ pub enum Fault {
     NoNode,
     /// Both `--cookie` and `--no-cookie` are given.
     TwoCookies,
+    /// Both `--quiet` and `--verbose` are given.
+    TwoDetails,
     /// A text that should be a node's name is not one.
     BadName,
-    /// `--port` or `--address` is given with several nodes.
+    /// `--port`, `--address` or `--tls-through` is given with several nodes.
     OneNodeAlone,
+    /// `--tls-through` is given with `--port`, `--address`, `--listen` or `--capture`.
+    TunnelAlone,
     /// The file of names could not be opened.
     RosterClosed,
     /// The file of names could not be read.
@@ -30,6 +34,10 @@ pub enum Fault {
     TooManyNodes,
     /// `--count` is given without `--watch`.
     CountAlone,
+    /// `--prometheus` is given without `--watch`.
+    MetricsAlone,
+    /// The file of `--prometheus` could not be written.
+    MetricsFailed,
     /// The system gave no time.
     NoTime,
     /// The program can't listen at the port, or take a connection, for this cause.
@@ -48,6 +56,8 @@ pub enum Fault {
     CaptureUnread,
     /// The file is no capture, or one whose form is not known.
     NoCapture,
+    /// Nobody reads the output any more.
+    OutputClosed,
     /// The output could not be written.
     WriteFailed,
     /// The system gave no random bytes.
@@ -63,10 +73,16 @@ impl fmt::Display for Fault {
             Fault::NoNode => "bad command line: no NODE is named (distping --help)",
             Fault::TwoCookies =>
                 "bad command line: --cookie and --no-cookie exclude each other (distping --help)",
+            Fault::TwoDetails =>
+                "bad command line: --quiet and --verbose exclude each other (distping --help)",
             Fault::BadName =>
                 "a node's name has one @, something on both sides, and 3 to 255 bytes",
-            Fault::OneNodeAlone => "--port and --address go with one NODE alone",
+            Fault::OneNodeAlone => "--port, --address and --tls-through go with one NODE alone",
+            Fault::TunnelAlone =>
+                "--tls-through goes with one NODE, and not with --port, --address, --listen or --capture",
             Fault::CountAlone => "--count goes with --watch",
+            Fault::MetricsAlone => "--prometheus goes with --watch",
+            Fault::MetricsFailed => "WriteFailed: the file of --prometheus",
             Fault::NoTime => "ReadFailed: the system's clock",
             Fault::RosterClosed => "OpenFailed: the file of --nodes",
             Fault::RosterUnread => "ReadFailed: the file of --nodes",
@@ -80,6 +96,7 @@ impl fmt::Display for Fault {
                 "NotStored: --capture takes a file, or - for standard input, and no pipe or device",
             Fault::CaptureUnread => "ReadFailed: the file of --capture",
             Fault::NoCapture => "Malformed: the file of --capture is no pcap and no pcapng",
+            Fault::OutputClosed => "OutputClosed",
             Fault::WriteFailed => "WriteFailed",
             Fault::NoRandomBytes => "ReadFailed: no random bytes",
             Fault::NoMemory => "NoMemory",
@@ -131,10 +148,13 @@ impl Fault {
         match self {
             Fault::NoNode
             | Fault::TwoCookies
+            | Fault::TwoDetails
             | Fault::BadName
             | Fault::OneNodeAlone
+            | Fault::TunnelAlone
             | Fault::TooManyNodes
             | Fault::CountAlone
+            | Fault::MetricsAlone
             | Fault::ListenAlone
             | Fault::CaptureAlone => 2,
             _ => 1,

@@ -9,9 +9,11 @@ mod cookie;
 mod fault;
 mod refusal;
 mod roster;
+mod target_words;
 
-pub use command::{Choices, CookieSource, Instead, Rhythm, Wanted, parse_name, wanted_of};
+pub use command::{Choices, CookieSource, Detail, Instead, Rhythm, Wanted, parse_name, wanted_of};
 pub use cookie::cookie_of;
 pub use fault::Fault;
 pub use refusal::Refusal;
 pub use roster::read_roster;
+pub use target_words::{GivenPort, given_port};

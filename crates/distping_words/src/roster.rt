@@ -1,9 +1,10 @@
-//! The file of names: a node or `@HOST` on each line. A `#` begins a comment; a line without a name is skipped.
+//! The file of names: a word as on the command line on each line. A `#` begins a comment; a line without a name is skipped.
 
 use crate::fault::Fault;
 use crate::refusal::{Refusal, refuse};
-use dist_cluster::{MOST_NODES, Target, target_of, word_in};
-use dist_names::{NameError, quote};
+use crate::target_words::{BadTarget, GivenPort, push_target};
+use dist_cluster::{Target, word_in};
+use dist_names::quote;
 use std::alloc::{AllocError, Global};
 use std::fs::File;
 use std::io::{ErrorKind, Read};
@@ -35,44 +36,38 @@ fn bytes_at(rt: &HostRuntime, path: &str) -> Result<Vec<u8>, Fault> {
     }
 }
 
-/// Adds the target that a word names, unless there are too many. Returns whether it names one.
-pub fn push_target(alloc: Global, targets: &mut Vec<Target>, word: &[u8]) -> Result<bool, Fault> {
-    let target = match target_of(alloc, word) {
-        Ok(target) => target,
-        Err(NameError::NoMemory) => return Err(Fault::NoMemory),
-        Err(_) => return Ok(false),
-    };
-    if targets.len() >= MOST_NODES {
-        return Err(Fault::TooManyNodes);
-    }
-    targets.push(target)?;
-    Ok(true)
-}
-
 // The sentence about a line of a file that names no target.
 fn line_sentence(
     alloc: Global,
     path: &str,
     number: u64,
+    bad: BadTarget,
     word: &[u8],
 ) -> Result<String, AllocError> {
     let file = quote(alloc, path.as_bytes())?;
     let quoted = quote(alloc, word)?;
-    format!(in alloc;
-        "--nodes {file}, line {number}: no NAME@HOST of 3 to 255 bytes, and no @HOST: {quoted}"
-    )
+    let rule = bad.rule(word.starts_with(b"@"));
+    format!(in alloc; "--nodes {file}, line {number}: {rule}{quoted}")
 }
 
-/// Adds the targets that the lines of a file name.
-pub fn read_roster(rt: &HostRuntime, path: &str, targets: &mut Vec<Target>) -> Result<(), Refusal> {
+/// Adds the targets that the lines of a file name, and the ports that they give.
+pub fn read_roster(
+    rt: &HostRuntime,
+    path: &str,
+    targets: &mut Vec<Target>,
+    ports: &mut Vec<GivenPort>,
+) -> Result<(), Refusal> {
     let alloc = rt.alloc();
     let bytes = bytes_at(rt, path)?;
     let mut number = 0u64;
     for line in bytes.split(|byte| *byte == b'\n') {
         number = number.saturating_add(1);
         let word = word_in(line);
-        if !word.is_empty() && !push_target(alloc, targets, word)? {
-            return Err(refuse(line_sentence(alloc, path, number, word)));
+        if word.is_empty() {
+            continue;
+        }
+        if let Some(bad) = push_target(alloc, targets, ports, word)? {
+            return Err(refuse(line_sentence(alloc, path, number, bad, word)));
         }
     }
     Ok(())

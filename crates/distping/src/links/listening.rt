@@ -65,7 +65,7 @@ fn attend(
     ensures { IfOk result (ComesIn listen.now caller.new.handshake) }
 {
     let limit = listen.choices.turns();
-    let (handshake, _) = speak_with(rt, lines.alloc, stream, &listen.own, limit);
+    let (handshake, _) = speak_with(rt, lines.alloc, stream, &listen.own, limit, false);
     let verdict = handshake.verdict(&listen.own.terms);
     caller.handshake = Some(handshake);
     if let Some(peer) = caller.peer() {

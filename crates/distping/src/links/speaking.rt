@@ -3,12 +3,15 @@
 ghost use Rattle.distping.specs.Coming.{GoesOnAs, IsSpoken};
 
 use crate::links::attempt::ProbeStream;
+use dist_long_frames::LongFrames;
+use dist_messages::Side;
 use dist_stream::{DeadlineStream, Heard, Stream, deadline_after};
 use dist_talk::{Handshake, HandshakeVerdict, HowEnded, OwnSide, other_side, speak};
 use std::alloc::Global;
 use std::time::Duration;
 
-/// How many milliseconds an end is awaited. Our own choice: a node that refuses another after the handshake closes at once.
+/// How many milliseconds an end is awaited. Our own choice: a node that refuses another after the handshake closes at once. A listener
+/// waits twice as long, so that a probe that dials it ends first.
 const MOMENT: u64 = 100;
 
 // Notes in the handshake if the other side of this connection has ended it.
@@ -28,12 +31,36 @@ fn look_for_end(stream: &mut ProbeStream<'_>, own: &OwnSide<'_>, handshake: &mut
 fn note_end(rt: &HostRuntime, stream: ProbeStream<'_>, own: &OwnSide<'_>, handshake: &mut Handshake)
     ensures { GoesOnAs handshake.old handshake.new }
 {
+    let moment = match own.side {
+        Side::Dialler => MOMENT,
+        Side::Acceptor => 2 * MOMENT,
+    };
     if handshake.verdict(&own.terms) == HandshakeVerdict::Up
-        && let Ok(until) = deadline_after(rt, Duration::from_millis(MOMENT))
+        && let Ok(until) = deadline_after(rt, Duration::from_millis(moment))
     {
         let mut stream = DeadlineStream::new(stream.into_inner(), rt, until);
         look_for_end(&mut stream, own, handshake);
     }
+}
+
+// Speaks this side of a handshake over a connection. In a tunnel of TLS the frames have lengths of 4 bytes.
+fn speak_over<'a>(
+    alloc: Global,
+    stream: ProbeStream<'a>,
+    own: &OwnSide<'_>,
+    limit: usize,
+    is_tunnelled: bool,
+) -> (Handshake, ProbeStream<'a>)
+    ensures { IsSpoken own.now limit result.0 }
+{
+    let mut stream = stream;
+    if !is_tunnelled {
+        let handshake = speak(alloc, &mut stream, own, limit);
+        return (handshake, stream);
+    }
+    let mut frames = LongFrames::new(stream);
+    let handshake = speak(alloc, &mut frames, own, limit);
+    (handshake, frames.into_inner())
 }
 
 /// Speaks this side of a handshake, in at most this many reads and writes, and returns what was said, and how much of its time it left.
@@ -44,11 +71,11 @@ pub fn speak_with(
     stream: ProbeStream<'_>,
     own: &OwnSide<'_>,
     limit: usize,
+    is_tunnelled: bool,
 ) -> (Handshake, Duration)
     ensures { IsSpoken own.now limit result.0 }
 {
-    let mut stream = stream;
-    let mut handshake = speak(alloc, &mut stream, own, limit);
+    let (mut handshake, stream) = speak_over(alloc, stream, own, limit, is_tunnelled);
     let left = stream.time_left();
     note_end(rt, stream, own, &mut handshake);
     (handshake, left)

@@ -20,8 +20,11 @@ use std::net::SocketAddr;
 use std::time::Instant;
 
 // Whether a server there speaks TLS. A second connection finds that out, since some servers close without an answer to a name. It takes
-// at most a second, and ends at this time at the latest.
+// at most a second, and ends at this time at the latest. Of a tunnel that is not asked.
 fn is_tls(dial: &Dial<'_>, place: &SocketAddr, until: Instant) -> bool {
+    if dial.choices.is_tunnelled {
+        return false;
+    }
     let until = match deadline_in(dial.rt, 1) {
         Ok(second) if second < until => second,
         _ => until,
@@ -90,7 +93,15 @@ impl<'a> AddressAttempt<'a> {
             fresh,
         };
         let limit = dial.choices.turns();
-        let (handshake, left) = speak_with(dial.rt, dial.lines.alloc, stream, &own, limit);
+        let is_tunnelled = dial.choices.is_tunnelled;
+        let (handshake, left) = speak_with(
+            dial.rt,
+            dial.lines.alloc,
+            stream,
+            &own,
+            limit,
+            is_tunnelled,
+        );
         self.budget.settle(TimedStep::Talk, left);
         let verdict = handshake.verdict(&own.terms);
         self.found.handshake = Some(handshake);

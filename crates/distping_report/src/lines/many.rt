@@ -20,7 +20,7 @@ use distping_words::Fault;
 impl LineSink<'_> {
     /// Prints which node is dialled, or which host is asked for its nodes.
     pub fn put_heading(self, word: &[u8]) -> Result<(), Fault> {
-        self.put(&[Text("-- "), Name(word)])
+        self.put_result(&[Text("-- "), Name(word)])
     }
 
     /// Prints how many nodes the port mapper knows.
@@ -77,7 +77,7 @@ impl LineSink<'_> {
             Pairing::NotReached | Pairing::Unsure => " ",
             _ => "✗",
         };
-        self.put(&[
+        self.put_result(&[
             Text(mark),
             Text("  pair      "),
             Name(first.bytes()),
@@ -114,7 +114,7 @@ impl LineSink<'_> {
         verdict: HandshakeVerdict,
         before: &'x [u8],
     ) -> Result<(), Fault> {
-        self.put(&[
+        self.put_result(&[
             Escaped(time),
             Text(" "),
             Text(exit_mark(verdict.status())),
@@ -144,7 +144,7 @@ impl LineSink<'_> {
 
     // Prints the line of how long a node's answers took.
     fn put_times<'x>(self, node: &'x NodeName, times: &'x str) -> Result<(), Fault> {
-        self.put(&[
+        self.put_result(&[
             Text("   latency   "),
             Name(node.bytes()),
             Text(": "),

@@ -9,7 +9,7 @@ use dist_flags::{Dflag, Release, ReleaseShown, is_refused_by_all, oldest_refusal
 use dist_messages::Status;
 use dist_names::{Flags, NodeName, escape_lines};
 use dist_talk::{HandshakeVerdict, NodeDescription, Unreached, is_long_and_short};
-use distping_words::Fault;
+use distping_words::{Detail, Fault};
 use std::net::SocketAddr;
 
 // The name of a release.
@@ -247,7 +247,9 @@ impl LineSink<'_> {
             Text(before),
             Text(release_text(release)),
         ])?;
-        self.put_flags("   flags    ", flags)?;
+        if self.detail == Detail::Flags {
+            self.put_flags("   flags    ", flags)?;
+        }
         self.put_refusal(flags)
     }
 

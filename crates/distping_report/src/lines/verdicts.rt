@@ -11,7 +11,7 @@ use crate::piece::LinePiece::{Host, Name, Number, Text};
 use dist_cluster::Group;
 use dist_names::NodeName;
 use dist_talk::HandshakeVerdict;
-use distping_words::Fault;
+use distping_words::{Detail, Fault};
 use std::alloc::{AllocError, Global};
 use std::net::SocketAddr;
 
@@ -80,6 +80,11 @@ impl LineSink<'_> {
 
     /// Prints the lines of a verdict.
     pub fn put_verdict(self, verdict: HandshakeVerdict) -> Result<(), Fault> {
+        if self.detail == Detail::Verdict {
+            let mark = exit_mark(verdict.status());
+            let (name, cause) = (verdict.name(), verdict.cause());
+            return self.put_result(&[Text(mark), Text("  "), Text(name), Text(": "), Text(cause)]);
+        }
         self.put_details(verdict)?;
         self.write_made(verdict_lines(self.alloc, verdict))
     }
@@ -98,6 +103,7 @@ impl LineSink<'_> {
         }
         if let Some(host) = dial.choices.address
             && outcome.verdict.status() == 0
+            && !dial.choices.is_tunnelled
             && host.as_bytes() != dial.node.host()
         {
             self.put_other_way(dial.node)?;

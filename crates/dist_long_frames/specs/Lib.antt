@@ -1,0 +1,2 @@
+pub mod Shortened
+pub mod State
