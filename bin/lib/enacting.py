@@ -30,7 +30,7 @@ class Play:
 
     def __init__(self, name, since=None):
         self.nodes, self.conns, self.steps, self.letters, self.ups, self.closings, self.count = [], [], [], [], [], [], 0
-        for kind, it, *words in map(str.split, text_of(f"examples/{name}.script").splitlines()):
+        for kind, it, *words in (it.split() for it in text_of(f"examples/{name}.script").splitlines() if it[0] != "#"):
             if kind == "node":
                 self.nodes.append(Record(number=len(self.nodes), name=it, flags=int(words[1], 16), creation=None, first=None, ends=[], last=None))
                 continue

@@ -1,27 +1,19 @@
 -- When the judgement is decided.
-use Rattle.std.proofs.Common.{◌≡◌, ℕ, suc, ◌+◌, ◌≤◌, Bool, true, false, List, [], ◌∷◌, take, drop, length, Option, Some, None, refl, ap, ◌∙◌, arith}
-use Rattle.std.specs.Prelude.{◌==◌, ◌||◌, ◌&&◌, nat_lt, if◌then◌else◌, Contains}
-use Rattle.std.specs.{Int.w16, Int.w32, List.list_any}
-use Rattle.dist_names.specs.{Fields.Taken, Fields.number_at, Order.same_name}
-use Rattle.dist_frames.specs.Stream.{first_body}
-use Rattle.dist_messages.specs.{declared.message.Side.TheVariants.Dialler, Reading.read, Canonical.canonical}
-use Rattle.dist_messages.specs.declared.message.Message.TheVariants as message
-use Rattle.dist_secret.specs.Digest.{digest_of}
-use Rattle.dist_conformance.specs.Judging.{Observation, AnnouncementSaid, passes, passes_if, part_outcome, open_for, by_body, place_of, by_announcement}
-use Rattle.dist_conformance.specs.Judging.{check_passes, said_in, reply_in, by_reply, registration_in, registration_passes, by_registration, creation_passes, by_result}
-use Rattle.dist_conformance.specs.Judging.{by_answer, are_lines, names_pass, by_names, body_outcome, outcome_of, joined, behind_match, sequence_of}
+use Rattle.std.proofs.Common.{◌≡◌, ℕ, suc, ◌-◌, ◌≤◌, Bool, true, false, List, [], ◌∷◌, drop, length, Option, Some, None, refl, ap, ◌∙◌, arith}
+use Rattle.std.specs.Prelude.{◌||◌, ◌&&◌, nat_lt, is_some, if◌then◌else◌, Contains}
+use Rattle.std.specs.{Int.w32, List.list_any, List.list_all}
+use Rattle.dist_names.specs.Fields.{number_at}
+use Rattle.dist_conformance.specs.Judging.{Observation, passes, passes_if, part_outcome, open_for, check_passes, passage_of, by_message, by_body, by_state}
+use Rattle.dist_conformance.specs.Judging.{are_lines, names_pass, by_names, outcome_of, joined, behind_match, sequence_of}
 use Rattle.dist_conformance.specs.Judging.{no_passage, outcomes_of, first_passage, is_open, first_failure, may_match, by_loose, by_wanted, judgement_of}
-use Rattle.dist_conformance.specs.{Kinds.side_of, Words.begins_with}
-use Rattle.dist_conformance.specs.declared.patterns.{FieldCheck.FieldCheck, Announcement.Announcement, RegistrationCheck.RegistrationCheck}
-use Rattle.dist_conformance.specs.declared.patterns.{AnswerCheck.AnswerCheck, NamesCheck.NamesCheck, Pattern.Pattern}
+use Rattle.dist_conformance.specs.{Bodies.begins_with, Bodies.value_in, Bodies.whole, Packets.packets_of}
+use Rattle.dist_conformance.specs.declared.patterns.{Check.Check, PacketCheck.PacketCheck, NamesCheck.NamesCheck, Pattern.Pattern}
 use Rattle.dist_conformance.specs.declared.outcomes.{Passage.Passage, Deviation.Deviation, PatternOutcome.PatternOutcome}
-use Rattle.dist_conformance.specs.declared.{steps.Demand.Demand, say.Learned.Learned}
-use Rattle.dist_conformance.specs.declared.patterns.AnswerCheck.TheVariants as answer
+use Rattle.dist_conformance.specs.declared.{shapes.Shape.Shape, shapes.Framing.Framing, packets.PacketState.PacketState, steps.Demand.Demand, say.Learned.Learned}
 use Rattle.dist_conformance.specs.declared.patterns.Pattern.TheVariants as pattern
 use Rattle.dist_conformance.specs.declared.outcomes.Deviation.TheVariants as deviation
 use Rattle.dist_conformance.specs.declared.outcomes.PatternOutcome.TheVariants as outcome
 use Rattle.dist_conformance.specs.declared.judging.Judgement.TheVariants as judgement
-use Rattle.dist_epmd.specs.declared.message.NodeInfo.{NodeInfo}
 
 -- ---- a pattern is decided once the connection has ended
 
@@ -47,39 +39,25 @@ of_if : (b : Bool) (n : ℕ) → Decided (passes_if b n)
 of_if true n = refl
 of_if false n = refl
 
-of_announcement : (k : Announcement) (which : FieldCheck) (len : ℕ) (learned : List Learned) (i : Option AnnouncementSaid) → Decided (by_announcement k which len learned i)
-of_announcement k which len learned None = refl
-of_announcement k which len learned (Some i) =
-    let found : PatternOutcome = outcome.Matches (record { count = 2 + len; number = i.challenge }) in
-    either (place_of i.form == place_of k) (if check_passes which len learned i then found else outcome.Fails deviation.Field) (outcome.Fails deviation.Other)
-    (either (check_passes which len learned i) found (outcome.Fails deviation.Field) refl refl) refl
+of_message : (shape : Shape) (checks : List Check) (learned : List Learned) (cookie body : List ℕ) (count : ℕ) → Decided (by_message shape checks learned cookie body count)
+of_message shape checks learned cookie body count =
+    either (is_some (value_in shape.fields.now 0 body)) _ (outcome.Fails deviation.Other)
+    (either (list_all (check_passes shape body learned cookie) checks) (outcome.Matches (passage_of shape body count)) (outcome.Fails deviation.Field) refl refl) refl
 
-of_reply : (wanted : List ℕ) (len : ℕ) (r : Option (ℕ × List ℕ)) → Decided (by_reply wanted len r)
-of_reply wanted len None = refl
-of_reply wanted len (Some r) = either (same_name r.1 wanted) (outcome.Matches (record { count = 2 + len; number = Some r.0 })) (outcome.Fails deviation.Field) refl refl
-
-of_registration : (which : RegistrationCheck) (len : ℕ) (r : Taken NodeInfo) → Decided (by_registration which len r)
-of_registration which len None = refl
-of_registration which len (Some r) = either (registration_passes which r.0 r.1) (passes (2 + len)) (outcome.Fails deviation.Field) refl refl
-
-of_body : (says : List ℕ → PatternOutcome) (b : Option (List ℕ)) (e : Bool) → e ≡ true → ((body : List ℕ) → Decided (says body)) → Decided (by_body says b e)
-of_body says None e h k = ended_part e h
-of_body says (Some body) e h k = k body
-
-of_result : (which : AnswerCheck) (zero : Bool) (bytes : List ℕ) (learned : List Learned) (n : ℕ) → Decided (by_result which zero bytes learned n)
-of_result answer.Refused zero bytes learned n = either zero (outcome.Fails deviation.Other) (passes n) refl refl
-of_result which zero bytes learned n = either zero _ (outcome.Fails deviation.Other) (either (creation_passes which bytes learned) _ (outcome.Fails deviation.Field) refl refl) refl
-
-of_answer : (tag : ℕ) (which : AnswerCheck) (more : ℕ) (e : Bool) (learned : List Learned) (came : List ℕ) → e ≡ true → Decided (by_answer tag which more e learned came)
-of_answer tag which more e learned [] h = ended_part e h
-of_answer tag which more e learned (x ∷ []) h = ended_part e h
-of_answer tag which more e learned (x ∷ y ∷ rest) h =
-    either (nat_lt (length rest) more) _ _ (ended_part e h)
-    (either (x == tag) _ (outcome.Fails deviation.Other) (of_result which (y == 0) (take more rest) learned (2 + more)) refl)
+of_state : (check : PacketCheck) (o : Observation) (n : ℕ) (s : PacketState) → o.ended ≡ true → Decided (by_state check o n s)
+of_state check o n s h = rw h (either (s.is_bad || nat_lt check.most s.ticks) (outcome.Fails deviation.Field) (outcome.Fails deviation.Closed) refl refl)
 
 of_names : (which : NamesCheck) (count : ℕ) (a : Option (ℕ × List ℕ)) → Decided (by_names which count a)
 of_names which count None = refl
 of_names which count (Some a) = either (are_lines a.1 && names_pass which a.0 a.1) (passes count) (outcome.Fails deviation.Field) refl refl
+
+of_front : (f : Framing) (front : List ℕ) (o : Observation) (n : ℕ) (t : Option (List ℕ × List ℕ)) → o.ended ≡ true → Decided (by_body (pattern.Body f front) o n t)
+of_front f front o n None h = ended_part o.ended h
+of_front f front o n (Some t) h = of_if (begins_with front t.0) (n - length t.1)
+
+of_shape : (shape : Shape) (checks : List Check) (o : Observation) (n : ℕ) (t : Option (List ℕ × List ℕ)) → o.ended ≡ true → Decided (by_body (pattern.Message shape checks) o n t)
+of_shape shape checks o n None h = ended_part o.ended h
+of_shape shape checks o n (Some t) h = of_message shape checks o.learned o.cookie t.0 (n - length t.1)
 
 decided : (p : Pattern) (o : Observation) (came : List ℕ) → o.ended ≡ true → Decided (outcome_of p o came)
 decided pattern.End o [] h = at_end o.ended (passes 0) h refl
@@ -90,16 +68,9 @@ decided (pattern.Open ms) o came h = of_open ms (length came) o h
 decided (pattern.Bytes wanted) o came h =
     either (begins_with wanted came) (passes (length wanted)) (if begins_with came wanted then part_outcome o.ended else outcome.Fails deviation.Other) refl
     (either (begins_with came wanted) (part_outcome o.ended) (outcome.Fails deviation.Other) (ended_part o.ended h) refl)
-decided (pattern.Frame front) o came h = of_body (body_outcome (pattern.Frame front) o) (first_body w16 came) o.ended h (λ body. of_if (begins_with front body) (2 + length body))
-decided (pattern.Announcement k which) o came h =
-    of_body (body_outcome (pattern.Announcement k which) o) (first_body w16 came) o.ended h (λ body. of_announcement k which (length body) o.learned (said_in (read (side_of k) body)))
-decided (pattern.Reply n) o came h =
-    of_body (body_outcome (pattern.Reply n) o) (first_body w16 came) o.ended h (λ body. of_reply (digest_of o.cookie n) (length body) (reply_in (read Dialler body)))
-decided (pattern.Ack n) o came h = of_body (body_outcome (pattern.Ack n) o) (first_body w16 came) o.ended h
-    (λ body. of_if (same_name body (canonical (message.Ack (digest_of o.cookie n)))) (2 + length body))
-decided (pattern.Registration which) o came h =
-    of_body (body_outcome (pattern.Registration which) o) (first_body w16 came) o.ended h (λ body. of_registration which (length body) (registration_in body))
-decided (pattern.Answer tag which more) o came h = of_answer tag which more o.ended o.learned came h
+decided (pattern.Packets check) o came h = of_state check o (length came) (packets_of came) h
+decided (pattern.Body f front) o came h = of_front f front o (length came) (whole f came) h
+decided (pattern.Message shape checks) o came h = of_shape shape checks o (length came) (whole shape.framing came) h
 decided (pattern.Names which) o came h = at_end o.ended (by_names which (length came) (number_at w32 came)) h (of_names which (length came) (number_at w32 came))
 
 behind_decided : (x : PatternOutcome) (behind : Passage → PatternOutcome) → Decided x → ((p : Passage) → Decided (behind p)) → Decided (behind_match x behind)

@@ -1,8 +1,9 @@
 pub mod Split
+pub mod Values
+pub mod Alternatives
 pub mod Fronts
 pub mod Within
 pub mod Decided
 pub mod Later
 pub mod Challenges
-pub mod Readers
 pub mod Ranks

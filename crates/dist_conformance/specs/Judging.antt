@@ -1,22 +1,18 @@
 -- THE JUDGEMENT: what it means that this came.
-use Rattle.std.specs.Prelude.{ℕ, ◌+◌, ◌==◌, Bool, true, false, not, ◌&&◌, ◌||◌, nat_le, nat_lt, if◌then◌else◌, List, [], ◌∷◌, length, take, drop, map}
-use Rattle.std.specs.Prelude.{Option, Some, None, option_map, Result, Ok, Err}
+use Rattle.std.specs.Prelude.{ℕ, ◌+◌, ◌-◌, ◌==◌, Bool, true, false, not, ◌&&◌, ◌||◌, nat_le, nat_lt, if◌then◌else◌, List, [], ◌∷◌, length, drop, map}
+use Rattle.std.specs.Prelude.{Option, Some, None, is_some, option_map, option_and_then, unwrap_or}
 use Rattle.std.specs.{List.list_any, List.list_all, List.ends_with, Int.w16, Int.w32}
-use Rattle.dist_names.specs.{Fields.Taken, Fields.number_at, Flags.of_halves, Flags.has_all, Order.same_name}
-use Rattle.dist_frames.specs.Stream.{first_body}
-use Rattle.dist_secret.specs.Digest.{digest_of}
-use Rattle.dist_messages.specs.{Canonical.canonical, Reading.read}
-use Rattle.dist_messages.specs.declared.{message.Message.Message, message.Side.TheVariants.Dialler, message_error.MessageError.MessageError}
-use Rattle.dist_messages.specs.declared.message.Message.TheVariants as message
-use Rattle.dist_epmd.specs.{declared.message.NodeInfo.NodeInfo, Reading.info_at}
-use Rattle.dist_conformance.specs.{Kinds.side_of, Texts.lines_of, Words.◌>>=◌, Words.begins_with}
-use Rattle.dist_conformance.specs.declared.patterns.{Announcement.Announcement, FieldCheck.FieldCheck, RegistrationCheck.RegistrationCheck}
-use Rattle.dist_conformance.specs.declared.patterns.{AnswerCheck.AnswerCheck, NamesCheck.NamesCheck, Pattern.Pattern}
+use Rattle.dist_names.specs.{Fields.number_at, Flags.has_all, Order.same_name, declared.flags.Flags.Flags}
+use Rattle.dist_conformance.specs.{Texts.lines_of, Bodies.begins_with, Bodies.value_in, Bodies.whole, Bodies.number_in, Bodies.number_of_32}
+use Rattle.dist_conformance.specs.{Packets.packets_of, Packets.is_part, Saying.digest_of}
+use Rattle.dist_conformance.specs.declared.patterns.{Test.Test, Check.Check, NamesCheck.NamesCheck, PacketCheck.PacketCheck, Pattern.Pattern}
 use Rattle.dist_conformance.specs.declared.outcomes.{Passage.Passage, Deviation.Deviation, PatternOutcome.PatternOutcome, Observed.Observed}
+use Rattle.dist_conformance.specs.declared.shapes.FieldForm.{FieldForm}
+use Rattle.dist_conformance.specs.declared.shapes.FieldForm.TheVariants as form
+use Rattle.dist_conformance.specs.declared.shapes.Framing.TheVariants as framing
+use Rattle.dist_conformance.specs.declared.{shapes.Framing.Framing, shapes.Shape.Shape, packets.PacketState.PacketState}
 use Rattle.dist_conformance.specs.declared.{steps.Demand.Demand, say.Learned.Learned, judging.Judgement.Judgement}
-use Rattle.dist_conformance.specs.declared.patterns.Announcement.TheVariants as kind
-use Rattle.dist_conformance.specs.declared.patterns.FieldCheck.TheVariants as check
-use Rattle.dist_conformance.specs.declared.patterns.AnswerCheck.TheVariants as answer
+use Rattle.dist_conformance.specs.declared.patterns.Test.TheVariants as test
 use Rattle.dist_conformance.specs.declared.patterns.NamesCheck.TheVariants as names
 use Rattle.dist_conformance.specs.declared.patterns.Pattern.TheVariants as pattern
 use Rattle.dist_conformance.specs.declared.outcomes.Deviation.TheVariants as deviation
@@ -29,17 +25,26 @@ pub record Observation : Type 0 where
   pub ended : Bool
   pub elapsed : ℕ
   pub limit : ℕ
+  pub pause : ℕ
   pub learned : List Learned
   pub cookie : List ℕ
 
 abbrev pub observation_of : Observed → Observation
-observation_of o = record { came = o.came.now; ended = o.ended; elapsed = o.elapsed; limit = o.limit; learned = o.learned.now; cookie = o.cookie.now }
+observation_of o = record {
+  came = o.came.now;
+  ended = o.ended;
+  elapsed = o.elapsed;
+  limit = o.limit;
+  pause = o.pause;
+  learned = o.learned.now;
+  cookie = o.cookie.now;
+}
 
 -- ---- what a single pattern makes of bytes
 
 -- so many bytes match, and nothing is learned from them
 abbrev pub passes : ℕ → PatternOutcome
-passes n = outcome.Matches (record { count = n; number = None })
+passes n = outcome.Matches (record { count = n; number = None; flags = None })
 
 -- what is awaited has not come whole
 abbrev pub part_outcome : Bool → PatternOutcome
@@ -65,147 +70,125 @@ abbrev pub passes_if : Bool → ℕ → PatternOutcome
 passes_if true n = passes n
 passes_if false n = outcome.Fails deviation.Other
 
--- this is what the first body means, once it is whole
-abbrev pub by_body : (List ℕ → PatternOutcome) → Option (List ℕ) → Bool → PatternOutcome
-by_body says None ended = part_outcome ended
-by_body says (Some body) ended = says body
+-- ---- messages
 
--- ---- names, challenges and complements
+-- not 0
+abbrev pub is_given : List ℕ → Bool
+is_given value = list_any (λ byte. not (byte == 0)) value
 
--- what such a message says, of which kind it is, and how many bytes it has where none stand behind the name
-pub record AnnouncementSaid : Type 0 where
-  pub form : Announcement
-  pub flags : ℕ
-  pub challenge : Option ℕ
-  pub creation : ℕ
-  pub name : List ℕ
-  pub size : ℕ
-
-abbrev pub announcement_of : Message → Option AnnouncementSaid
-announcement_of (message.NewName flags creation name) =
-    Some (record { form = kind.Name; flags = flags.0; challenge = None; creation = creation.0; name = name; size = length name + 15 })
-announcement_of (message.OldName flags name) =
-    Some (record { form = kind.OldName; flags = flags; challenge = None; creation = 0; name = name; size = length name + 7 })
-announcement_of (message.NewChallenge flags challenge creation name) =
-    Some (record { form = kind.Challenge; flags = flags.0; challenge = Some challenge; creation = creation.0; name = name; size = length name + 19 })
-announcement_of (message.OldChallenge flags challenge name) =
-    Some (record { form = kind.OldChallenge; flags = flags; challenge = Some challenge; creation = 0; name = name; size = length name + 11 })
-announcement_of (message.Complement high creation) =
-    Some (record { form = kind.Complement; flags = of_halves high 0; challenge = None; creation = creation.0; name = []; size = 9 })
-announcement_of other = None
-
--- the place of a kind among the five
-abbrev pub place_of : Announcement → ℕ
-place_of kind.Name = 0
-place_of kind.OldName = 1
-place_of kind.Challenge = 2
-place_of kind.OldChallenge = 3
-place_of kind.Complement = 4
+-- without `@`
+abbrev pub has_no_host : List ℕ → Bool
+has_no_host value = list_all (λ byte. not (byte == 64)) value
 
 -- this number is none of those that came before
 abbrev pub is_new : ℕ → List Learned → Bool
 is_new n learned = list_all (λ (l : Learned). not (l.number == n)) learned
 
-abbrev pub is_fresh : Option ℕ → List Learned → Bool
-is_fresh None learned = true
-is_fresh (Some n) learned = is_new n learned
+-- a number that came before differs from this one by 65,536 or more
+abbrev pub is_far : ℕ → Learned → Bool
+is_far n l = nat_le 65536 (n - l.number) || nat_le 65536 (l.number - n)
 
--- the check of such a message of so many bytes
-abbrev pub check_passes : FieldCheck → ℕ → List Learned → AnnouncementSaid → Bool
-check_passes check.Any len learned i = true
-check_passes (check.Name name) len learned i = same_name i.name name
-check_passes (check.Creation least most) len learned i = nat_le least i.creation && nat_le i.creation most
-check_passes (check.Has flags) len learned i = has_all i.flags flags.0
-check_passes (check.Lacks flags) len learned i = not (has_all i.flags flags.0)
-check_passes check.Fresh len learned i = is_fresh i.challenge learned
-check_passes check.Bare len learned i = len == i.size
+-- one of them does, if any came
+abbrev pub is_apart : ℕ → List Learned → Bool
+is_apart n learned = length learned == 0 || list_any (is_far n) learned
 
--- a message of this kind, where the body is one
-abbrev pub by_announcement : Announcement → FieldCheck → ℕ → List Learned → Option AnnouncementSaid → PatternOutcome
-by_announcement k which len learned None = outcome.Fails deviation.Other
-by_announcement k which len learned (Some i) =
-    if place_of i.form == place_of k
-    then (if check_passes which len learned i then outcome.Matches (record { count = 2 + len; number = i.challenge }) else outcome.Fails deviation.Field)
+-- these flags, or the first of those that came
+abbrev pub or_first : Option Flags → Option Flags → Option Flags
+or_first (Some flags) others = Some flags
+or_first None others = others
+
+-- the flags of the challenge that came first
+abbrev pub first_flags : List Learned → Option Flags
+first_flags [] = None
+first_flags (l ∷ ls) = or_first l.flags (first_flags ls)
+
+-- these flags are those, if a challenge came
+abbrev pub are_same : ℕ → Option Flags → Bool
+are_same n None = true
+are_same n (Some flags) = flags.0 == n
+
+-- WHAT A FIELD HAS TO BE
+abbrev pub test_passes : List Learned → List ℕ → List ℕ → Test → Bool
+test_passes learned cookie value (test.Is wanted) = same_name value wanted
+test_passes learned cookie value (test.AtLeast n) = nat_le n (number_in value)
+test_passes learned cookie value test.Given = is_given value
+test_passes learned cookie value test.Fresh = is_new (number_in value) learned
+test_passes learned cookie value test.Apart = is_apart (number_in value) learned
+test_passes learned cookie value (test.Has flags) = has_all (number_in value) flags.0
+test_passes learned cookie value (test.Lacks flags) = not (has_all (number_in value) flags.0)
+test_passes learned cookie value test.Alike = are_same (number_in value) (first_flags learned)
+test_passes learned cookie value (test.Digest challenge) = same_name value (digest_of cookie challenge)
+test_passes learned cookie value test.Empty = length value == 0
+test_passes learned cookie value test.NoHost = has_no_host value
+
+-- a field that is there is as it has to be
+abbrev pub field_passes : List Learned → List ℕ → Test → Option (List ℕ) → Bool
+field_passes learned cookie which None = false
+field_passes learned cookie which (Some value) = test_passes learned cookie value which
+
+-- the check of a body of this shape
+abbrev pub check_passes : Shape → List ℕ → List Learned → List ℕ → Check → Bool
+check_passes shape body learned cookie check = field_passes learned cookie check.test (value_in shape.fields.now check.place body)
+
+-- the bytes in the field in this place
+abbrev pub bytes_in : Shape → List ℕ → ℕ → List ℕ
+bytes_in shape body place = unwrap_or (value_in shape.fields.now place body) []
+
+-- what is learned from a body of this shape
+abbrev pub passage_of : Shape → List ℕ → ℕ → Passage
+passage_of shape body count = record {
+  count = count;
+  number = option_and_then (λ place. number_of_32 (bytes_in shape body place)) shape.number;
+  flags = option_map (λ place. record { 0 = number_in (bytes_in shape body place) }) shape.flags;
+}
+
+-- what is learned on this connection from what matched
+abbrev pub learned_from : ℕ → Passage → Option Learned
+learned_from conn p = option_map (λ n. record { conn = conn; number = n; flags = p.flags }) p.number
+
+-- A MESSAGE of this shape: the body has just its fields, and they pass all checks
+abbrev pub by_message : Shape → List Check → List Learned → List ℕ → List ℕ → ℕ → PatternOutcome
+by_message shape checks learned cookie body count =
+    if is_some (value_in shape.fields.now 0 body)
+    then (if list_all (check_passes shape body learned cookie) checks then outcome.Matches (passage_of shape body count) else outcome.Fails deviation.Field)
     else outcome.Fails deviation.Other
 
--- what a body says of its node, if this side sends it
-abbrev pub said_in : Result Message MessageError → Option AnnouncementSaid
-said_in (Ok m) = announcement_of m
-said_in (Err e) = None
+-- what a pattern makes of a body, which comes with its frame in so many bytes
+abbrev pub body_outcome : Pattern → Observation → List ℕ → ℕ → PatternOutcome
+body_outcome (pattern.Body framing front) o body count = passes_if (begins_with front body) count
+body_outcome (pattern.Message shape checks) o body count = by_message shape checks o.learned o.cookie body count
+body_outcome other o body count = outcome.Open
 
--- ---- replies
+-- this is what it makes of the first body, once that is whole
+abbrev pub by_body : Pattern → Observation → ℕ → Option (List ℕ × List ℕ) → PatternOutcome
+by_body p o n None = part_outcome o.ended
+by_body p o n (Some t) = body_outcome p o t.0 (n - length t.1)
 
--- the challenge and the digest of a reply
-abbrev pub reply_in : Result Message MessageError → Option (ℕ × List ℕ)
-reply_in (Ok (message.Reply challenge digest)) = Some (challenge, digest)
-reply_in other = None
+abbrev pub by_whole : Pattern → Framing → Observation → List ℕ → PatternOutcome
+by_whole p framing o came = by_body p o (length came) (whole framing came)
 
--- a reply with this digest, where the body is one
-abbrev pub by_reply : List ℕ → ℕ → Option (ℕ × List ℕ) → PatternOutcome
-by_reply wanted len None = outcome.Fails deviation.Other
-by_reply wanted len (Some reply) =
-    if same_name reply.1 wanted then outcome.Matches (record { count = 2 + len; number = Some reply.0 }) else outcome.Fails deviation.Field
+-- ---- packets
 
--- ---- registrations
+-- the time of the pattern is over
+abbrev pub is_over : PacketCheck → Observation → Bool
+is_over check o = nat_le check.time o.elapsed
 
--- what a body registers, and what stands behind its fields
-abbrev pub registration_in : List ℕ → Taken NodeInfo
-registration_in [] = None
-registration_in (tag ∷ rest) = if tag == 0x78 then info_at rest else None
+-- a packet has come in part, and nothing follows
+abbrev pub is_stalled : PacketCheck → Observation → PacketState → Bool
+is_stalled check o s = is_part s && (is_over check o || nat_le 1000 o.pause)
 
--- THE PORT THAT IS REGISTERED in what came, if that begins with a registration
-abbrev pub registered_port : List ℕ → Option ℕ
-registered_port came = option_map (λ (r : NodeInfo × List ℕ). r.0.port) (first_body w16 came >>= registration_in)
+abbrev pub by_state : PacketCheck → Observation → ℕ → PacketState → PatternOutcome
+by_state check o n s =
+    if s.is_bad || nat_lt check.most s.ticks then outcome.Fails deviation.Field
+    else (if o.ended then outcome.Fails deviation.Closed
+    else (if is_stalled check o s || (is_over check o && nat_lt s.ticks check.least) then outcome.Fails deviation.Field
+    else (if is_over check o then passes n else outcome.Open)))
 
--- a number is this one, where one is named
-abbrev pub is_named : Option ℕ → ℕ → Bool
-is_named None n = true
-is_named (Some wanted) n = wanted == n
+-- PACKETS while the connection stays open
+abbrev pub by_packets : PacketCheck → Observation → List ℕ → PatternOutcome
+by_packets check o came = by_state check o (length came) (packets_of came)
 
--- the name has no `@`, and no bytes stand behind the fields
-abbrev pub is_bare : List ℕ → List ℕ → Bool
-is_bare name behind = list_all (λ byte. not (byte == 64)) name && length behind == 0
-
--- the check of a registration with these bytes behind its fields
-abbrev pub registration_passes : RegistrationCheck → NodeInfo → List ℕ → Bool
-registration_passes which i behind =
-    is_named which.node_type i.node_type && is_named which.protocol i.protocol && is_named which.highest i.highest
-    && is_named which.lowest i.lowest && (not which.bare || is_bare i.name behind)
-
--- a registration that passes, where the body of so many bytes is one
-abbrev pub by_registration : RegistrationCheck → ℕ → Taken NodeInfo → PatternOutcome
-by_registration which len None = outcome.Fails deviation.Other
-by_registration which len (Some r) = if registration_passes which r.0 r.1 then passes (2 + len) else outcome.Fails deviation.Field
-
--- ---- answers of a port mapper
-
--- the creation that is written in 4 bytes
-abbrev pub creation_in : List ℕ → Option ℕ
-creation_in bytes = option_map (λ (c : ℕ × List ℕ). c.0) (number_at w32 bytes)
-
--- a creation was given: it is not 0
-abbrev pub is_given : List ℕ → Bool
-is_given bytes = list_any (λ byte. not (byte == 0)) bytes
-
--- the check of a creation: where it has to be fresh, it is none of the numbers that came before
-abbrev pub creation_passes : AnswerCheck → List ℕ → List Learned → Bool
-creation_passes answer.Fresh bytes learned = is_given bytes && is_fresh (creation_in bytes) learned
-creation_passes other bytes learned = is_given bytes
-
--- result 0 and a creation, or another result, in an answer of so many bytes
-abbrev pub by_result : AnswerCheck → Bool → List ℕ → List Learned → ℕ → PatternOutcome
-by_result answer.Refused is_zero bytes learned n = if is_zero then outcome.Fails deviation.Other else passes n
-by_result which is_zero bytes learned n =
-    if is_zero
-    then (if creation_passes which bytes learned then outcome.Matches (record { count = n; number = creation_in bytes }) else outcome.Fails deviation.Field)
-    else outcome.Fails deviation.Other
-
--- this first byte, a result, and so many bytes more
-abbrev pub by_answer : ℕ → AnswerCheck → ℕ → Bool → List Learned → List ℕ → PatternOutcome
-by_answer tag which more ended learned (first ∷ code ∷ rest) =
-    if nat_lt (length rest) more then part_outcome ended
-    else (if first == tag then by_result which (code == 0) (take more rest) learned (2 + more) else outcome.Fails deviation.Other)
-by_answer tag which more ended learned other = part_outcome ended
+-- ---- answers to a question for names
 
 -- all lines of the answer to a question for names end in a line feed
 abbrev pub are_lines : List ℕ → Bool
@@ -231,26 +214,28 @@ by_names which count None = outcome.Fails deviation.Closed
 by_names which count (Some answer) =
     if are_lines answer.1 && names_pass which answer.0 answer.1 then passes count else outcome.Fails deviation.Field
 
--- ---- patterns
+-- a registration: its tag, port, type, protocol, highest and lowest version, name and extra, and what stands behind them
+abbrev pub registration : List FieldForm
+registration = form.Tag 0x78 ∷ form.Fixed 2 ∷ form.Fixed 1 ∷ form.Fixed 1 ∷ form.Fixed 2 ∷ form.Fixed 2 ∷ form.Sized ∷ form.Sized ∷ form.Rest ∷ []
 
--- what a pattern makes of the body of a frame
-abbrev pub body_outcome : Pattern → Observation → List ℕ → PatternOutcome
-body_outcome (pattern.Frame front) o body = passes_if (begins_with front body) (2 + length body)
-body_outcome (pattern.Announcement k which) o body = by_announcement k which (length body) o.learned (said_in (read (side_of k) body))
-body_outcome (pattern.Reply challenge) o body = by_reply (digest_of o.cookie challenge) (length body) (reply_in (read Dialler body))
-body_outcome (pattern.Registration which) o body = by_registration which (length body) (registration_in body)
-body_outcome (pattern.Ack challenge) o body = passes_if (same_name body (canonical (message.Ack (digest_of o.cookie challenge)))) (2 + length body)
-body_outcome other o body = outcome.Open
+-- THE PORT THAT IS REGISTERED in what came, if that begins with a registration
+abbrev pub registered_port : List ℕ → Option ℕ
+registered_port came =
+    option_and_then (λ (t : List ℕ × List ℕ).
+    option_and_then (λ port. option_map (λ (n : ℕ × List ℕ). n.0) (number_at w16 port)) (value_in registration 1 t.0)) (whole framing.Frame came)
+
+-- ---- patterns
 
 -- WHAT A PATTERN MAKES OF WHAT CAME, from here on
 abbrev pub outcome_of : Pattern → Observation → List ℕ → PatternOutcome
 outcome_of pattern.End o came = if_nothing came (if o.ended then passes 0 else outcome.Open)
 outcome_of (pattern.Silence ms) o came = if_nothing came (open_for ms 0 o)
 outcome_of (pattern.Open ms) o came = open_for ms (length came) o
+outcome_of (pattern.Packets check) o came = by_packets check o came
 outcome_of (pattern.Bytes wanted) o came = by_bytes wanted came o.ended
-outcome_of (pattern.Answer tag which more) o came = by_answer tag which more o.ended o.learned came
+outcome_of (pattern.Body framing front) o came = by_whole (pattern.Body framing front) framing o came
+outcome_of (pattern.Message shape checks) o came = by_whole (pattern.Message shape checks) shape.framing o came
 outcome_of (pattern.Names which) o came = if o.ended then by_names which (length came) (number_at w32 came) else outcome.Open
-outcome_of framed o came = by_body (body_outcome framed o) (first_body w16 came) o.ended
 
 -- what was newly learned, or what was learned before
 abbrev pub or_else : Option ℕ → Option ℕ → Option ℕ
@@ -259,7 +244,7 @@ or_else None before = before
 
 -- one passage, and one behind it
 abbrev pub joined : Passage → Passage → Passage
-joined p q = record { count = p.count + q.count; number = or_else q.number p.number }
+joined p q = record { count = p.count + q.count; number = or_else q.number p.number; flags = if is_some q.number then q.flags else p.flags }
 
 -- what comes behind a pattern that matches
 abbrev pub behind_match : PatternOutcome → (Passage → PatternOutcome) → PatternOutcome
@@ -274,7 +259,7 @@ sequence_of o p (first ∷ others) = behind_match (outcome_of first o (drop p.co
 
 -- nothing has matched yet
 abbrev pub no_passage : Passage
-no_passage = record { count = 0; number = None }
+no_passage = record { count = 0; number = None; flags = None }
 
 -- what each alternative makes of what came
 abbrev pub outcomes_of : Observation → List (List Pattern) → List PatternOutcome

@@ -1,11 +1,11 @@
 -- What holds of the judgement as time goes on.
-use Rattle.std.specs.{Prelude.◌≡◌, Prelude.ℕ, Prelude.◌≤◌, Prelude.Bool, Prelude.true, Prelude.false, Prelude.List, Prelude.◌++◌, Prelude.Some, Int.w16}
-use Rattle.dist_names.specs.declared.{flags.Flags.Flags, creation.Creation.Creation}
-use Rattle.dist_frames.specs.Stream.{first_body}
-use Rattle.dist_messages.specs.{declared.message.Side.TheVariants.Acceptor, Spelling.Spells}
-use Rattle.dist_messages.specs.declared.message.Message.TheVariants as message
-use Rattle.dist_conformance.specs.{declared.outcomes.Passage.Passage, declared.patterns.Pattern.Pattern, Judging.Observation}
+use Rattle.std.specs.Prelude.{◌≡◌, ℕ, ◌≤◌, Bool, true, false, List, [], ◌∷◌, ◌++◌, length, Some}
+use Rattle.std.specs.{Int.w16, Int.w32, Int.from_be_bytes, List.list_all}
+use Rattle.dist_conformance.specs.{declared.outcomes.Passage.Passage, declared.patterns.Pattern.Pattern, declared.steps.Demand.Demand, Judging.Observation}
+use Rattle.dist_conformance.specs.declared.shapes.Shape.{Shape}
 use Rattle.dist_conformance.specs.declared.patterns.Pattern.TheVariants as pattern
+use Rattle.dist_conformance.specs.declared.shapes.FieldForm.TheVariants as form
+use Rattle.dist_conformance.specs.declared.shapes.Framing.TheVariants as framing
 
 -- ONE OBSERVATION IS LATER than another, at which the connection had not ended: more may have come, it may have ended, time went on.
 pub record IsLater (o later : Observation) : Type 0 where
@@ -22,16 +22,45 @@ abbrev pub looks_at_bytes : Pattern → Bool
 looks_at_bytes pattern.End = false
 looks_at_bytes (pattern.Silence ms) = false
 looks_at_bytes (pattern.Open ms) = false
+looks_at_bytes (pattern.Packets which) = false
 looks_at_bytes (pattern.Names which) = false
 looks_at_bytes other = true
 
--- A CHALLENGE CAME: in front stands the frame of a body that spells one, as the accepting side sends it; this challenge was learned.
+-- the pattern fails by what came alone, and not by the time in which nothing came
+abbrev pub never_stalls : Pattern → Bool
+never_stalls (pattern.Packets which) = false
+never_stalls other = true
+
+-- A DEMAND WITHOUT PAUSES: none of its patterns is `packets`
+abbrev pub WithoutPackets : Demand → Type 0
+WithoutPackets demand = (list_all (list_all never_stalls) demand.wanted ≡ true) × (list_all (list_all never_stalls) demand.loose ≡ true)
+
+-- THE SHAPE OF A CHALLENGE: in a frame the tag `N`, 8, 4 and 4 bytes, bytes behind their number, and what is left; the number is learned
+pub record IsOfChallenges (shape : Shape) : Type 0 where
+  pub framed : shape.framing ≡ framing.Frame
+  pub fields : shape.fields.now ≡ form.Tag 0x4e ∷ form.Fixed 8 ∷ form.Fixed 4 ∷ form.Fixed 4 ∷ form.Sized ∷ form.Rest ∷ []
+  pub number : shape.number ≡ Some 2
+
+-- A CHALLENGE CAME, as the ERTS User's Guide has it (Distribution Handshake): in front stands a frame, a body behind its length in 2 bytes;
+-- the body is `N`, flags in 8 bytes, a challenge in 4, a creation in 4, the length of a name in 2, the name, and something behind; this
+-- challenge was learned.
 pub record IsChallenge (came : List ℕ) (p : Passage) : Type 0 where
-  pub flags : Flags
-  pub challenge : ℕ
-  pub creation : Creation
-  pub name : List ℕ
+  pub size : List ℕ
   pub body : List ℕ
-  pub frame : first_body w16 came ≡ Some body
-  pub spelled : Spells Acceptor (message.NewChallenge flags challenge creation name) body
-  pub learned : p.number ≡ Some challenge
+  pub rest : List ℕ
+  pub frame : came ≡ size ++ body ++ rest
+  pub size_bytes : length size ≡ 2
+  pub counted : from_be_bytes w16 size ≡ length body
+  pub flags : List ℕ
+  pub challenge : List ℕ
+  pub creation : List ℕ
+  pub name_size : List ℕ
+  pub name : List ℕ
+  pub behind : List ℕ
+  pub spelled : body ≡ 0x4e ∷ flags ++ challenge ++ creation ++ name_size ++ name ++ behind
+  pub flags_bytes : length flags ≡ 8
+  pub challenge_bytes : length challenge ≡ 4
+  pub creation_bytes : length creation ≡ 4
+  pub name_bytes : length name_size ≡ 2
+  pub name_counted : from_be_bytes w16 name_size ≡ length name
+  pub learned : p.number ≡ Some (from_be_bytes w32 challenge)

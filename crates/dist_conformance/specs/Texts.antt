@@ -1,5 +1,5 @@
--- The parts of a text, and the words of a line.
-use Rattle.std.specs.Prelude.{ℕ, suc, Bool, not, ◌==◌, if◌then◌else◌, List, [], ◌∷◌, length, filter, Option, Some, None}
+-- The parts of a text.
+use Rattle.std.specs.Prelude.{ℕ, suc, ◌==◌, if◌then◌else◌, List, [], ◌∷◌, length, Option, Some, None}
 
 -- parts with c put before the first of them
 abbrev pub before_first : ℕ → List (List ℕ) → List (List ℕ)
@@ -20,14 +20,6 @@ parts_in byte (Some text) = parts_of byte text
 abbrev pub bytes_left : Option (List ℕ) → ℕ
 bytes_left None = 0
 bytes_left (Some text) = suc (length text)
-
--- there are some
-abbrev pub has_bytes : List ℕ → Bool
-has_bytes text = not (length text == 0)
-
--- the words of a line: what stands between its spaces, where that has some bytes
-unfoldable pub words_of : List ℕ → List (List ℕ)
-words_of line = filter has_bytes (parts_of 32 line)
 
 -- the lines of a text: what stands between its line feeds
 abbrev pub lines_of : List ℕ → List (List ℕ)

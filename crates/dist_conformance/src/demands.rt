@@ -1,140 +1,192 @@
 //! What a row demands, as it writes it.
 
-ghost use Rattle.std.specs.Prelude.{◌≡◌, IfOk};
-ghost use Rattle.dist_conformance.specs.Patterns.{mark_check, field_check, registration_check, names_line, names_check, looked_up, behind_word, pattern_in};
-ghost use Rattle.dist_conformance.specs.Patterns.{sequence_in, alternatives_in, demand_in};
-ghost use Rattle.dist_conformance.specs.{Terms.terms_of, Words.Reads, Words.ReadsUpTo};
-
 use crate::faults::ReadFault;
-use crate::fields::{
-    bytes_field, challenge_field, flag_of, mark, meaning_word, number_field, number_of,
-    optional_number,
-};
-use crate::from_text::{FromText, all_of};
 use crate::lists::SuiteList;
-use crate::messages::{answer_said, info_of, status_said};
-use crate::patterns::{
-    Announcement, AnswerCheck, FieldCheck, NamesCheck, Pattern, RegistrationCheck,
-};
+use crate::messages::{bytes_of_message, message_in, most_in, number_bytes};
+use crate::patterns::{Check, NamesCheck, PacketCheck, Pattern, Test};
+use crate::shapes::{AWAITED, EXACT, FieldForm, FieldKey, Framing, OUR_CHALLENGE, Shape};
 use crate::steps::Demand;
 use crate::terms::TalkTerms;
-use crate::texts::{split, words_of};
-use crate::words::LineWords;
-use dist_epmd::Answer;
-use dist_names::ByteString;
+use crate::texts::{first_part, split, words_of};
+use crate::words::{LineWords, flag_of, meaning_of, read_number};
+use dist_names::{ByteString, Flags, is_same_text};
 use std::alloc::{AllocError, Global};
 
-// The word of a pattern.
+// The word of a pattern that is no message.
 #[derive(Clone, Copy)]
 enum PatternWord {
     End,
     Silence,
     Open,
+    Packets,
     Bytes,
-    Frame,
-    Status,
-    Announcement(Announcement),
-    Reply,
-    Ack,
-    Registration,
-    // An answer to a registration: its first byte, and the bytes of its creation.
-    Answer(u8, usize),
-    Port2,
+    Body(Framing),
     Names,
 }
 
-const PATTERNS: [(&str, PatternWord); 17] = [
+const PATTERNS: [(&str, PatternWord); 8] = [
     ("end", PatternWord::End),
     ("silence", PatternWord::Silence),
     ("open", PatternWord::Open),
+    ("packets", PatternWord::Packets),
+    ("packet", PatternWord::Body(Framing::Packet)),
     ("bytes", PatternWord::Bytes),
-    ("frame", PatternWord::Frame),
-    ("status", PatternWord::Status),
-    ("name", PatternWord::Announcement(Announcement::Name)),
-    ("oldname", PatternWord::Announcement(Announcement::OldName)),
-    (
-        "challenge",
-        PatternWord::Announcement(Announcement::Challenge),
-    ),
-    (
-        "complement",
-        PatternWord::Announcement(Announcement::Complement),
-    ),
-    ("reply", PatternWord::Reply),
-    ("ack", PatternWord::Ack),
-    ("alive2req", PatternWord::Registration),
-    ("alive2x", PatternWord::Answer(0x76, 4)),
-    ("alive2y", PatternWord::Answer(0x79, 2)),
-    ("port2", PatternWord::Port2),
+    ("frame", PatternWord::Body(Framing::Frame)),
     ("names", PatternWord::Names),
 ];
 
-// What an answer to a registration has to be.
-const ANSWERS: [(&str, AnswerCheck); 3] = [
-    ("ok", AnswerCheck::Given),
-    ("fresh", AnswerCheck::Fresh),
-    ("refused", AnswerCheck::Refused),
-];
+// The shape in a table whose word this is, and whose second word comes next, which is taken.
+fn shape_in(
+    table: &[(&'static str, &'static str, Shape)],
+    word: &[u8],
+    words: &mut LineWords<'_>,
+) -> Option<Shape> {
+    for (first, second, shape) in table {
+        let is_first = is_same_text(first.as_bytes(), word);
+        if is_first && (second.is_empty() || words.mark(second.as_bytes())) {
+            return Some(*shape);
+        }
+    }
+    None
+}
 
-// Whether a node is known.
-const LOOKUPS: [(&str, bool); 2] = [("known", true), ("unknown", false)];
-
-// No check, or one of two marks.
-#[tactic(auto, unfolding(crate::specs::Patterns::mark_check))]
-fn mark_check(words: &mut LineWords<'_>) -> Result<FieldCheck, ReadFault>
-    ensures { ReadsUpTo result words.new (mark_check words.old) }
-{
-    let is_fresh = mark(words, b"fresh")?;
-    let is_bare = mark(words, b"bare")?;
-    match (is_fresh, is_bare) {
-        (true, _) => Ok(FieldCheck::Fresh),
-        (false, true) => Ok(FieldCheck::Bare),
-        (false, false) => Ok(FieldCheck::Any),
+// The flags with just the one that has this name, as a field of this form carries them, which has to have it.
+fn flag_in(form: FieldForm, key: FieldKey, name: &[u8]) -> Result<Flags, ReadFault> {
+    let flags = flag_of(name)?;
+    let carried = match (key, form) {
+        (FieldKey::HighFlags, _) => u64::from(flags.high()),
+        (_, FieldForm::Fixed(4)) => u64::from(flags.low()),
+        _ => flags.0,
+    };
+    if carried == 0 {
+        Err(ReadFault::Bad)
+    } else {
+        Ok(Flags(carried))
     }
 }
 
-// What a name, a challenge or a complement has to be.
-#[tactic(auto, unfolding(crate::specs::Words::field_or, crate::specs::Patterns::field_check))]
-fn field_check(alloc: Global, words: &mut LineWords<'_>) -> Result<FieldCheck, ReadFault>
-    ensures { ReadsUpTo result words.new (field_check words.old) }
-{
-    if let Some(name) = words.value(b"name=") {
-        return Ok(FieldCheck::Name(ByteString::from_slice(alloc, name)?));
+// What a word says that a number has to be.
+fn number_test(
+    alloc: Global,
+    form: FieldForm,
+    field: &[u8],
+    name: &[u8],
+    value: &[u8],
+) -> Result<Option<Test>, ReadFault> {
+    if is_same_text(name, field) {
+        let number = u64::from(read_number(value, most_in(form))?);
+        return Ok(Some(Test::Is(number_bytes(alloc, form, number)?)));
     }
-    if let Some(creation) = words.value(b"creation=") {
-        let creation = number_of(creation, u32::MAX)?;
-        return Ok(FieldCheck::Creation(creation, creation));
-    }
-    if let Some(least) = words.value(b"creation>=") {
-        return Ok(FieldCheck::Creation(number_of(least, u32::MAX)?, u32::MAX));
-    }
-    if let Some(flag) = words.value(b"has=") {
-        return Ok(FieldCheck::Has(flag_of(flag)?));
-    }
-    match words.value(b"hasnot=") {
-        Some(flag) => Ok(FieldCheck::Lacks(flag_of(flag)?)),
-        None => mark_check(words),
+    match (form, name) {
+        (FieldForm::Fixed(4), [front @ .., b'>']) if is_same_text(front, field) => {
+            Ok(Some(Test::AtLeast(read_number(value, u32::MAX)?)))
+        }
+        _ => Ok(None),
     }
 }
 
-// What a registration has to be.
-#[tactic(auto, unfolding(crate::specs::Patterns::registration_check))]
-fn registration_check(words: &mut LineWords<'_>) -> Result<RegistrationCheck, ReadFault>
-    ensures { ReadsUpTo result words.new (registration_check words.old) }
-{
-    Ok(RegistrationCheck {
-        node_type: optional_number(words, b"type=")?,
-        protocol: optional_number(words, b"protocol=")?,
-        highest: optional_number(words, b"high=")?,
-        lowest: optional_number(words, b"low=")?,
-        bare: mark(words, b"bare")?,
-    })
+// What a word `NAME=VALUE` says that a field has to be, if it does.
+fn value_test(
+    alloc: Global,
+    form: FieldForm,
+    key: FieldKey,
+    name: &[u8],
+    value: &[u8],
+) -> Result<Option<Test>, ReadFault> {
+    match (key, name) {
+        (FieldKey::Number(field, _), _) => number_test(alloc, form, field.as_bytes(), name, value),
+        (FieldKey::Flags | FieldKey::HighFlags, b"has") => Ok(Some(Test::Has(flag_in(
+            form, key, value,
+        )?))),
+        (FieldKey::Flags | FieldKey::HighFlags, b"hasnot") => {
+            Ok(Some(Test::Lacks(flag_in(form, key, value)?)))
+        }
+        (FieldKey::Name | FieldKey::ShortName, b"name") => {
+            Ok(Some(Test::Is(ByteString::from_slice(alloc, value)?)))
+        }
+        _ => Ok(None),
+    }
+}
+
+// What a mark says that the field in this place has to be, if it does.
+fn mark_test(shape: &Shape, place: usize, key: FieldKey, mark: &[u8]) -> Option<Test> {
+    match mark {
+        b"fresh" if shape.number == Some(place) => Some(Test::Fresh),
+        b"apart" if shape.number == Some(place) => Some(Test::Apart),
+        b"alike" if shape.flags == Some(place) => Some(Test::Alike),
+        b"bare" if matches!(key, FieldKey::ShortName) => Some(Test::NoHost),
+        b"bare" if matches!(key, FieldKey::Behind) => Some(Test::Empty),
+        _ => None,
+    }
+}
+
+// Appends what a word says that the fields have to be, which has to be something.
+fn put_checks(
+    alloc: Global,
+    checks: &mut Vec<Check>,
+    shape: &Shape,
+    word: &[u8],
+) -> Result<(), ReadFault> {
+    let (name, value) = first_part(word, b'=');
+    let before = checks.len();
+    let mut place = 0;
+    for (form, key) in shape.fields.iter().zip(shape.keys) {
+        let test = match value {
+            Some(value) => value_test(alloc, *form, *key, name, value)?,
+            None => mark_test(shape, place, *key, name),
+        };
+        if let Some(test) = test {
+            checks.push(Check { place, test })?;
+        }
+        place = place.saturating_add(1);
+    }
+    if checks.len() == before {
+        return Err(ReadFault::Bad);
+    }
+    Ok(())
+}
+
+// Appends what the fields have to be whatever a row says: what is given is not 0, and digests are right.
+fn put_usual_checks(
+    checks: &mut Vec<Check>,
+    shape: &Shape,
+    words: &mut LineWords<'_>,
+) -> Result<(), ReadFault> {
+    let mut place = 0;
+    for key in shape.keys {
+        if matches!(key, FieldKey::Given | FieldKey::New) {
+            let test = Test::Given;
+            checks.push(Check { place, test })?;
+        }
+        if matches!(key, FieldKey::New) {
+            let test = Test::Fresh;
+            checks.push(Check { place, test })?;
+        }
+        if matches!(key, FieldKey::Digest) {
+            let test = Test::Digest(words.number(b"challenge", OUR_CHALLENGE, u32::MAX)?);
+            checks.push(Check { place, test })?;
+        }
+        place = place.saturating_add(1);
+    }
+    Ok(())
+}
+
+// A message whose fields are as the words that are left say.
+fn message_pattern(
+    alloc: Global,
+    shape: Shape,
+    words: &mut LineWords<'_>,
+) -> Result<Pattern, ReadFault> {
+    let mut checks = Vec::new(alloc);
+    put_usual_checks(&mut checks, &shape, words)?;
+    for word in words.take_all() {
+        put_checks(alloc, &mut checks, &shape, *word)?;
+    }
+    Ok(Pattern::Message(shape, SuiteList::from_vec(checks)))
 }
 
 // The line of a node, or its front where the port is left out.
-fn names_line(alloc: Global, name: &[u8], port: &[u8]) -> Result<ByteString, AllocError>
-    ensures { IfOk result (λ line. line ≡ names_line name.now port.now) }
-{
+fn names_line(alloc: Global, name: &[u8], port: &[u8]) -> Result<ByteString, AllocError> {
     let mut line = Vec::from_slice(alloc, b"name ")?;
     line.extend_from_slice(name)?;
     line.extend_from_slice(b" at port ")?;
@@ -143,127 +195,100 @@ fn names_line(alloc: Global, name: &[u8], port: &[u8]) -> Result<ByteString, All
 }
 
 // What the answer to a question for names has to be.
-#[tactic(auto, unfolding(crate::specs::Patterns::names_check))]
-fn names_check(alloc: Global, words: &mut LineWords<'_>) -> Result<NamesCheck, ReadFault>
-    ensures { ReadsUpTo result words.new (names_check words.old) }
-{
-    if let Some(port) = words.value(b"port=") {
-        return Ok(NamesCheck::Port(number_of(port, u32::MAX)?));
+fn names_check(alloc: Global, words: &mut LineWords<'_>) -> Result<NamesCheck, ReadFault> {
+    if let Some(port) = words.value(b"port") {
+        return Ok(NamesCheck::Port(read_number(port, u32::MAX)?));
     }
-    if let Some(name) = words.value(b"has=") {
-        let port = words.value(b"at=").ok_or(ReadFault::Bad)?;
+    if let Some(name) = words.value(b"has") {
+        let port = words.value(b"at").ok_or(ReadFault::Bad)?;
         return Ok(NamesCheck::Has(names_line(alloc, name, port)?));
     }
-    match words.value(b"hasnot=") {
+    match words.value(b"hasnot") {
         Some(name) => Ok(NamesCheck::Lacks(names_line(alloc, name, b"")?)),
         None => Ok(NamesCheck::Any),
     }
 }
 
-// The answer to a lookup: a node, or none.
-fn lookup_answer(
-    alloc: Global,
-    terms: &TalkTerms<'_>,
-    is_known: bool,
-    words: &mut LineWords<'_>,
-) -> Result<Pattern, ReadFault>
-    ensures { ReadsUpTo result words.new (looked_up (terms_of terms.now) is_known words.old) }
-{
-    if !is_known {
-        return Ok(Pattern::Answer(0x77, AnswerCheck::Refused, 0));
-    }
-    let info = info_of(alloc, terms, words)?;
-    Ok(Pattern::Bytes(answer_said(alloc, &Answer::Port(Ok(info)))?))
+fn packet_check(words: &mut LineWords<'_>) -> Result<PacketCheck, ReadFault> {
+    Ok(PacketCheck {
+        time: words.time()?,
+        least: words.number(b"least", 0, u32::MAX)?,
+        most: words.number(b"most", u32::MAX, u32::MAX)?,
+    })
 }
 
-// A pattern of this word.
-fn pattern_of(
+// A pattern of this word that is no message.
+fn plain_pattern(
     alloc: Global,
-    terms: &TalkTerms<'_>,
     word: PatternWord,
     words: &mut LineWords<'_>,
-) -> Result<Pattern, ReadFault>
-    ensures { ReadsUpTo result words.new (behind_word (terms_of terms.now) word words.old) }
-{
+) -> Result<Pattern, ReadFault> {
     match word {
         PatternWord::End => Ok(Pattern::End),
-        PatternWord::Silence => Ok(Pattern::Silence(number_field(words, b"", 0, u32::MAX)?)),
-        PatternWord::Open => Ok(Pattern::Open(number_field(words, b"", 0, u32::MAX)?)),
-        PatternWord::Bytes => Ok(Pattern::Bytes(bytes_field(alloc, words, b"")?)),
-        PatternWord::Frame => Ok(Pattern::Frame(bytes_field(alloc, words, b"")?)),
-        PatternWord::Status => Ok(Pattern::Bytes(status_said(alloc, words.word()?)?)),
-        PatternWord::Announcement(kind) => {
-            Ok(Pattern::Announcement(kind, field_check(alloc, words)?))
+        PatternWord::Silence => Ok(Pattern::Silence(words.time()?)),
+        PatternWord::Open => Ok(Pattern::Open(words.time()?)),
+        PatternWord::Packets => Ok(Pattern::Packets(packet_check(words)?)),
+        PatternWord::Bytes => {
+            let word = words.next_word();
+            Ok(Pattern::Bytes(words.bytes(word)?))
         }
-        PatternWord::Reply => Ok(Pattern::Reply(challenge_field(words)?)),
-        PatternWord::Ack => Ok(Pattern::Ack(challenge_field(words)?)),
-        PatternWord::Registration => Ok(Pattern::Registration(registration_check(words)?)),
-        PatternWord::Answer(tag, count) => {
-            Ok(Pattern::Answer(tag, meaning_word(&ANSWERS, words)?, count))
-        }
-        PatternWord::Port2 => {
-            let is_known = meaning_word(&LOOKUPS, words)?;
-            lookup_answer(alloc, terms, is_known, words)
+        PatternWord::Body(framing) => {
+            let word = words.next_word();
+            Ok(Pattern::Body(framing, words.bytes(word)?))
         }
         PatternWord::Names => Ok(Pattern::Names(names_check(alloc, words)?)),
     }
 }
 
-impl FromText for Pattern {
-    ghost says = { pattern_in };
-
-    #[tactic(auto, unfolding(crate::specs::Patterns::pattern_in))]
-    fn from_text(alloc: Global, terms: &TalkTerms<'_>, text: &[u8]) -> Result<Pattern, ReadFault> {
-        let words = words_of(alloc, text)?;
-        let mut words = LineWords::new(&words);
-        let word = meaning_word(&PATTERNS, &mut words)?;
-        let pattern = pattern_of(alloc, terms, word, &mut words)?;
-        words.whole(pattern)
+fn pattern_in(terms: &TalkTerms<'_>, words: &mut LineWords<'_>) -> Result<Pattern, ReadFault> {
+    let word = words.word()?;
+    if let Some(shape) = shape_in(&AWAITED, word, words) {
+        return message_pattern(terms.alloc, shape, words);
     }
+    if let Some(shape) = shape_in(&EXACT, word, words) {
+        let part = message_in(terms, &shape, words)?;
+        return Ok(Pattern::Bytes(bytes_of_message(terms.alloc, &part)?));
+    }
+    plain_pattern(terms.alloc, meaning_of(&PATTERNS, word)?, words)
 }
 
-/// Patterns one behind the other, with commas between them.
-impl FromText for SuiteList<Pattern> {
-    ghost says = { sequence_in };
-
-    #[tactic(auto, unfolding(crate::specs::Patterns::sequence_in))]
-    fn from_text(
-        alloc: Global,
-        terms: &TalkTerms<'_>,
-        text: &[u8],
-    ) -> Result<SuiteList<Pattern>, ReadFault> {
-        let parts = split(alloc, text, b',')?;
-        Ok(SuiteList::from_vec(all_of(alloc, terms, &parts)?))
+// Patterns one behind the other, with commas between them.
+fn sequence_in(terms: &TalkTerms<'_>, text: &[u8]) -> Result<SuiteList<Pattern>, ReadFault> {
+    let parts = split(terms.alloc, text, b',')?;
+    let mut patterns = Vec::new(terms.alloc);
+    for part in &parts {
+        let words = words_of(terms.alloc, *part)?;
+        let mut words = LineWords::new(terms.alloc, &words);
+        let pattern = pattern_in(terms, &mut words)?;
+        patterns.push(words.finish(pattern)?)?;
     }
+    Ok(SuiteList::from_vec(patterns))
 }
 
 // Alternatives, with bars between them.
-#[tactic(auto, unfolding(crate::specs::Patterns::alternatives_in))]
-fn alternatives_of(
-    alloc: Global,
+fn alternatives_in(
     terms: &TalkTerms<'_>,
     text: &[u8],
-) -> Result<SuiteList<SuiteList<Pattern>>, ReadFault>
-    ensures { Reads result (alternatives_in (terms_of terms.now) text.now) }
-{
-    let parts = split(alloc, text, b'|')?;
-    Ok(SuiteList::from_vec(all_of(alloc, terms, &parts)?))
+) -> Result<SuiteList<SuiteList<Pattern>>, ReadFault> {
+    let parts = split(terms.alloc, text, b'|')?;
+    let mut alternatives = Vec::new(terms.alloc);
+    for part in &parts {
+        alternatives.push(sequence_in(terms, *part)?)?;
+    }
+    Ok(SuiteList::from_vec(alternatives))
 }
 
 /// Wanted alternatives, and loose ones where a slash stands before them.
-#[tactic(auto, unfolding(crate::specs::Patterns::demand_in))]
-pub fn demand_of(alloc: Global, terms: &TalkTerms<'_>, text: &[u8]) -> Result<Demand, ReadFault>
-    ensures { Reads result (demand_in (terms_of terms.now) text.now) }
-{
-    let parts = split(alloc, text, b'/')?;
+pub fn demand_in(terms: &TalkTerms<'_>, text: &[u8]) -> Result<Demand, ReadFault> {
+    let parts = split(terms.alloc, text, b'/')?;
     match parts.as_slice() {
         [wanted] => Ok(Demand {
-            wanted: alternatives_of(alloc, terms, *wanted)?,
-            loose: SuiteList::from_vec(Vec::new(alloc)),
+            wanted: alternatives_in(terms, *wanted)?,
+            loose: SuiteList::from_vec(Vec::new(terms.alloc)),
         }),
         [wanted, loose] => Ok(Demand {
-            wanted: alternatives_of(alloc, terms, *wanted)?,
-            loose: alternatives_of(alloc, terms, *loose)?,
+            wanted: alternatives_in(terms, *wanted)?,
+            loose: alternatives_in(terms, *loose)?,
         }),
         _ => Err(ReadFault::Bad),
     }

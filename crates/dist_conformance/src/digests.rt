@@ -1,10 +1,11 @@
 //! The digests of replies, right ones and wrong ones.
 
-ghost use Rattle.std.specs.Prelude.{◌≡◌, ◌<◌, ◌++◌};
+ghost use Rattle.std.specs.Prelude.{◌≡◌, ◌<◌, ◌++◌, ◌==◌};
+ghost use Rattle.std.specs.List.{list_any};
 ghost use Rattle.md5.specs.Md5.{md5};
-ghost use Rattle.dist_conformance.specs.Saying.{digest_said, with_bit};
+ghost use Rattle.dist_conformance.specs.Saying.{digest_of, digest_said, is_possible, with_bit};
 
-use dist_secret::{Cookie, digest};
+use dist_secret::Cookie;
 use itoa::Buffer;
 use md5::{Digest, Md5};
 
@@ -33,7 +34,24 @@ pub enum ReplyDigest {
     FlipLast,
     /// `zero`: 16 zeros.
     Zero,
+    /// `behindzero`: the right one with the last bit of its last byte changed. It is said only where one of the bytes before that is 0.
+    BehindZero,
 }
+
+/// The words of all but the right one.
+pub const DIGESTS: [(&str, ReplyDigest); 11] = [
+    ("wrong", ReplyDigest::Wrong),
+    ("newline", ReplyDigest::Newline),
+    ("nocookie", ReplyDigest::NoCookie),
+    ("swapped", ReplyDigest::Swapped),
+    ("raw", ReplyDigest::Raw),
+    ("other", ReplyDigest::Other),
+    ("earlier", ReplyDigest::Earlier),
+    ("flip", ReplyDigest::FlipFirst),
+    ("flipend", ReplyDigest::FlipLast),
+    ("zero", ReplyDigest::Zero),
+    ("behindzero", ReplyDigest::BehindZero),
+];
 
 // MD5 of three pieces.
 fn md5_of(first: &[u8], second: &[u8], third: &[u8]) -> [u8; 16]
@@ -44,6 +62,14 @@ fn md5_of(first: &[u8], second: &[u8], third: &[u8]) -> [u8; 16]
     hasher.update(second);
     hasher.update(third);
     hasher.finalize()
+}
+
+/// The digest of a cookie and a challenge: MD5 of the cookie, and then the challenge in decimal digits.
+pub fn digest(cookie: &Cookie, challenge: u32) -> [u8; 16]
+    ensures { result ≡ digest_of cookie.now challenge }
+{
+    let mut buffer = Buffer::new();
+    md5_of(cookie.bytes(), b"", buffer.format(challenge).as_bytes())
 }
 
 // The digest with these bits of one byte changed.
@@ -73,5 +99,22 @@ pub fn digest_to_say(kind: ReplyDigest, cookie: &Cookie, challenge: u32, earlier
         ReplyDigest::FlipFirst => with_bit(digest(cookie, challenge), 0, 1),
         ReplyDigest::FlipLast => with_bit(digest(cookie, challenge), 15, 128),
         ReplyDigest::Zero => [0; 16],
+        ReplyDigest::BehindZero => with_bit(digest(cookie, challenge), 15, 1),
+    }
+}
+
+fn has_zero(bytes: &[u8]) -> bool
+    ensures { result ≡ list_any (λ byte. byte == 0) bytes.now }
+{
+    bytes.iter().any(|byte| *byte == 0)
+}
+
+/// Whether there is such a digest of this challenge.
+pub fn is_possible(kind: ReplyDigest, cookie: &Cookie, challenge: u32) -> bool
+    ensures { result ≡ is_possible kind cookie.now challenge }
+{
+    match kind {
+        ReplyDigest::BehindZero => has_zero(&digest(cookie, challenge)[..15]),
+        _ => true,
     }
 }

@@ -1,9 +1,7 @@
 //! Why a text is not the rows of a section.
 
 ghost use Rattle.dist_conformance.specs.declared.faults.ReadFault.TheVariants as read;
-ghost use Rattle.dist_conformance.specs.declared.faults.ListFault.TheVariants as list;
 ghost use Rattle.dist_conformance.specs.declared.faults.RowError.TheVariants as row;
-ghost use Rattle.dist_conformance.specs.Faults.{read_fault_of};
 ghost use Rattle.std.specs.Prelude.{◌≡◌};
 
 use std::alloc::{AllocError, AllocFailed};
@@ -14,15 +12,6 @@ use thiserror::Error;
 pub enum ReadFault {
     /// It is not of the form that is wanted.
     Bad,
-    /// Memory ran out.
-    NoMemory,
-}
-
-/// Why parts were not read one after the other.
-#[derive(Clone, Copy)]
-pub enum ListFault {
-    /// One of them is bad, behind which there are so many more.
-    Bad(usize),
     /// Memory ran out.
     NoMemory,
 }
@@ -52,31 +41,11 @@ impl From<AllocError> for ReadFault {
     }
 }
 
-// In a list, what is bad in one of its parts makes the whole bad.
-impl From<ListFault> for ReadFault {
-    ghost from_gives = { λ list fault. fault ≡ read_fault_of list };
+impl<T: Drop> From<AllocFailed<T>> for ReadFault {
+    ghost from_gives = { λ _ fault. fault ≡ read.NoMemory };
 
-    fn from(fault: ListFault) -> ReadFault {
-        match fault {
-            ListFault::Bad(_) => ReadFault::Bad,
-            ListFault::NoMemory => ReadFault::NoMemory,
-        }
-    }
-}
-
-impl From<AllocError> for ListFault {
-    ghost from_gives = { λ _ fault. fault ≡ list.NoMemory };
-
-    fn from(_error: AllocError) -> ListFault {
-        ListFault::NoMemory
-    }
-}
-
-impl<T: Drop> From<AllocFailed<T>> for ListFault {
-    ghost from_gives = { λ _ fault. fault ≡ list.NoMemory };
-
-    fn from(_error: AllocFailed<T>) -> ListFault {
-        ListFault::NoMemory
+    fn from(_error: AllocFailed<T>) -> ReadFault {
+        ReadFault::NoMemory
     }
 }
 

@@ -1,8 +1,9 @@
 //! The judgement.
 
-ghost use Rattle.std.specs.{Prelude.◌≡◌, Prelude.◌<◌, Prelude.◌+◌, Prelude.◌^◌, List.list_any};
+ghost use Rattle.std.specs.{Prelude.◌≡◌, Prelude.◌<◌, Prelude.◌+◌, Prelude.◌^◌, Prelude.unwrap_or, List.list_any};
 ghost use Rattle.dist_conformance.specs.Judging.{observation_of, no_passage, joined, sequence_of, outcomes_of};
 ghost use Rattle.dist_conformance.specs.Judging.{first_passage, is_open, first_failure, judgement_of};
+ghost use Rattle.dist_conformance.specs.{Alternatives.with_one, declared.outcomes.Deviation.TheVariants.Silent};
 
 use crate::lists::SuiteList;
 use crate::outcomes::{Deviation, Observed, Passage, PatternOutcome, outcome_of};
@@ -25,6 +26,7 @@ pub enum Judgement {
 const NO_PASSAGE: Passage = Passage {
     count: 0,
     number: None,
+    flags: None,
 };
 
 // One passage, and one behind it.
@@ -35,6 +37,11 @@ fn join(first: Passage, second: Passage) -> Passage
     Passage {
         count: first.count + second.count,
         number: second.number.or(first.number),
+        flags: if second.number.is_some() {
+            second.flags
+        } else {
+            first.flags
+        },
     }
 }
 
@@ -57,33 +64,45 @@ fn sequence_outcome(patterns: &[Pattern], observed: &Observed<'_>) -> PatternOut
 struct Alternatives {
     passage: Option<Passage>,
     is_undecided: bool,
-    failure: Deviation,
+    failure: Option<Deviation>,
+}
+
+impl Alternatives {
+    // One alternative more.
+    fn add(self, outcome: PatternOutcome) -> Alternatives
+        ensures { result ≡ with_one self outcome }
+    {
+        match outcome {
+            PatternOutcome::Matches(passage) => Alternatives {
+                passage: self.passage.or(Some(passage)),
+                ..self
+            },
+            PatternOutcome::Fails(failure) => Alternatives {
+                failure: self.failure.or(Some(failure)),
+                ..self
+            },
+            PatternOutcome::Open => Alternatives {
+                is_undecided: true,
+                ..self
+            },
+        }
+    }
 }
 
 fn alternatives_of(alternatives: &[SuiteList<Pattern>], observed: &Observed<'_>) -> Alternatives
     ensures passage { result.passage ≡ first_passage (outcomes_of (observation_of observed.now) alternatives.now) }
     ensures undecided { result.is_undecided ≡ list_any is_open (outcomes_of (observation_of observed.now) alternatives.now) }
-    ensures failure { result.failure ≡ first_failure (outcomes_of (observation_of observed.now) alternatives.now) }
+    ensures failure { unwrap_or result.failure Silent ≡ first_failure (outcomes_of (observation_of observed.now) alternatives.now) }
 {
-    let [patterns, others @ ..] = alternatives else {
-        return Alternatives {
-            passage: None,
-            is_undecided: false,
-            failure: Deviation::Silent,
-        };
+    let mut all = Alternatives {
+        passage: None,
+        is_undecided: false,
+        failure: None,
     };
-    let rest = alternatives_of(others, observed);
-    match sequence_outcome(patterns.as_slice(), observed) {
-        PatternOutcome::Matches(passage) => Alternatives {
-            passage: Some(passage),
-            ..rest
-        },
-        PatternOutcome::Fails(failure) => Alternatives { failure, ..rest },
-        PatternOutcome::Open => Alternatives {
-            is_undecided: true,
-            ..rest
-        },
+    for patterns in alternatives {
+        all = all.add(sequence_outcome(patterns.as_slice(), observed));
     }
+    all
 }
 
 /// What a demand comes to, as far as it can be said: the first wanted alternative that matches; `More` as long as one of them can still
@@ -110,6 +129,6 @@ pub fn judge(demand: &Demand, observed: &Observed<'_>) -> Judgement
     if in_time && loose.is_undecided {
         Judgement::More
     } else {
-        Judgement::Deviates(wanted.failure)
+        Judgement::Deviates(wanted.failure.unwrap_or(Deviation::Silent))
     }
 }

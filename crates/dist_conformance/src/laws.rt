@@ -1,15 +1,15 @@
 //! Laws of the judgement: each is a function that does nothing, and whose contract is the law.
 
 ghost use Rattle.std.specs.{Prelude.◌≡◌, Prelude.◌≤◌, Prelude.◌<◌, Prelude.ℕ, Prelude.true, Prelude.List, Prelude.Contains, List.list_all};
-ghost use Rattle.dist_names.specs.Bytes.{IsBytes};
 ghost use Rattle.dist_conformance.specs.Judging.{Observation, outcome_of, sequence_of, no_passage, judgement_of};
-ghost use Rattle.dist_conformance.specs.Later.{IsLater, looks_at_bytes, IsChallenge};
-ghost use Rattle.dist_conformance.specs.declared.{steps.Demand.Demand, patterns.FieldCheck.FieldCheck, patterns.Pattern.Pattern, outcomes.Passage.Passage};
-ghost use Rattle.dist_conformance.specs.declared.{outcomes.Deviation.Deviation};
-ghost use Rattle.dist_conformance.specs.declared.patterns.Announcement.TheVariants as kind;
+ghost use Rattle.dist_conformance.specs.Later.{IsLater, WithoutPackets, looks_at_bytes, IsOfChallenges, IsChallenge};
+ghost use Rattle.dist_conformance.specs.declared.{shapes.Shape.Shape, steps.Demand.Demand, patterns.Check.Check, patterns.Pattern.Pattern};
+ghost use Rattle.dist_conformance.specs.declared.outcomes.{Passage.Passage, Deviation.Deviation};
 ghost use Rattle.dist_conformance.specs.declared.patterns.Pattern.TheVariants as pattern;
 ghost use Rattle.dist_conformance.specs.declared.outcomes.PatternOutcome.TheVariants as outcome;
 ghost use Rattle.dist_conformance.specs.declared.judging.Judgement.TheVariants as judgement;
+
+use crate::shapes::{CHALLENGE, Shape};
 
 /// The judgement is decided once the connection has ended, and once the time is over.
 pub fn decided_in_the_end()
@@ -23,9 +23,10 @@ pub fn kept_by_a_match()
         (patterns : List Pattern) × Contains demand.wanted patterns × (sequence_of o no_passage patterns ≡ outcome.Matches p) }
 {}
 
-/// What deviates before the time is over deviates for good, whatever comes and in whatever pieces, and for the same reason.
+/// What deviates before the time is over deviates for good, whatever comes and in whatever pieces, and for the same reason. Patterns
+/// `packets` are left out: they fail where a packet has come in part and nothing followed for a time.
 pub fn deviates_for_good()
-    ensures { (demand : Demand) (o later : Observation) (why : Deviation) → IsLater o later → o.elapsed < o.limit →
+    ensures { (demand : Demand) (o later : Observation) (why : Deviation) → WithoutPackets demand → IsLater o later → o.elapsed < o.limit →
         judgement_of demand o ≡ judgement.Deviates why → judgement_of demand later ≡ judgement.Deviates why }
 {}
 
@@ -36,8 +37,15 @@ pub fn matches_for_good()
         sequence_of later no_passage patterns ≡ outcome.Matches p }
 {}
 
-/// The pattern of a challenge matches only where a challenge came, as the ERTS User's Guide spells it.
+/// The shape of a challenge of version 6.
+pub fn challenge_shape() -> Shape
+    ensures { IsOfChallenges result }
+{
+    CHALLENGE
+}
+
+/// The pattern of a challenge matches only where a challenge came, as the ERTS User's Guide has it.
 pub fn challenges_are_spelled()
-    ensures { (which : FieldCheck) (o : Observation) (came : List ℕ) (p : Passage) → IsBytes came →
-        outcome_of (pattern.Announcement kind.Challenge which) o came ≡ outcome.Matches p → IsChallenge came p }
+    ensures { (shape : Shape) (checks : List Check) (o : Observation) (came : List ℕ) (p : Passage) → IsOfChallenges shape →
+        outcome_of (pattern.Message shape checks) o came ≡ outcome.Matches p → IsChallenge came p }
 {}

@@ -8,22 +8,23 @@
 #![tactic(auto)]
 
 mod actions;
+mod bodies;
+mod checks;
 mod demands;
 mod digests;
 mod faults;
-mod fields;
-mod from_text;
 mod heads;
 mod judging;
 mod laws;
 mod lists;
 mod messages;
 mod outcomes;
+mod packets;
 mod patterns;
 mod reading;
-mod registrations;
 mod rows;
 mod say;
+mod shapes;
 mod steps;
 mod talks;
 mod terms;
@@ -35,16 +36,16 @@ pub use digests::ReplyDigest;
 pub use faults::RowError;
 pub use judging::{Judgement, judge};
 pub use laws::{
-    challenges_are_spelled, decided_in_the_end, deviates_for_good, kept_by_a_match,
-    matches_for_good,
+    challenge_shape, challenges_are_spelled, decided_in_the_end, deviates_for_good,
+    kept_by_a_match, matches_for_good,
 };
 pub use lists::SuiteList;
-pub use outcomes::{Deviation, Observed, Passage};
-pub use patterns::{Announcement, AnswerCheck, FieldCheck, NamesCheck, Pattern, RegistrationCheck};
+pub use outcomes::{Deviation, Observed, Passage, registered_port};
+pub use patterns::{Check, NamesCheck, PacketCheck, Pattern, Test};
 pub use reading::read_section;
-pub use registrations::registered_port;
 pub use rows::{Level, Marks, RowTalk, Section, SectionKind, SuiteRow};
 pub use say::{Learned, bytes_to_say};
-pub use steps::{Action, Demand, DigestTerms, SaidPart, Saying, TalkStep};
+pub use shapes::{FieldForm, FieldKey, Framing, Shape};
+pub use steps::{Action, Demand, SaidField, SaidPart, SaidValue, Saying, TalkStep};
 pub use terms::SuiteNames;
 pub use verdicts::{RowResult, TalkVerdict, count_of, status, worst};

@@ -1,406 +1,184 @@
-//! The messages of a step `say`, as a row writes them.
+//! Messages, as a row writes them: each field by its row of the table.
 
-ghost use Rattle.std.specs.{Prelude.◌≡◌, Prelude.Some, Prelude.None, Prelude.codes, Prelude.is_ok, Prelude.IfOk, Prelude.MatchResult, Result.result_ok};
-ghost use Rattle.dist_messages.specs.{Canonical.own_spelling, Reading.read};
-ghost use Rattle.dist_conformance.specs.Words.{Reads, ReadsUpTo, field, meaning_in};
-ghost use Rattle.dist_conformance.specs.Messages.{announcement_terms, message_of, announcement_part, status_said, digest_words, digest_terms, info_numbers};
-ghost use Rattle.dist_conformance.specs.Messages.{info, request_part, answer_said, alive_answer, answer_part, behind_word, part_in};
-ghost use Rattle.dist_conformance.specs.{declared.faults.ReadFault.TheVariants.Bad, Saying.edited, Saying.frame_said, Terms.terms_of};
-ghost use Rattle.dist_conformance.specs.declared.steps.SaidPart.TheVariants as part;
-ghost use Rattle.dist_conformance.specs.declared.digests.ReplyDigest.TheVariants as digest;
-ghost use Rattle.dist_conformance.specs.declared.messages.MessageWord.TheVariants as word;
-
-use crate::digests::ReplyDigest;
+use crate::digests::{DIGESTS, ReplyDigest};
 use crate::faults::ReadFault;
-use crate::fields::{
-    bytes_field, challenge_field, flags_field, meaning_of, meaning_word, name_field, number_field,
-    optional_number,
-};
-use crate::from_text::FromText;
-use crate::patterns::Announcement;
-use crate::say::put_frame;
-use crate::steps::{DigestTerms, SaidPart};
+use crate::lists::SuiteList;
+use crate::say::{put_field, put_message};
+use crate::shapes::{ALIVE, FieldForm, FieldKey, Framing, MESSAGES, Shape};
+use crate::steps::{SaidField, SaidPart, SaidValue};
 use crate::terms::TalkTerms;
 use crate::texts::words_of;
-use crate::words::LineWords;
-use dist_epmd::{Answer, EpmdError, NodeInfo, Request, encode_answer, encode_request};
-use dist_messages::{Message, MessageError, Side, encode, read_in_place};
-use dist_names::{ByteString, Creation, Flags};
-use std::alloc::{AllocError, Global};
+use crate::words::{LineWords, meaning_of};
+use dist_epmd::NodeInfo;
+use dist_names::ByteString;
+use std::alloc::Global;
 
-// The word of a message.
-#[derive(Clone, Copy)]
-enum MessageWord {
-    Announcement(Announcement),
-    Status,
-    Reply,
-    Mirror,
-    Ack,
-    Tick,
-    Alive2,
-    // An answer to a registration: whether it has a creation of 4 bytes, or of 2.
-    Alive2Answer(bool),
-    Lookup,
-    Names,
-    Frame,
-    Raw,
+// The statuses of either side.
+const STATUSES: [(&str, ()); 7] = [
+    ("ok", ()),
+    ("ok_simultaneous", ()),
+    ("nok", ()),
+    ("not_allowed", ()),
+    ("alive", ()),
+    ("true", ()),
+    ("false", ()),
+];
+
+/// The bytes of a number in a field of this form: the last of its 8 bytes.
+pub fn number_bytes(alloc: Global, form: FieldForm, number: u64) -> Result<ByteString, ReadFault> {
+    match form {
+        FieldForm::Fixed(size) if size <= 8 => {
+            let bytes = number.to_be_bytes();
+            Ok(ByteString::from_slice(alloc, &bytes[8 - size..])?)
+        }
+        _ => Err(ReadFault::Bad),
+    }
 }
 
-const MESSAGES: [(&str, MessageWord); 17] = [
-    ("name", MessageWord::Announcement(Announcement::Name)),
-    ("oldname", MessageWord::Announcement(Announcement::OldName)),
-    (
-        "challenge",
-        MessageWord::Announcement(Announcement::Challenge),
-    ),
-    (
-        "oldchallenge",
-        MessageWord::Announcement(Announcement::OldChallenge),
-    ),
-    (
-        "complement",
-        MessageWord::Announcement(Announcement::Complement),
-    ),
-    ("status", MessageWord::Status),
-    ("reply", MessageWord::Reply),
-    ("mirror", MessageWord::Mirror),
-    ("ack", MessageWord::Ack),
-    ("tick", MessageWord::Tick),
-    ("alive2", MessageWord::Alive2),
-    ("alive2x", MessageWord::Alive2Answer(true)),
-    ("alive2y", MessageWord::Alive2Answer(false)),
-    ("lookup", MessageWord::Lookup),
-    ("names", MessageWord::Names),
-    ("frame", MessageWord::Frame),
-    ("raw", MessageWord::Raw),
-];
+/// The greatest number below 2^32 that a field of this form can have.
+pub fn most_in(form: FieldForm) -> u32 {
+    match form {
+        FieldForm::Fixed(1) => 255,
+        FieldForm::Fixed(2) => 65535,
+        _ => u32::MAX,
+    }
+}
 
-const DIGESTS: [(&str, ReplyDigest); 10] = [
-    ("wrong", ReplyDigest::Wrong),
-    ("newline", ReplyDigest::Newline),
-    ("nocookie", ReplyDigest::NoCookie),
-    ("swapped", ReplyDigest::Swapped),
-    ("raw", ReplyDigest::Raw),
-    ("other", ReplyDigest::Other),
-    ("earlier", ReplyDigest::Earlier),
-    ("flip", ReplyDigest::FlipFirst),
-    ("flipend", ReplyDigest::FlipLast),
-    ("zero", ReplyDigest::Zero),
-];
+// The word of a status, which has to be one.
+fn status_word(terms: &TalkTerms<'_>, word: &[u8]) -> Result<ByteString, ReadFault> {
+    meaning_of(&STATUSES, word)?;
+    Ok(ByteString::from_slice(terms.alloc, word)?)
+}
 
-// The frame of a body, with these bytes behind it.
-fn frame_of(alloc: Global, body: &[u8], extra: &[u8]) -> Result<ByteString, AllocError>
-    ensures { IfOk result (λ frame. frame ≡ frame_said (edited body.now 0 extra.now)) }
-{
+fn said_digest(words: &mut LineWords<'_>) -> Result<SaidValue, ReadFault> {
+    let challenge = words.optional(b"challenge")?;
+    let kind = match words.value(b"digest") {
+        Some(word) => meaning_of(&DIGESTS, word)?,
+        None => ReplyDigest::Right,
+    };
+    Ok(SaidValue::Digest(kind, challenge))
+}
+
+// The bytes of a name, a number or flags whose words come next.
+fn bytes_in(
+    terms: &TalkTerms<'_>,
+    form: FieldForm,
+    key: FieldKey,
+    words: &mut LineWords<'_>,
+) -> Result<ByteString, ReadFault> {
+    let number = match key {
+        FieldKey::Number(name, usual) => {
+            u64::from(words.number(name.as_bytes(), usual, most_in(form))?)
+        }
+        FieldKey::Flags => words.flags()?.0,
+        FieldKey::HighFlags => u64::from(words.flags()?.high()),
+        FieldKey::Name => return words.name(&terms.own_name()?),
+        FieldKey::ShortName => return words.name(terms.short),
+        _ => return Ok(ByteString::new(terms.alloc)),
+    };
+    number_bytes(terms.alloc, form, number)
+}
+
+// What a field says whose words come next.
+fn value_in(
+    terms: &TalkTerms<'_>,
+    form: FieldForm,
+    key: FieldKey,
+    words: &mut LineWords<'_>,
+) -> Result<SaidValue, ReadFault> {
+    let bytes = match key {
+        FieldKey::Digest => return said_digest(words),
+        FieldKey::Last => return Ok(SaidValue::Last),
+        FieldKey::Status => status_word(terms, words.word()?)?,
+        FieldKey::Bytes => {
+            let word = words.next_word();
+            words.bytes(word)?
+        }
+        FieldKey::Extra => {
+            let value = words.value(b"extra");
+            words.bytes(value)?
+        }
+        _ => bytes_in(terms, form, key, words)?,
+    };
+    Ok(SaidValue::Bytes(bytes))
+}
+
+/// A message of this shape, with the fields that come next.
+pub fn message_in(
+    terms: &TalkTerms<'_>,
+    shape: &Shape,
+    words: &mut LineWords<'_>,
+) -> Result<SaidPart, ReadFault> {
+    let mut fields = Vec::new(terms.alloc);
+    for (form, key) in shape.fields.iter().zip(shape.keys) {
+        let value = value_in(terms, *form, *key, words)?;
+        fields.push(SaidField { form: *form, value })?;
+    }
+    let less = words.number(b"less", 0, 65535)?;
+    let extra = words.value(b"extra");
+    Ok(SaidPart {
+        is_framed: matches!(shape.framing, Framing::Frame),
+        fields: SuiteList::from_vec(fields),
+        less: less as usize,
+        extra: words.bytes(extra)?,
+    })
+}
+
+/// A message, with its word.
+pub fn part_of(terms: &TalkTerms<'_>, text: &[u8]) -> Result<SaidPart, ReadFault> {
+    let words = words_of(terms.alloc, text)?;
+    let mut words = LineWords::new(terms.alloc, &words);
+    let shape = meaning_of(&MESSAGES, words.word()?)?;
+    let part = message_in(terms, &shape, &mut words)?;
+    words.finish(part)
+}
+
+/// The bytes of a message in which nothing depends on what the node says.
+pub fn bytes_of_message(alloc: Global, part: &SaidPart) -> Result<ByteString, ReadFault> {
+    let mut body = Vec::new(alloc);
+    for field in part.fields.as_slice() {
+        match &field.value {
+            SaidValue::Bytes(value) => put_field(&mut body, field.form, value.as_slice())?,
+            _ => return Err(ReadFault::Bad),
+        }
+    }
     let mut bytes = Vec::new(alloc);
-    put_frame(&mut bytes, body, 0, extra)?;
+    put_message(alloc, &mut bytes, part, &body)?;
     Ok(ByteString::from_vec(bytes))
 }
 
-// What a name, a challenge or a complement says.
-#[derive(Drop)]
-struct AnnouncementTerms {
-    flags: Flags,
-    challenge: u32,
-    creation: u32,
-    name: ByteString,
-}
-
-#[tactic(auto, unfolding(crate::specs::Messages::announcement_terms))]
-fn announcement_terms(
-    alloc: Global,
-    terms: &TalkTerms<'_>,
-    words: &mut LineWords<'_>,
-) -> Result<AnnouncementTerms, ReadFault>
-    ensures { ReadsUpTo result words.new (announcement_terms (terms_of terms.now) words.old) }
-{
-    let flags = flags_field(words)?;
-    let challenge = challenge_field(words)?;
-    let creation = number_field(words, b"creation=", 77, u32::MAX)?;
-    let usual = terms.own_name(alloc)?;
-    let name = name_field(alloc, words, &usual)?;
-    Ok(AnnouncementTerms {
-        flags,
-        challenge,
-        creation,
-        name,
-    })
-}
-
-// The message of this kind, which says those of the fields that it has.
-fn message_of(kind: Announcement, said: AnnouncementTerms) -> Message
-    ensures { result ≡ message_of kind said }
-{
-    let AnnouncementTerms {
-        flags,
-        challenge,
-        creation,
-        name,
-    } = said;
-    let creation = Creation(creation);
-    match kind {
-        Announcement::Name => Message::NewName {
-            flags,
-            creation,
-            name,
-        },
-        Announcement::OldName => Message::OldName {
-            flags: flags.low(),
-            name,
-        },
-        Announcement::Challenge => Message::NewChallenge {
-            flags,
-            challenge,
-            creation,
-            name,
-        },
-        Announcement::OldChallenge => Message::OldChallenge {
-            flags: flags.low(),
-            challenge,
-            name,
-        },
-        Announcement::Complement => Message::Complement {
-            high: flags.high(),
-            creation,
-        },
+// The bytes in the field in this place.
+fn field_bytes(part: &SaidPart, place: usize) -> &[u8] {
+    match part.fields.as_slice().get(place) {
+        Some(
+            SaidField {
+                value: SaidValue::Bytes(value),
+                ..
+            },
+        ) => value.as_slice(),
+        _ => &[],
     }
 }
 
-// The body of a message of this side.
-fn body_of(alloc: Global, side: Side, message: &Message) -> Result<Vec<u8>, ReadFault>
-    ensures { MatchResult result (λ body. result_ok (own_spelling side message.now) ≡ Some body.items)
-        (λ fault. fault ≡ Bad → result_ok (own_spelling side message.now) ≡ None) }
-{
-    match encode(alloc, side, message) {
-        Ok(body) => Ok(body),
-        Err(MessageError::NoMemory) => Err(ReadFault::NoMemory),
-        Err(_) => Err(ReadFault::Bad),
+// The number in the field in this place.
+fn field_number(part: &SaidPart, place: usize) -> u16 {
+    match field_bytes(part, place) {
+        [one] => u16::from(*one),
+        [first, second] => u16::from_be_bytes([*first, *second]),
+        _ => 0,
     }
 }
 
-#[tactic(auto, unfolding(crate::specs::Messages::announcement_part))]
-fn announcement_part(
-    alloc: Global,
-    terms: &TalkTerms<'_>,
-    kind: Announcement,
-    words: &mut LineWords<'_>,
-) -> Result<SaidPart, ReadFault>
-    ensures { ReadsUpTo result words.new (announcement_part (terms_of terms.now) kind words.old) }
-{
-    let said = announcement_terms(alloc, terms, words)?;
-    let message = message_of(kind, said);
-    let body = body_of(alloc, kind.side(), &message)?;
-    let extra = bytes_field(alloc, words, b"extra=")?;
-    Ok(SaidPart::Bytes(frame_of(alloc, &body, extra.as_slice())?))
-}
-
-// Whether a body is a message of this side.
-fn is_said_by(side: Side, body: &[u8]) -> bool
-    ensures { result ≡ is_ok (read side body.now) }
-{
-    read_in_place(side, body).is_ok()
-}
-
-/// The frame of a status, of either side.
-#[tactic(auto, unfolding(crate::specs::Messages::status_said))]
-pub fn status_said(alloc: Global, word: &[u8]) -> Result<ByteString, ReadFault>
-    ensures { Reads result (status_said word.now) }
-{
-    let mut body = Vec::from_slice(alloc, b"s")?;
-    body.extend_from_slice(word)?;
-    if !is_said_by(Side::Acceptor, &body) && !is_said_by(Side::Dialler, &body) {
-        return Err(ReadFault::Bad);
-    }
-    Ok(frame_of(alloc, &body, &[])?)
-}
-
-fn digest_named(word: &[u8]) -> Option<ReplyDigest>
-    ensures { result ≡ meaning_in digest_words word.now }
-{
-    meaning_of(&DIGESTS, word)
-}
-
-#[tactic(auto, unfolding(crate::specs::Words::field_or))]
-fn digest_field(words: &mut LineWords<'_>) -> Result<ReplyDigest, ReadFault>
-    ensures { ReadsUpTo result words.new (field (codes "digest=") (meaning_in digest_words) digest.Right words.old) }
-{
-    match words.value(b"digest=") {
-        Some(value) => digest_named(value).ok_or(ReadFault::Bad),
-        None => Ok(ReplyDigest::Right),
-    }
-}
-
-// The fields of a reply or an acknowledgement.
-#[tactic(auto, unfolding(crate::specs::Messages::digest_terms))]
-fn digest_terms(alloc: Global, words: &mut LineWords<'_>) -> Result<DigestTerms, ReadFault>
-    ensures { ReadsUpTo result words.new (digest_terms words.old) }
-{
-    let challenge = optional_number(words, b"challenge=")?;
-    let digest = digest_field(words)?;
-    let less = number_field(words, b"less=", 0, 65535)?;
-    let extra = bytes_field(alloc, words, b"extra=")?;
-    Ok(DigestTerms {
-        challenge,
-        digest,
-        less: less as usize,
-        extra,
-    })
-}
-
-// The numbers of a registration, with no name and no extra.
-#[tactic(auto, unfolding(crate::specs::Messages::info_numbers))]
-fn info_numbers(alloc: Global, words: &mut LineWords<'_>) -> Result<NodeInfo, ReadFault>
-    ensures { ReadsUpTo result words.new (info_numbers words.old) }
-{
-    let port = number_field(words, b"port=", 9009, 65535)?;
-    let node_type = number_field(words, b"type=", 77, 255)?;
-    let protocol = number_field(words, b"protocol=", 0, 255)?;
-    let highest = number_field(words, b"high=", 6, 65535)?;
-    let lowest = number_field(words, b"low=", 5, 65535)?;
+/// What the fields of `alive2` that come next register.
+pub fn info_in(terms: &TalkTerms<'_>, words: &mut LineWords<'_>) -> Result<NodeInfo, ReadFault> {
+    let part = message_in(terms, &ALIVE, words)?;
     Ok(NodeInfo {
-        port: port as u16,
-        node_type: node_type as u8,
-        protocol: protocol as u8,
-        highest: highest as u16,
-        lowest: lowest as u16,
-        name: ByteString::new(alloc),
-        extra: ByteString::new(alloc),
+        port: field_number(&part, 1),
+        node_type: (field_number(&part, 2) % 256) as u8,
+        protocol: (field_number(&part, 3) % 256) as u8,
+        highest: field_number(&part, 4),
+        lowest: field_number(&part, 5),
+        name: ByteString::from_slice(terms.alloc, field_bytes(&part, 6))?,
+        extra: ByteString::from_slice(terms.alloc, field_bytes(&part, 7))?,
     })
-}
-
-/// What a registration says, and what a lookup answers.
-#[tactic(auto, unfolding(crate::specs::Messages::info))]
-pub fn info_of(
-    alloc: Global,
-    terms: &TalkTerms<'_>,
-    words: &mut LineWords<'_>,
-) -> Result<NodeInfo, ReadFault>
-    ensures { ReadsUpTo result words.new (info (terms_of terms.now) words.old) }
-{
-    let mut info = info_numbers(alloc, words)?;
-    info.name = name_field(alloc, words, terms.short)?;
-    info.extra = bytes_field(alloc, words, b"extra=")?;
-    Ok(info)
-}
-
-// The frame of a request.
-#[tactic(auto, unfolding(crate::specs::Messages::request_part))]
-fn request_part(alloc: Global, request: &Request) -> Result<SaidPart, ReadFault>
-    ensures { Reads result (request_part request.now) }
-{
-    match encode_request(alloc, request) {
-        Ok(body) => Ok(SaidPart::Bytes(frame_of(alloc, &body, &[])?)),
-        Err(EpmdError::NoMemory) => Err(ReadFault::NoMemory),
-        Err(_) => Err(ReadFault::Bad),
-    }
-}
-
-/// The bytes of an answer.
-#[tactic(auto, unfolding(crate::specs::Messages::answer_said))]
-pub fn answer_said(alloc: Global, answer: &Answer) -> Result<ByteString, ReadFault>
-    ensures { Reads result (answer_said answer.now) }
-{
-    match encode_answer(alloc, answer) {
-        Ok(bytes) => Ok(ByteString::from_vec(bytes)),
-        Err(EpmdError::NoMemory) => Err(ReadFault::NoMemory),
-        Err(_) => Err(ReadFault::Bad),
-    }
-}
-
-// An answer to a registration, with a creation of 4 bytes or of 2.
-#[tactic(auto, unfolding(crate::specs::Messages::alive_answer))]
-fn alive_answer(has_four: bool, words: &mut LineWords<'_>) -> Result<Answer, ReadFault>
-    ensures { ReadsUpTo result words.new (alive_answer has_four words.old) }
-{
-    let result_code = number_field(words, b"result=", 0, 255)? as u8;
-    if has_four {
-        let creation = number_field(words, b"creation=", 77, u32::MAX)?;
-        return Ok(Answer::AliveX {
-            result_code,
-            creation,
-        });
-    }
-    let creation = number_field(words, b"creation=", 77, 65535)? as u16;
-    Ok(Answer::Alive {
-        result_code,
-        creation,
-    })
-}
-
-// Its bytes.
-#[tactic(auto, unfolding(crate::specs::Messages::answer_part))]
-fn answer_part(
-    alloc: Global,
-    has_four: bool,
-    words: &mut LineWords<'_>,
-) -> Result<SaidPart, ReadFault>
-    ensures { ReadsUpTo result words.new (answer_part has_four words.old) }
-{
-    let answer = alive_answer(has_four, words)?;
-    Ok(SaidPart::Bytes(answer_said(alloc, &answer)?))
-}
-
-// A registration.
-fn alive_part(
-    alloc: Global,
-    terms: &TalkTerms<'_>,
-    words: &mut LineWords<'_>,
-) -> Result<SaidPart, ReadFault>
-    ensures { ReadsUpTo result words.new (behind_word (terms_of terms.now) word.Alive2 words.old) }
-{
-    let info = info_of(alloc, terms, words)?;
-    request_part(alloc, &Request::Alive(info))
-}
-
-// A lookup.
-fn lookup_part(
-    alloc: Global,
-    terms: &TalkTerms<'_>,
-    words: &mut LineWords<'_>,
-) -> Result<SaidPart, ReadFault>
-    ensures { ReadsUpTo result words.new (behind_word (terms_of terms.now) word.Lookup words.old) }
-{
-    let name = name_field(alloc, words, terms.short)?;
-    request_part(alloc, &Request::PortPlease(name))
-}
-
-// A message of this word.
-fn part_of(
-    alloc: Global,
-    terms: &TalkTerms<'_>,
-    word: MessageWord,
-    words: &mut LineWords<'_>,
-) -> Result<SaidPart, ReadFault>
-    ensures { ReadsUpTo result words.new (behind_word (terms_of terms.now) word words.old) }
-{
-    match word {
-        MessageWord::Announcement(kind) => announcement_part(alloc, terms, kind, words),
-        MessageWord::Status => Ok(SaidPart::Bytes(status_said(alloc, words.word()?)?)),
-        MessageWord::Reply => Ok(SaidPart::Reply(digest_terms(alloc, words)?)),
-        MessageWord::Mirror => Ok(SaidPart::Mirror),
-        MessageWord::Ack => Ok(SaidPart::Ack(digest_terms(alloc, words)?)),
-        MessageWord::Tick => Ok(SaidPart::Bytes(ByteString::from_slice(alloc, &[0; 4])?)),
-        MessageWord::Alive2 => alive_part(alloc, terms, words),
-        MessageWord::Alive2Answer(has_four) => answer_part(alloc, has_four, words),
-        MessageWord::Lookup => lookup_part(alloc, terms, words),
-        MessageWord::Names => request_part(alloc, &Request::Names),
-        MessageWord::Frame => {
-            let body = bytes_field(alloc, words, b"")?;
-            Ok(SaidPart::Bytes(frame_of(alloc, body.as_slice(), &[])?))
-        }
-        MessageWord::Raw => Ok(SaidPart::Bytes(bytes_field(alloc, words, b"")?)),
-    }
-}
-
-impl FromText for SaidPart {
-    ghost says = { part_in };
-
-    #[tactic(auto, unfolding(crate::specs::Messages::part_in))]
-    fn from_text(alloc: Global, terms: &TalkTerms<'_>, text: &[u8]) -> Result<SaidPart, ReadFault> {
-        let words = words_of(alloc, text)?;
-        let mut words = LineWords::new(&words);
-        let word = meaning_word(&MESSAGES, &mut words)?;
-        let part = part_of(alloc, terms, word, &mut words)?;
-        words.whole(part)
-    }
 }

@@ -1,25 +1,22 @@
 //! What a single pattern makes of what came.
 
-ghost use Rattle.std.specs.{Prelude.◌≡◌, Prelude.length, Prelude.option_map, Prelude.if◌then◌else◌, Int.w32};
-ghost use Rattle.dist_names.specs.{Fields.number_at, Order.same_name};
-ghost use Rattle.dist_secret.specs.Digest.{digest_of};
-ghost use Rattle.dist_messages.specs.{declared.message.Side.TheVariants.Dialler, Canonical.canonical, Reading.read, Views.message_of};
-ghost use Rattle.dist_messages.specs.declared.message.Message.TheVariants as message;
-ghost use Rattle.dist_conformance.specs.Judging.{observation_of, passes, part_outcome, open_for, if_nothing, by_bytes, passes_if, body_outcome};
-ghost use Rattle.dist_conformance.specs.Judging.{announcement_of, said_in, is_new, is_fresh, check_passes, by_announcement, reply_in, by_reply};
-ghost use Rattle.dist_conformance.specs.Judging.{creation_in, is_given, creation_passes, by_result, by_answer};
+ghost use Rattle.std.specs.{Prelude.◌≡◌, Prelude.length, Prelude.option_map, Prelude.if◌then◌else◌, Int.w32, List.list_all};
+ghost use Rattle.dist_names.specs.Fields.{number_at};
+ghost use Rattle.dist_conformance.specs.Judging.{observation_of, passes, part_outcome, open_for, if_nothing, by_bytes, passes_if};
+ghost use Rattle.dist_conformance.specs.Judging.{check_passes, learned_from, passage_of, by_message, body_outcome, by_whole, by_packets, registered_port};
 ghost use Rattle.dist_conformance.specs.Judging.{are_lines, is_line, has_line, names_pass, by_names, outcome_of};
-ghost use Rattle.dist_conformance.specs.{Kinds.side_of, Outcomes.IsWithin, Outcomes.deviation_word, Outcomes.said_of};
+ghost use Rattle.dist_conformance.specs.{Bodies.value_in, Outcomes.IsWithin, Outcomes.deviation_word};
 ghost use Rattle.dist_conformance.specs.declared.outcomes.PatternOutcome.TheVariants as outcome;
 
-use crate::patterns::{Announcement, AnswerCheck, FieldCheck, NamesCheck, Pattern};
-use crate::registrations::registration_outcome;
+use crate::bodies::{number_in, number_of_32, value_in, whole};
+use crate::checks::check_passes;
+use crate::packets::packets_of;
+use crate::patterns::{Check, NamesCheck, PacketCheck, Pattern};
 use crate::say::Learned;
+use crate::shapes::{ALIVE, Framing, Shape};
 use crate::texts::first_part;
-use dist_frames::first_body;
-use dist_messages::{MessageView, Side, read_in_place};
 use dist_names::{Flags, is_same_text};
-use dist_secret::{Cookie, digest};
+use dist_secret::Cookie;
 
 /// What is judged.
 #[derive(Clone, Copy)]
@@ -32,6 +29,8 @@ pub struct Observed<'a> {
     pub elapsed: u32,
     /// How many milliseconds the step waits.
     pub limit: u32,
+    /// How many milliseconds ago the last byte came, or the step began.
+    pub pause: u32,
     /// The numbers that came in this talk so far, in order.
     pub learned: &'a [Learned],
     /// The cookie of the node under test.
@@ -45,6 +44,24 @@ pub struct Passage {
     pub count: usize,
     /// The challenge in them, or the creation, where there is one.
     pub number: Option<u32>,
+    /// The flags of that challenge.
+    pub flags: Option<Flags>,
+}
+
+impl Passage {
+    /// What is learned from it, on this connection: its number, if there is one.
+    pub fn learned(&self, conn: u8) -> Option<Learned>
+        ensures { result ≡ learned_from conn self.now }
+    {
+        match self.number {
+            Some(number) => Some(Learned {
+                conn,
+                number,
+                flags: self.flags,
+            }),
+            None => None,
+        }
+    }
 }
 
 /// Why something does not match.
@@ -92,6 +109,7 @@ pub fn passes(count: usize) -> PatternOutcome
     PatternOutcome::Matches(Passage {
         count,
         number: None,
+        flags: None,
     })
 }
 
@@ -161,266 +179,106 @@ fn bytes_outcome(wanted: &[u8], came: &[u8], ended: bool) -> PatternOutcome
     }
 }
 
-// What a name, a challenge or a complement says.
-#[derive(Clone, Copy)]
-struct AnnouncementFields<'a> {
-    form: Announcement,
-    flags: Flags,
-    challenge: Option<u32>,
-    creation: u32,
-    name: &'a [u8],
-    // How many bytes it has where none stand behind the name.
-    size: usize,
-}
-
-// What a message says, if it is one of these.
-fn announcement_of(view: MessageView<'_>) -> Option<AnnouncementFields<'_>>
-    ensures { option_map said_of result ≡ announcement_of (message_of view.entry) }
+// What is learned from a message of this shape.
+fn passage_of(shape: &Shape, body: &[u8], count: usize) -> Passage
+    ensures { result ≡ passage_of shape.now body.now count }
 {
-    match view {
-        MessageView::NewName {
-            flags,
-            creation,
-            name,
-        } => Some(AnnouncementFields {
-            form: Announcement::Name,
-            flags,
-            challenge: None,
-            creation: creation.0,
-            name,
-            size: name.len() + 15,
-        }),
-        MessageView::OldName { flags, name } => Some(AnnouncementFields {
-            form: Announcement::OldName,
-            flags: Flags(u64::from(flags)),
-            challenge: None,
-            creation: 0,
-            name,
-            size: name.len() + 7,
-        }),
-        MessageView::NewChallenge {
-            flags,
-            challenge,
-            creation,
-            name,
-        } => Some(AnnouncementFields {
-            form: Announcement::Challenge,
-            flags,
-            challenge: Some(challenge),
-            creation: creation.0,
-            name,
-            size: name.len() + 19,
-        }),
-        MessageView::OldChallenge {
-            flags,
-            challenge,
-            name,
-        } => Some(AnnouncementFields {
-            form: Announcement::OldChallenge,
-            flags: Flags(u64::from(flags)),
-            challenge: Some(challenge),
-            creation: 0,
-            name,
-            size: name.len() + 11,
-        }),
-        MessageView::Complement { high, creation } => Some(AnnouncementFields {
-            form: Announcement::Complement,
-            flags: Flags::of_halves(high, 0),
-            challenge: None,
-            creation: creation.0,
-            name: &[],
-            size: 9,
-        }),
-        _ => None,
-    }
-}
-
-fn said_in(side: Side, body: &[u8]) -> Option<AnnouncementFields<'_>>
-    ensures { option_map said_of result ≡ said_in (read side body.now) }
-{
-    match read_in_place(side, body) {
-        Ok(view) => announcement_of(view),
-        Err(_) => None,
-    }
-}
-
-// Whether this number is none of those that came before.
-fn is_new(number: u32, learned: &[Learned]) -> bool
-    ensures { result ≡ is_new number learned.now }
-{
-    learned.iter().all(|one| one.number != number)
-}
-
-fn is_fresh(number: Option<u32>, learned: &[Learned]) -> bool
-    ensures { result ≡ is_fresh number learned.now }
-{
-    match number {
-        Some(number) => is_new(number, learned),
-        None => true,
-    }
-}
-
-fn check_passes(
-    check: &FieldCheck,
-    len: usize,
-    learned: &[Learned],
-    fields: AnnouncementFields<'_>,
-) -> bool
-    ensures { result ≡ check_passes check.now len learned.now (said_of fields.entry) }
-{
-    match check {
-        FieldCheck::Any => true,
-        FieldCheck::Name(name) => is_same_text(fields.name, name.as_slice()),
-        FieldCheck::Creation(least, most) => {
-            *least <= fields.creation && fields.creation <= *most
-        }
-        FieldCheck::Has(flags) => fields.flags.has(*flags),
-        FieldCheck::Lacks(flags) => !fields.flags.has(*flags),
-        FieldCheck::Fresh => is_fresh(fields.challenge, learned),
-        FieldCheck::Bare => len == fields.size,
-    }
-}
-
-// What a body means where a name, a challenge or a complement is awaited.
-fn announcement_outcome(
-    kind: Announcement,
-    check: &FieldCheck,
-    body: &[u8],
-    learned: &[Learned],
-) -> PatternOutcome
-    ensures { result ≡ by_announcement kind check.now (length body.now) learned.now (said_in (read (side_of kind) body.now)) }
-{
-    let Some(fields) = said_in(kind.side(), body) else {
-        return PatternOutcome::Fails(Deviation::Other);
+    let number = match shape.number {
+        Some(place) => number_of_32(value_in(shape.fields, place, body).unwrap_or(&[])),
+        None => None,
     };
-    if fields.form != kind {
-        return PatternOutcome::Fails(Deviation::Other);
+    let flags = match shape.flags {
+        Some(place) => Some(Flags(number_in(value_in(shape.fields, place, body).unwrap_or(&[])))),
+        None => None,
+    };
+    Passage {
+        count,
+        number,
+        flags,
     }
-    if check_passes(check, body.len(), learned, fields) {
-        PatternOutcome::Matches(Passage {
-            count: 2 + body.len(),
-            number: fields.challenge,
-        })
+}
+
+fn all_pass(checks: &[Check], shape: &Shape, body: &[u8], observed: &Observed<'_>) -> bool
+    ensures { result ≡ list_all (check_passes shape.now body.now observed.now.learned.now observed.now.cookie.now) checks.now }
+{
+    checks
+        .iter()
+        .all(|check| check_passes(check, shape, body, observed))
+}
+
+// What a body means, in so many bytes, where a message is awaited.
+fn message_outcome(
+    shape: &Shape,
+    checks: &[Check],
+    observed: &Observed<'_>,
+    body: &[u8],
+    count: usize,
+) -> PatternOutcome
+    ensures { result ≡ by_message shape.now checks.now observed.now.learned.now observed.now.cookie.now body.now count }
+{
+    if value_in(shape.fields, 0, body).is_none() {
+        PatternOutcome::Fails(Deviation::Other)
+    } else if all_pass(checks, shape, body, observed) {
+        PatternOutcome::Matches(passage_of(shape, body, count))
     } else {
         PatternOutcome::Fails(Deviation::Field)
     }
 }
 
-// What a body means where a reply to our challenge is awaited.
-fn reply_outcome(body: &[u8], cookie: &Cookie, challenge: u32) -> PatternOutcome
-    ensures { result ≡ by_reply (digest_of cookie.now challenge) (length body.now) (reply_in (read Dialler body.now)) }
-{
-    match read_in_place(Side::Dialler, body) {
-        Ok(
-            MessageView::Reply {
-                challenge: of_node,
-                digest: came,
-            },
-        ) => {
-            if !is_same_text(&came, &digest(cookie, challenge)) {
-                return PatternOutcome::Fails(Deviation::Field);
-            }
-            PatternOutcome::Matches(Passage {
-                count: 2 + body.len(),
-                number: Some(of_node),
-            })
-        }
-        _ => PatternOutcome::Fails(Deviation::Other),
-    }
-}
-
-// Whether a body is the acknowledgement of our challenge.
-fn is_ack(body: &[u8], cookie: &Cookie, challenge: u32) -> bool
-    ensures { result ≡ same_name body.now (canonical (message.Ack (digest_of cookie.now challenge))) }
-{
-    match body {
-        [b'a', came @ ..] => is_same_text(came, &digest(cookie, challenge)),
-        _ => false,
-    }
-}
-
-// What a body means, once it is whole.
-fn body_outcome(pattern: &Pattern, observed: &Observed<'_>, body: &[u8]) -> PatternOutcome
-    ensures { result ≡ body_outcome pattern.now (observation_of observed.now) body.now }
-{
-    let len = 2 + body.len();
-    match pattern {
-        Pattern::Frame(front) => passes_if(body.strip_prefix(front.as_slice()).is_some(), len),
-        Pattern::Announcement(kind, check) => {
-            announcement_outcome(*kind, check, body, observed.learned)
-        }
-        Pattern::Reply(challenge) => reply_outcome(body, observed.cookie, *challenge),
-        Pattern::Registration(check) => registration_outcome(check, body),
-        Pattern::Ack(challenge) => passes_if(is_ack(body, observed.cookie, *challenge), len),
-        _ => PatternOutcome::Open,
-    }
-}
-
-// The creation that is written in 4 bytes.
-fn creation_in(bytes: &[u8]) -> Option<u32>
-    ensures { result ≡ creation_in bytes.now }
-{
-    let (creation, _) = bytes.split_first_chunk::<4>()?;
-    Some(u32::from_be_bytes(*creation))
-}
-
-fn is_given(bytes: &[u8]) -> bool
-    ensures { result ≡ is_given bytes.now }
-{
-    bytes.iter().any(|byte| *byte != 0)
-}
-
-fn creation_passes(check: AnswerCheck, bytes: &[u8], learned: &[Learned]) -> bool
-    ensures { result ≡ creation_passes check bytes.now learned.now }
-{
-    match check {
-        AnswerCheck::Fresh => is_given(bytes) && is_fresh(creation_in(bytes), learned),
-        AnswerCheck::Given | AnswerCheck::Refused => is_given(bytes),
-    }
-}
-
-// What a result means, and the bytes of a creation behind it.
-fn result_outcome(
-    check: AnswerCheck,
-    is_zero: bool,
-    bytes: &[u8],
-    learned: &[Learned],
-    count: usize,
-) -> PatternOutcome
-    ensures { result ≡ by_result check is_zero bytes.now learned.now count }
-{
-    match (check, is_zero) {
-        (AnswerCheck::Refused, false) => passes(count),
-        (AnswerCheck::Refused, true) | (_, false) => PatternOutcome::Fails(Deviation::Other),
-        (_, true) if creation_passes(check, bytes, learned) => PatternOutcome::Matches(Passage {
-            count,
-            number: creation_in(bytes),
-        }),
-        (_, true) => PatternOutcome::Fails(Deviation::Field),
-    }
-}
-
-// An answer with this first byte, a result and so many bytes more.
-fn answer_outcome(
-    tag: u8,
-    check: AnswerCheck,
-    more: usize,
+// What came, where a message is awaited that ends so.
+fn whole_outcome(
+    pattern: &Pattern,
+    framing: Framing,
     observed: &Observed<'_>,
     came: &[u8],
 ) -> PatternOutcome
-    ensures { let o = observation_of observed.now in result ≡ by_answer tag check more o.ended o.learned came.now }
+    ensures { result ≡ by_whole pattern.now framing (observation_of observed.now) came.now }
 {
-    let [first, code, rest @ ..] = came else {
-        return part_outcome(observed.ended);
-    };
-    if rest.len() < more {
-        return part_outcome(observed.ended);
+    match whole(framing, came) {
+        Some((body, rest)) => {
+            let count = came.len().saturating_sub(rest.len());
+            match pattern {
+                Pattern::Body(_, front) => {
+                    passes_if(body.strip_prefix(front.as_slice()).is_some(), count)
+                }
+                Pattern::Message(shape, checks) => {
+                    message_outcome(shape, checks.as_slice(), observed, body, count)
+                }
+                _ => PatternOutcome::Open,
+            }
+        }
+        None => part_outcome(observed.ended),
     }
-    if *first == tag {
-        let bytes = &rest[..more];
-        result_outcome(check, *code == 0, bytes, observed.learned, 2 + more)
+}
+
+/// The port that is registered in what came, if that begins with a registration.
+pub fn registered_port(came: &[u8]) -> Option<u16>
+    ensures { result ≡ registered_port came.now }
+{
+    let (body, _) = whole(ALIVE.framing, came)?;
+    let (port, _) = value_in(ALIVE.fields, 1, body)?.split_first_chunk::<2>()?;
+    Some(u16::from_be_bytes(*port))
+}
+
+// How many milliseconds a packet may lie in part. Our own choice: a node writes its packets whole.
+const STALLED: u32 = 1000;
+
+fn packets_outcome(check: &PacketCheck, observed: &Observed<'_>, came: &[u8]) -> PatternOutcome
+    ensures { result ≡ by_packets check.now (observation_of observed.now) came.now }
+{
+    let state = packets_of(came);
+    let is_over = check.time <= observed.elapsed;
+    let is_stalled = state.is_part() && (is_over || STALLED <= observed.pause);
+    if state.is_bad || (check.most as usize) < state.ticks {
+        PatternOutcome::Fails(Deviation::Field)
+    } else if observed.ended {
+        PatternOutcome::Fails(Deviation::Closed)
+    } else if is_stalled || is_over && state.ticks < check.least as usize {
+        PatternOutcome::Fails(Deviation::Field)
+    } else if is_over {
+        passes(came.len())
     } else {
-        PatternOutcome::Fails(Deviation::Other)
+        PatternOutcome::Open
     }
 }
 
@@ -489,14 +347,12 @@ fn outcome_from(pattern: &Pattern, observed: &Observed<'_>, came: &[u8]) -> Patt
         Pattern::End => if_nothing(came, end_outcome(ended)),
         Pattern::Silence(limit) => if_nothing(came, open_for(*limit, 0, observed)),
         Pattern::Open(limit) => open_for(*limit, came.len(), observed),
+        Pattern::Packets(check) => packets_outcome(check, observed, came),
         Pattern::Bytes(wanted) => bytes_outcome(wanted.as_slice(), came, ended),
-        Pattern::Answer(tag, check, more) => answer_outcome(*tag, *check, *more, observed, came),
+        Pattern::Body(framing, _) => whole_outcome(pattern, *framing, observed, came),
+        Pattern::Message(shape, _) => whole_outcome(pattern, shape.framing, observed, came),
         Pattern::Names(check) if ended => names_outcome(check, came),
         Pattern::Names(_) => PatternOutcome::Open,
-        framed => match first_body(came) {
-            Some(body) => body_outcome(framed, observed, body),
-            None => part_outcome(ended),
-        },
     }
 }
 

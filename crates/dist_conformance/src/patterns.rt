@@ -1,66 +1,54 @@
 //! What a row demands of the bytes that come.
 
-ghost use Rattle.std.specs.Prelude.{◌≡◌};
-ghost use Rattle.dist_conformance.specs.Kinds.{side_of};
-
-use dist_messages::Side;
+use crate::lists::SuiteList;
+use crate::shapes::{Framing, Shape};
 use dist_names::{ByteString, Flags};
 
-/// A message in which a node announces its flags.
-#[derive(Clone, Copy, PartialEq, Eq)]
-pub enum Announcement {
-    /// A name of version 6.
-    Name,
-    /// A name of version 5.
-    OldName,
-    /// A challenge of version 6.
-    Challenge,
-    /// A challenge of version 5.
-    OldChallenge,
-    /// What an old name left out.
-    Complement,
-}
-
-impl Announcement {
-    /// Who sends it.
-    pub fn side(self) -> Side
-        ensures { result ≡ side_of self }
-    {
-        match self {
-            Announcement::Name | Announcement::OldName | Announcement::Complement => Side::Dialler,
-            Announcement::Challenge | Announcement::OldChallenge => Side::Acceptor,
-        }
-    }
-}
-
-/// What such a message has to be, beside that it is one.
+/// What the value of a field has to be.
 #[derive(Drop)]
-pub enum FieldCheck {
-    /// Any will do.
-    Any,
-    /// It has this name.
-    Name(ByteString),
-    /// Its creation is not below the first of these, nor above the second.
-    Creation(u32, u32),
-    /// It announces these flags.
-    Has(Flags),
-    /// It does not announce this flag.
-    Lacks(Flags),
-    /// Its challenge is none of the numbers that came before in this talk.
+pub enum Test {
+    /// These bytes.
+    Is(ByteString),
+    /// A number that is not below this one.
+    AtLeast(u32),
+    /// Not 0.
+    Given,
+    /// None of the numbers that came before in this talk.
     Fresh,
-    /// No bytes stand behind its name.
-    Bare,
+    /// A number from which at least one that came before in this talk differs by 65,536 or more, if any came.
+    Apart,
+    /// Flags among which are these.
+    Has(Flags),
+    /// Flags among which not all of these are.
+    Lacks(Flags),
+    /// The flags of the challenge that came first in this talk, if one came before.
+    Alike,
+    /// The digest of the cookie and this challenge.
+    Digest(u32),
+    /// No bytes.
+    Empty,
+    /// Bytes without `@`.
+    NoHost,
 }
 
-/// What an answer to a registration has to be.
+/// A condition on one field of a message.
+#[derive(Drop)]
+pub struct Check {
+    /// Its place among the fields of the shape, from 0.
+    pub place: usize,
+    /// What it has to be.
+    pub test: Test,
+}
+
+/// What packets have to be that come while a connection stays open, beside that they are whole and each is a tick or begins with 112 or 131.
 #[derive(Clone, Copy)]
-pub enum AnswerCheck {
-    /// Result 0, and a creation that is not 0.
-    Given,
-    /// The same, and the creation is none of the numbers that came before in this talk.
-    Fresh,
-    /// Another result.
-    Refused,
+pub struct PacketCheck {
+    /// How many milliseconds the connection stays open.
+    pub time: u32,
+    /// At least so many are ticks.
+    pub least: u32,
+    /// At most so many are.
+    pub most: u32,
 }
 
 /// What the answer to a question for all names has to be, beside a port in 4 bytes and lines that all end in a line feed.
@@ -76,21 +64,6 @@ pub enum NamesCheck {
     Lacks(ByteString),
 }
 
-/// What a registration has to be, beside that it is one. A number that is none is not looked at.
-#[derive(Clone, Copy)]
-pub struct RegistrationCheck {
-    /// Its node type is this one.
-    pub node_type: Option<u32>,
-    /// Its protocol is this one.
-    pub protocol: Option<u32>,
-    /// Its highest version is this one.
-    pub highest: Option<u32>,
-    /// Its lowest version is this one.
-    pub lowest: Option<u32>,
-    /// Whether its name has no `@`, and no bytes stand behind its fields.
-    pub bare: bool,
-}
-
 /// One thing that is awaited on a connection. In rows a pattern is one of the words in the first column, and what stands behind it.
 ///
 /// | Words | Matches |
@@ -98,21 +71,30 @@ pub struct RegistrationCheck {
 /// | `end` | the end of the connection, before which nothing came |
 /// | `silence MS` | so many milliseconds in which nothing comes and the connection stays open |
 /// | `open MS` | so many milliseconds in which the connection stays open, and all that came |
+/// | `packets MS least=N most=N` | the same, where all that came is packets: ticks, at least and at most N, and such as begin with 112 or 131 |
+/// | `packet BYTES` | ticks, if any, and then a packet that begins with these bytes |
 /// | `bytes BYTES` | these bytes |
 /// | `frame BYTES` | a frame of the handshake whose body begins with these bytes |
 /// | `status WORD` | the frame of this status |
-/// | `name`, `oldname`, `challenge`, `complement` | the frame of this message: `name=N`, `creation=N`, `creation>=N`, `has=F`, `hasnot=F`, `fresh` or `bare` |
+/// | `name`, `oldname`, `challenge`, `complement` | the frame of this message: checks |
 /// | `reply` | the frame of a reply to our challenge, 123456789 or `challenge=N`, by the cookie |
 /// | `ack` | the frame of the acknowledgement of our challenge, 123456789 or `challenge=N`, by the cookie |
-/// | `alive2req` | the frame of a registration, whatever stands behind its fields: `type=N` `protocol=N` `high=N` `low=N` `bare` |
+/// | `alive2req` | the frame of a registration, whatever stands behind its fields: checks |
 /// | `alive2x ok`, `alive2y ok` | an answer to a registration: result 0, and a creation of 4 or of 2 bytes that is not 0 |
-/// | `alive2x fresh` | the same, and the creation is none of those that came before in this talk |
+/// | `alive2x fresh` | the same, and the creation is none of the numbers that came before in this talk |
 /// | `alive2x refused`, `alive2y refused` | such an answer with another result, and any creation |
 /// | `port2 known` | the answer to a lookup: a node with just these fields, which are those of `alive2` ([`SaidPart`](crate::SaidPart)) |
 /// | `port2 unknown` | the answer to a lookup with a result that is not 0 |
 /// | `names` | the answer to a question for all names, and the end: `port=N`, `has=NAME at=PORT`, `hasnot=NAME` |
 ///
-/// Sources: ERTS User's Guide, Distribution Protocol, Distribution Handshake; EPMD Protocol.
+/// A check is `FIELD=VALUE`, by the words of the message's fields; `FIELD>=N` of a number in 4 bytes; `has=FLAG` and `hasnot=FLAG`; of a
+/// challenge `fresh`: none of the numbers that came before in this talk; `apart`: at least one of those, if any came, differs from it by
+/// 65,536 or more; `alike`: its flags are those of the challenge that came first in this talk; and `bare`: nothing stands behind the last
+/// field, and a registered name has no `@`. A packet stands behind its length in 4 bytes; an empty one is a tick. The pattern `packets`
+/// fails as soon as a packet begins otherwise, too many ticks came, or a packet has come in part and nothing followed for 1,000
+/// milliseconds.
+///
+/// Sources: ERTS User's Guide, Distribution Protocol, Distribution Handshake, Protocol between Connected Nodes; EPMD Protocol.
 #[derive(Drop)]
 pub enum Pattern {
     /// `end`.
@@ -121,20 +103,14 @@ pub enum Pattern {
     Silence(u32),
     /// `open`, with its milliseconds.
     Open(u32),
+    /// `packets`.
+    Packets(PacketCheck),
     /// `bytes`; `status` and `port2 known` are just the bytes of that.
     Bytes(ByteString),
-    /// `frame`.
-    Frame(ByteString),
-    /// `name`, `oldname`, `challenge`, `complement`.
-    Announcement(Announcement, FieldCheck),
-    /// `reply`, with our challenge.
-    Reply(u32),
-    /// `ack`, with our challenge.
-    Ack(u32),
-    /// `alive2req`.
-    Registration(RegistrationCheck),
-    /// A first byte, a result and so many bytes, and what the last two have to be.
-    Answer(u8, AnswerCheck, usize),
+    /// `frame` and `packet`: a body that begins so.
+    Body(Framing, ByteString),
+    /// A message of this shape whose fields pass all checks.
+    Message(Shape, SuiteList<Check>),
     /// `names`.
     Names(NamesCheck),
 }

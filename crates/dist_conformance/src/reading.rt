@@ -1,112 +1,95 @@
 //! The rows of a section, as a text has them.
 
-ghost use Rattle.std.specs.Prelude.{◌≡◌, ◌-◌, [], length, map, take, Ok, MatchResult};
-ghost use Rattle.dist_conformance.specs.Sections.{behind_front, row_in, rows_behind, section_of_lines, without_line_feed, section_of_text, IsRowError};
+ghost use Rattle.std.specs.Prelude.{◌≡◌, ◌≤◌, ◌<◌, length, IfErr};
+ghost use Rattle.dist_conformance.specs.Lines.{IsLine, without_line_feed, lines_in};
 
-use crate::faults::{ListFault, ReadFault, RowError};
+use crate::faults::{ReadFault, RowError};
 use crate::heads::{head_in, section_in};
 use crate::lists::SuiteList;
 use crate::rows::{Section, SuiteRow};
-use crate::talks::talks_in;
+use crate::talks::{RowLines, talks_in};
 use crate::terms::SuiteNames;
 use crate::texts::split;
 use std::alloc::Global;
 
-// The lines behind those in front that begin so.
-fn behind_front<'l, 't>(lines: &'l [&'t [u8]], key: &[u8]) -> &'l [&'t [u8]]
-    ensures { map (λ line. line.now) result.now ≡ behind_front key.now (map (λ line. line.now) lines.now) }
+// The place of the first line from this one on that does not begin so.
+fn behind_front(lines: &[&[u8]], from: usize, key: &[u8]) -> usize
+    requires { from ≤ length lines.now }
+    ensures behind { from ≤ result }
+    ensures within { result ≤ length lines.now }
 {
-    let mut left = lines;
-    while let [line, behind @ ..] = left {
-        if line.strip_prefix(key).is_none() {
-            break;
-        }
-        left = behind;
+    let mut at = from;
+    'front: while at < lines.len() && lines[at].strip_prefix(key).is_some() {
+        at += 1;
     }
-    left
+    at
 }
 
-// The lines but for so many at the end.
-fn first_lines<'l, 't>(lines: &'l [&'t [u8]], others: usize) -> &'l [&'t [u8]]
-    ensures { map (λ line. line.now) result.now ≡ take (length lines.now - others) (map (λ line. line.now) lines.now) }
-{
-    &lines[..lines.len().saturating_sub(others)]
-}
-
-// A row, by its head and the lines behind it, of so many.
-#[tactic(auto, unfolding(crate::specs::Sections::row_in))]
-fn row_of(
+// The row whose head stands in this line, and whose steps go up to the other.
+fn row_at(
     alloc: Global,
     names: SuiteNames<'_>,
-    total: usize,
-    line: &[u8],
-    behind: &[&[u8]],
+    lines: &[&[u8]],
+    at: usize,
+    to: usize,
 ) -> Result<SuiteRow, RowError>
-    ensures { let there = row_in names.entry total line.now (map (λ line. line.now) behind.now) in
-        MatchResult result (λ row. there ≡ Ok row) (λ error. IsRowError error there) }
+    requires at { at < length lines.now }
+    requires to { to ≤ length lines.now }
+    ensures { IfErr result (IsLine (length lines.now)) }
 {
-    let mut row = match head_in(alloc, line) {
+    let mut row = match head_in(alloc, lines[at]) {
         Ok(row) => row,
-        Err(ReadFault::Bad) => return Err(RowError::BadRow(total.saturating_sub(behind.len()))),
+        Err(ReadFault::Bad) => return Err(RowError::BadRow(at + 1)),
         Err(ReadFault::NoMemory) => return Err(RowError::NoMemory),
     };
-    let rest = behind_front(behind, b"  ").len();
-    let body = first_lines(behind, rest);
-    match talks_in(alloc, names, row.id.as_slice(), body) {
-        Ok(talks) => {
-            row.talks = SuiteList::from_vec(talks);
-            Ok(row)
-        }
-        Err(ListFault::Bad(more)) => {
-            Err(RowError::BadStep(total.saturating_sub(rest).saturating_sub(more)))
-        }
-        Err(ListFault::NoMemory) => Err(RowError::NoMemory),
-    }
+    let body = RowLines {
+        alloc,
+        names,
+        id: row.id.as_slice(),
+        lines,
+        from: at + 1,
+        to,
+    };
+    let talks = talks_in(&body)?;
+    row.talks = SuiteList::from_vec(talks);
+    Ok(row)
 }
 
-// The rows of the lines that are left, of so many.
-fn rows_of(
+// The rows from this line on.
+fn rows_from(
     alloc: Global,
     names: SuiteNames<'_>,
-    total: usize,
     lines: &[&[u8]],
+    from: usize,
 ) -> Result<Vec<SuiteRow>, RowError>
-    ensures { let there = rows_behind names.entry total [] (map (λ line. line.now) lines.now) in
-        MatchResult result (λ rows. there ≡ Ok rows.items) (λ error. IsRowError error there) }
+    requires { from ≤ length lines.now }
+    ensures { IfErr result (IsLine (length lines.now)) }
 {
     let mut rows = Vec::new(alloc);
-    let mut left = lines;
-    while let [line, behind @ ..] = left {
-        if line.strip_prefix(b"  ").is_none() || rows.is_empty() {
-            rows.push(row_of(alloc, names, total, *line, behind)?)?;
-        }
-        left = behind;
+    let mut at = from;
+    'rows: while at < lines.len() {
+        let to = behind_front(lines, at + 1, b"  ");
+        rows.push(row_at(alloc, names, lines, at, to)?)?;
+        at = to;
     }
     Ok(rows)
 }
 
-// The section of these lines, of so many.
-#[tactic(auto, unfolding(crate::specs::Sections::section_of_lines))]
-fn section_of_lines(
-    alloc: Global,
-    names: SuiteNames<'_>,
-    total: usize,
-    lines: &[&[u8]],
-) -> Result<Section, RowError>
-    ensures { let there = section_of_lines names.entry total (map (λ line. line.now) lines.now) in
-        MatchResult result (λ section. there ≡ Ok section) (λ error. IsRowError error there) }
+// The section of these lines.
+fn section_of(alloc: Global, names: SuiteNames<'_>, lines: &[&[u8]]) -> Result<Section, RowError>
+    requires { 1 ≤ length lines.now }
+    ensures { IfErr result (IsLine (length lines.now)) }
 {
-    let [line, behind @ ..] = lines else {
-        return Err(RowError::BadSection(total));
-    };
-    let mut section = match section_in(alloc, *line) {
+    let at = behind_front(lines, 0, b"#");
+    if at >= lines.len() {
+        return Err(RowError::BadSection(at));
+    }
+    let mut section = match section_in(alloc, lines[at]) {
         Ok(section) => section,
-        Err(ReadFault::Bad) => {
-            return Err(RowError::BadSection(total.saturating_sub(behind.len())));
-        }
+        Err(ReadFault::Bad) => return Err(RowError::BadSection(at + 1)),
         Err(ReadFault::NoMemory) => return Err(RowError::NoMemory),
     };
-    section.rows = SuiteList::from_vec(rows_of(alloc, names, total, behind)?);
+    section.rows = SuiteList::from_vec(rows_from(alloc, names, lines, at + 1)?);
     Ok(section)
 }
 
@@ -120,15 +103,14 @@ fn without_line_feed(text: &[u8]) -> &[u8]
 /// The section that a text is, or its first bad line.
 ///
 /// A text is lines, and each ends in a line feed. Lines that begin with `#` may stand in front. Then comes `section NUMBER KIND "TITLE"`, and
-/// behind it rows: a head `row ID LEVEL SOURCE "TITLE"`, and lines that two spaces begin. Behind the source the marks `slow=MS`, `harsh`
-/// and `alone` may stand, in this order ([`Marks`]). The first of the lines may be `each VAR in VALUE..`; the others are
-/// steps. Words have spaces between them. In steps `$VAR` stands for a value of the family, each of which makes a talk of its own; `$node`,
-/// `$host` and `$mapper` for what the suite is played against; `$short` for the talk's own short name: `0c`, the row's id with `-` for its
-/// point, `x` and the talk's place in its row, and the tag.
+/// behind it rows: a head `row ID LEVEL SOURCE "TITLE"`, and lines that two spaces begin. Behind the source the marks `since=N`, `slow=MS`,
+/// `harsh`, `alone`, `first` and `tries=N` may stand, in this order ([`Marks`](crate::Marks)). The first of the lines may be `each VAR in
+/// VALUE..`; the others are steps. Words have spaces between them. In steps `$VAR` stands for a value of the family, each of which makes a
+/// talk of its own; `$node`, `$host` and `$mapper` for what the suite is played against; `$short` for the talk's own short name: `0c`, the
+/// row's id with `-` for its point, `x` and the talk's place in its row, and the tag.
 pub fn read_section(alloc: Global, text: &[u8], names: &SuiteNames<'_>) -> Result<Section, RowError>
-    ensures { let there = section_of_text names.now text.now in
-        MatchResult result (λ section. there ≡ Ok section) (λ error. IsRowError error there) }
+    ensures { IfErr result (IsLine (length (lines_in text.now))) }
 {
     let lines = split(alloc, without_line_feed(text), b'\n')?;
-    section_of_lines(alloc, *names, lines.len(), behind_front(&lines, b"#"))
+    section_of(alloc, *names, &lines)
 }

@@ -54,6 +54,10 @@ pub struct Marks {
     pub harsh: bool,
     /// `alone`: no other talk may be on its way.
     pub alone: bool,
+    /// `first`: it is played before all others. Where it is not kept the node takes one handshake at a time.
+    pub first: bool,
+    /// `tries=N`: how often a talk is begun whose bytes cannot be said. It is 1 unless the row is marked.
+    pub tries: u32,
 }
 
 /// One talk of a row.

@@ -3,33 +3,41 @@
 use crate::digests::ReplyDigest;
 use crate::lists::SuiteList;
 use crate::patterns::Pattern;
+use crate::shapes::FieldForm;
 use dist_epmd::NodeInfo;
 use dist_names::ByteString;
 
-/// What a reply or an acknowledgement says, but for what the node says before it.
+/// The value of a field that is said.
 #[derive(Drop)]
-pub struct DigestTerms {
-    /// Our challenge in a reply, if not the usual one; the challenge that is acknowledged, if not the one that came last on the connection.
-    pub challenge: Option<u32>,
-    /// Which digest it has.
-    pub digest: ReplyDigest,
-    /// How many of its last bytes are left out.
-    pub less: usize,
-    /// What stands behind it in its frame.
-    pub extra: ByteString,
+pub enum SaidValue {
+    /// These bytes.
+    Bytes(ByteString),
+    /// This digest of the cookie and this challenge, or the one that came last on the connection.
+    Digest(ReplyDigest, Option<u32>),
+    /// The challenge that came last on the connection.
+    Last,
+}
+
+/// A field that is said.
+#[derive(Drop)]
+pub struct SaidField {
+    /// How it stands in the message.
+    pub form: FieldForm,
+    /// What it says.
+    pub value: SaidValue,
 }
 
 /// One message of a step `say`. In rows it is one of the words in the first column, and fields in this order, each of which may be left out.
 ///
 /// | Word | Fields | Says |
 /// |---|---|---|
-/// | `name`, `oldname` | `flags=` `challenge=` `creation=` `name=` or `namehex=` `extra=` | a name of version 6, of version 5 |
-/// | `challenge`, `oldchallenge` | the same | a challenge of version 6, of version 5 |
-/// | `complement` | the same | what an old name left out |
+/// | `name`, `oldname` | `version=` `flags=` `creation=` `name=` or `namehex=` | a name of version 6, of version 5 |
+/// | `challenge`, `oldchallenge` | `version=` `flags=` `challenge=` `creation=` `name=` or `namehex=` | a challenge of version 6, of version 5 |
+/// | `complement` | `flags=` `creation=` | what an old name left out |
 /// | `status` | WORD | a status, of either side |
-/// | `reply` | `challenge=` `digest=` `less=` `extra=` | a reply to the challenge that came last on the connection |
-/// | `mirror` | | the right reply to that challenge, with the same challenge as its own |
-/// | `ack` | `challenge=` `digest=` `less=` `extra=` | an acknowledgement of the challenge that came last on the connection, or of this one |
+/// | `reply` | `challenge=` `digest=` | a reply to the challenge that came last on the connection |
+/// | `mirror` | `digest=` | the reply to that challenge, with the same challenge as its own |
+/// | `ack` | `challenge=` `digest=` | an acknowledgement of the challenge that came last on the connection, or of this one |
 /// | `tick` | | a tick |
 /// | `alive2` | `port=` `type=` `protocol=` `high=` `low=` `name=` or `namehex=` `extra=` | a registration |
 /// | `alive2x`, `alive2y` | `result=` `creation=` | the answer to a registration, with a creation of 4 or of 2 bytes |
@@ -38,21 +46,21 @@ pub struct DigestTerms {
 /// | `frame` | BYTES | these bytes as the body of a frame |
 /// | `raw` | BYTES | these bytes |
 ///
-/// Usual are the talk's own name, the flags 403070f94 of releases from OTP 26 on, creation 77, challenge 123456789, the right digest,
-/// port 9009, type 77, protocol 0, versions 6 and 5, result 0. A message says those of its fields that it has. Flags are `0x` and digits, or `FLAG`
-/// and `-FLAG`: the usual ones with or without this one. BYTES are hexadecimal digits; `HEX*N` has the last byte N times. `less=` leaves
-/// out the last bytes of a body, and `extra=` puts bytes behind it, so that a row can ask for a fault; the frame's length counts what is
-/// there.
+/// Behind the fields `less=` leaves out the last bytes of the message, and `extra=` puts bytes behind it, so that a row can ask for a
+/// fault; the frame's length counts what is there. Usual are the talk's own name, the flags 403070f94 of releases from OTP 26 on,
+/// creation 77, challenge 123456789, the right digest, port 9009, type 77, protocol 0, versions 6 and 5, result 0. A message says those
+/// of the fields that it has. Flags are `0x` and digits, or `FLAG` and `-FLAG`: the usual ones with or without this one. BYTES are pieces
+/// with `_` between them, each hexadecimal digits, or `HEX*N` with the last byte N times.
 #[derive(Drop)]
-pub enum SaidPart {
-    /// These bytes, whatever the node says.
-    Bytes(ByteString),
-    /// A reply.
-    Reply(DigestTerms),
-    /// A reply whose own challenge is the node's.
-    Mirror,
-    /// An acknowledgement.
-    Ack(DigestTerms),
+pub struct SaidPart {
+    /// Whether its length stands before it, in 2 bytes.
+    pub is_framed: bool,
+    /// Its fields, one behind the other.
+    pub fields: SuiteList<SaidField>,
+    /// How many of its last bytes are left out.
+    pub less: usize,
+    /// What stands behind it.
+    pub extra: ByteString,
 }
 
 /// A step `say MESSAGE + MESSAGE.., cut=N pieces=N pause=MS`: what is written on a connection, and how.

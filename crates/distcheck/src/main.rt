@@ -5,52 +5,61 @@
 //! several talks at once, and prints.
 #![tactic(auto)]
 
+ghost use Rattle.std.specs.Prelude.{◌≡◌, IfOk};
+ghost use Rattle.distcheck.specs.Played.{exit_of};
+
 mod calls;
 mod command;
 mod explaining;
 mod fault;
+mod lane;
 mod objects;
 mod output;
 mod playing;
+mod progress;
 mod queue;
 mod reaching;
 mod report;
 mod results;
 mod running;
+mod seen;
+mod standing;
 mod suite;
 mod talk_link;
 mod transcript;
+mod tries;
 mod waiting;
 
-use command::{CheckOrder, CheckTask, NamedNode, task_of};
-use dist_conformance::{SuiteNames, status};
+use command::{CheckOrder, CheckTask, NamedNode, command_of, task_of};
+use dist_conformance::SuiteNames;
 use dist_names::escape;
 use dist_program::{Resolving, find_cookie, mapper_port, read_words, report};
 use dist_secret::Cookie;
 use explaining::{explanation_of, list_of};
 use fault::{Fault, NOT_THERE};
-use objects::objects_of;
+use objects::{SuiteSummary, objects_of};
 use output::print;
 use playing::Setting;
-use queue::queue_of;
+use queue::{TalkQueue, queue_of};
 use reaching::{NO_MAPPER, NO_START, find_call, find_node, find_place};
-use report::report_of;
-use results::{results_of, rows_of};
-use running::{PlayedTalk, run_talks};
+use report::{ReportTerms, report_of};
+use results::{exit_of, rows_of};
+use running::{PlayedSuite, run_talks};
 use std::fmt::Write;
 use std::process::ExitCode;
 use suite::{SuiteFile, read_suite};
+use tries::PlayedTalk;
 
 /// The help.
 const HELP: &str =
     "usage: distcheck NODE [--cookie FILE] [--cookie-unsafe] [--epmd-port N] [--port N] [--mapper HOST:PORT]
-                 [--make-it-dial HOST:PORT] [--start HOST:PORT] [--guide N] [--quick] [--harsh] [--strict] [--only ID,..]
-                 [--tag WORD] [--rows FOLDER] [--json]
+                 [--make-it-dial HOST:PORT] [--start HOST:PORT] [--guide N] [--quick] [--harsh] [--strict] [--serial]
+                 [--only ID,..] [--tag WORD] [--rows FOLDER] [--json]
        distcheck --mapper HOST:PORT [the same]
        distcheck --list | --explain ID [--rows FOLDER]
        distcheck --help | --version
 
-Plays a conformance suite against a live Erlang node, a port mapper, or both: dials it some hundred times, says what the distribution
+Plays a conformance suite against a live Erlang node, a port mapper, or both: dials it about three hundred times, says what the distribution
 protocol allows and what it forbids, and reports each row whose answer is not what the protocol wants.
 
   NODE                     the node to check, NAME@HOST
@@ -66,6 +75,7 @@ protocol allows and what it forbids, and reports each row whose answer is not wh
   --quick                  leave out slow rows
   --harsh                  play rows too that can end a fragile node
   --strict                 every level counts, and so does what is loose
+  --serial                 play one talk at a time, slow ones too
   --only ID,..             play these rows alone: their ids, those of talks, or numbers of sections
   --tag WORD               a word in the names that this run gives itself, for two runs at once
   --rows FOLDER            the folder of the rows (share/distcheck beside the program's)
@@ -169,8 +179,8 @@ fn check<R: Resolving + Sync>(
         return Err(Fault::NoRow);
     }
     put_heading(&setting, order, queue.count)?;
-    let played = run_talks(resolver, &setting, &queue)?;
-    put_report(rt, order, &played)
+    let played = run_talks(resolver, &setting, &queue, order.serial)?;
+    put_report(rt, order, &queue, &played)
 }
 
 // Prints how many talks are played with whom, unless objects are printed.
@@ -185,15 +195,18 @@ fn put_heading(setting: &Setting<'_>, order: &CheckOrder<'_>, talks: usize) -> R
     if let Some(place) = &setting.mapper {
         write!(text, "; port mapper at {place}")?;
     }
+    if order.serial {
+        text.push_str("; one talk at a time")?;
+    }
     text.push_str("\n")?;
     print(setting.rt, &text)
 }
 
 // The first talk that met that nobody listens any more, if one did: its id.
-fn gone_in<'a>(played: &'a [PlayedTalk<'a>]) -> Option<&'a [u8]> {
-    for talk in played {
-        if talk.record.is_refused {
-            return Some(talk.label.id);
+fn gone_in<'a>(talks: &'a [PlayedTalk<'a>]) -> Option<&'a [u8]> {
+    for played in talks {
+        if played.tries.iter().any(|one| one.is_refused()) {
+            return Some(played.talk.label.id);
         }
     }
     None
@@ -203,21 +216,31 @@ fn gone_in<'a>(played: &'a [PlayedTalk<'a>]) -> Option<&'a [u8]> {
 fn put_report<'a>(
     rt: &HostRuntime,
     order: &CheckOrder<'_>,
-    played: &'a [PlayedTalk<'a>],
-) -> Result<u8, Fault> {
+    queue: &TalkQueue<'a>,
+    suite: &'a PlayedSuite<'a>,
+) -> Result<u8, Fault>
+    ensures { IfOk result (λ exit. exit ≡ exit_of order.now.strict suite.now.talks.items) }
+{
     let alloc = rt.alloc();
-    let gone = gone_in(played);
-    let rows = rows_of(alloc, played)?;
-    let results = results_of(alloc, &rows)?;
-    let exit = if gone.is_some() {
-        NOT_THERE
-    } else {
-        status(&results, order.strict)
-    };
+    let gone = gone_in(&suite.talks);
+    let rows = rows_of(alloc, &suite.talks)?;
+    let exit = exit_of(alloc, &suite.talks, order.strict)?;
     let text = if order.json {
-        objects_of(alloc, played, &rows, exit)?
+        let summary = SuiteSummary {
+            rows: queue.rows,
+            is_one_at_a_time: suite.is_one_at_a_time,
+            exit: if gone.is_some() { NOT_THERE } else { exit },
+        };
+        objects_of(alloc, &suite.talks, &rows, &summary)?
     } else {
-        report_of(alloc, &rows, &results, order.strict)?
+        let command = command_of(alloc, order.words)?;
+        let terms = ReportTerms {
+            strict: order.strict,
+            rows: queue.rows,
+            is_one_at_a_time: suite.is_one_at_a_time,
+            command: &command,
+        };
+        report_of(alloc, &rows, &terms)?
     };
     print(rt, &text)?;
     match gone {

@@ -1,22 +1,26 @@
-//! Plays one talk: connects, says, and has what comes judged.
+//! Plays one talk: connects, says, and listens. What is seen in each step is kept, and judged.
 
-ghost use Rattle.std.specs.Prelude.{◌≡◌};
-ghost use Rattle.distcheck.specs.Deciding.{verdict_at};
+ghost use Rattle.std.specs.Prelude.{◌≡◌, ◌<◌, [], length, IfOk, OnOk};
+ghost use Rattle.distcheck.specs.Deciding.{verdict_by_level};
+ghost use Rattle.distcheck.specs.Playing.{standing_of, standing_after};
+ghost use Rattle.distcheck.specs.Trying.{try_verdict};
 
 use crate::calls::{CallPlaces, OwnPort};
 use crate::fault::Fault;
 use crate::queue::QueuedTalk;
+use crate::seen::{Obstacle, PlayedStep, StepFact};
+use crate::standing::{JudgingTerms, TalkState};
 use crate::talk_link::TalkLink;
-use crate::transcript::{Speaker, TranscriptLine, digits_of, letter_of};
-use crate::waiting::{await_judgement, listen_for, milliseconds_since, now, write_pieces};
+use crate::tries::TalkTry;
+use crate::waiting::{WaitGoal, listen_until, milliseconds_since, now, write_pieces};
 use dist_conformance::{
-    Action, Demand, Judgement, Learned, Level, Passage, Saying, TalkStep, TalkVerdict,
-    bytes_to_say, registered_port,
+    Action, Level, Saying, TalkStep, TalkVerdict, bytes_to_say, registered_port,
 };
 use dist_epmd::NodeInfo;
+use dist_names::ByteString;
 use dist_program::at_port;
 use dist_secret::Cookie;
-use std::alloc::Global;
+use std::alloc::{AllocError, Global};
 use std::io::{self, ErrorKind};
 use std::net::SocketAddr;
 use std::thread::sleep;
@@ -47,216 +51,148 @@ pub struct Setting<'a> {
     pub cookie: &'a Cookie,
 }
 
-/// What became of a talk.
-#[derive(Drop)]
-pub struct TalkRecord<'a> {
-    /// The verdict.
-    pub verdict: TalkVerdict,
-    /// The step that decided: the last that was made, as the row has it.
-    pub wanted: &'a [u8],
-    /// In words, what came and is not what was wanted, or why the talk was not tried.
-    pub why: String,
-    /// How many milliseconds it took.
-    pub took: u32,
-    /// Whether nobody listens where it connects.
-    pub is_refused: bool,
-    /// What was said and what came.
-    pub transcript: Vec<TranscriptLine>,
-}
-
-impl TalkRecord<'_> {
-    /// That of a talk of which nothing is played yet.
-    pub fn new<'a>(alloc: Global) -> TalkRecord<'a> {
-        TalkRecord {
-            verdict: TalkVerdict::Kept,
-            wanted: b"",
-            why: String::new(alloc),
-            took: 0,
-            is_refused: false,
-            transcript: Vec::new(alloc),
-        }
-    }
-}
-
-// The verdict that ends a talk before its last step, if one does.
-type Halt = Option<TalkVerdict>;
-
-// A talk that is being played.
+// The connections of a talk that is being played, and where it makes them.
 #[derive(Drop)]
 struct TalkPlay<'a> {
     setting: Setting<'a>,
+    terms: JudgingTerms<'a>,
     alloc: Global,
     begun: Instant,
-    // How many milliseconds a demand waits.
-    limit: u32,
+    links: Vec<TalkLink>,
     // Where the node connects to us, if it does.
     own: Option<OwnPort>,
     // The port that a node has registered that was started for this talk.
     registered: Option<u16>,
-    learned: Vec<Learned>,
-    record: TalkRecord<'a>,
+}
+
+// What is seen where a step was not tried, or not made, for this reason.
+fn omission_of(why: &'static str) -> StepFact {
+    StepFact::Stopped(Obstacle {
+        why,
+        is_skipped: true,
+    })
+}
+
+fn obstacle_of(why: &'static str) -> StepFact {
+    StepFact::Stopped(Obstacle {
+        why,
+        is_skipped: false,
+    })
+}
+
+// What is seen where a connection has to come, or must not.
+fn seen_by(has_come: bool, is_wanted: bool) -> StepFact {
+    match (has_come, is_wanted) {
+        (true, false) => StepFact::Came,
+        (false, true) => obstacle_of("the node does not connect"),
+        (true, true) | (false, false) => StepFact::Made,
+    }
 }
 
 impl<'a> TalkPlay<'a> {
     // A talk of which nothing is played yet.
-    fn begin(setting: &Setting<'a>, limit: u32) -> Result<TalkPlay<'a>, Fault> {
+    fn begin(setting: &Setting<'a>, terms: JudgingTerms<'a>) -> Result<TalkPlay<'a>, Fault> {
         let alloc = setting.rt.alloc();
         let begun = now(setting.rt)?;
         Ok(TalkPlay {
             setting: *setting,
+            terms,
             alloc,
             begun,
-            limit,
+            links: Vec::new(alloc),
             own: None,
             registered: None,
-            learned: Vec::new(alloc),
-            record: TalkRecord::new(alloc),
         })
     }
 
-    // Adds a line to the transcript.
-    fn note(
-        &mut self,
-        conn: u8,
-        who: Speaker,
-        bytes: &[u8],
-        act: &'static str,
-    ) -> Result<(), Fault> {
-        let line = TranscriptLine {
-            at: milliseconds_since(self.setting.rt, self.begun)?,
-            letter: letter_of(conn),
-            who,
-            hex: digits_of(self.alloc, bytes)?,
-            act,
-        };
-        Ok(self.record.transcript.push(line)?)
-    }
-
-    // Ends the talk by this verdict, for this reason.
-    fn halt(&mut self, verdict: TalkVerdict, why: &str) -> Result<Halt, Fault> {
-        self.record.why.push_str(why)?;
-        Ok(Some(verdict))
-    }
-
-    // Takes an error of a connect: it is a fault of this machine, or noted.
-    fn note_refusal(&mut self, error: &io::Error) -> Result<(), Fault> {
+    // What an error of a connect shows.
+    fn seen_in(&self, error: &io::Error) -> Result<StepFact, Fault> {
         if matches!(error.raw_os_error(), Some(23 | 24)) {
             return Err(Fault::NoDescriptors);
         }
         // A node that was started for this talk may be gone, and the one that is checked is not.
-        let is_refused = error.kind() == ErrorKind::ConnectionRefused;
-        self.record.is_refused = is_refused && self.registered.is_none();
-        Ok(())
+        if error.kind() == ErrorKind::ConnectionRefused && self.registered.is_none() {
+            Ok(StepFact::Refused)
+        } else {
+            Ok(obstacle_of("no connection was taken"))
+        }
     }
 
     // Connects.
-    fn connect(
-        &mut self,
-        links: &mut Vec<TalkLink>,
-        conn: u8,
-        address: Option<SocketAddr>,
-    ) -> Result<Halt, Fault> {
+    fn connect(&mut self, conn: u8, address: Option<SocketAddr>) -> Result<StepFact, Fault> {
         let Some(address) = address else {
-            return self.halt(TalkVerdict::Skipped, "nobody to connect to");
+            return Ok(omission_of("nobody to connect to"));
         };
+        let mut seen = StepFact::Made;
         for _ in 0..CONNECTS {
-            match TalkLink::open(self.setting.rt, self.alloc, conn, &address) {
+            match TalkLink::open(self.setting.rt, conn, &address) {
                 Ok(link) => {
-                    self.record.is_refused = false;
-                    links.push(link)?;
-                    self.note(conn, Speaker::Us, b"", "connects")?;
-                    return Ok(None);
+                    self.links.push(link)?;
+                    return Ok(StepFact::Made);
                 }
-                Err(error) => self.note_refusal(&error)?,
+                Err(error) => seen = self.seen_in(&error)?,
             }
             sleep(self.setting.rt, Duration::from_millis(PAUSE));
         }
-        self.halt(TalkVerdict::Blocked, "no connection was taken")
+        Ok(seen)
     }
 
-    // The connection that the node makes to our port within this many milliseconds.
-    fn accept(&self, conn: u8, limit: u32) -> Option<TalkLink> {
-        match &self.own {
-            Some(own) => own.accept(self.alloc, conn, limit),
+    // Takes the connection that the node makes to our port within this many milliseconds, or wants that none comes.
+    fn take(&mut self, conn: u8, limit: u32, is_wanted: bool) -> Result<StepFact, Fault> {
+        let link = match &self.own {
+            Some(own) => own.accept(conn, limit),
             None => None,
-        }
-    }
-
-    // Takes the connection that the node makes to our port within this many milliseconds.
-    fn take(&mut self, links: &mut Vec<TalkLink>, conn: u8, limit: u32) -> Result<Halt, Fault> {
-        let Some(link) = self.accept(conn, limit) else {
-            return self.halt(TalkVerdict::Blocked, "the node does not connect");
         };
-        links.push(link)?;
-        self.note(conn, Speaker::Peer, b"", "connects")?;
-        Ok(None)
-    }
-
-    // Wants that the node does not connect to our port within this many milliseconds.
-    fn want_none(&mut self, conn: u8, limit: u32) -> Result<Halt, Fault> {
-        if self.accept(conn, limit).is_none() {
-            return Ok(None);
+        let seen = seen_by(link.is_some(), is_wanted);
+        if let Some(link) = link {
+            self.links.push(link)?;
         }
-        self.note(conn, Speaker::Peer, b"", "connects")?;
-        self.halt(TalkVerdict::Deviates, "the node connects")
+        Ok(seen)
     }
 
     // Has the node dial what is registered. Why it was not made to, where it was not.
-    fn order_dial(&mut self, info: &NodeInfo) -> Result<Halt, Fault> {
+    fn order_dial(&mut self, info: &NodeInfo) -> Result<Option<StepFact>, Fault> {
         let rt = self.setting.rt;
         let Some(places) = self.setting.call else {
-            return self.halt(TalkVerdict::Skipped, "nobody makes the node dial");
+            return Ok(Some(omission_of("nobody makes the node dial")));
         };
         if self.own.is_none() {
             self.own = OwnPort::register(rt, &places.mapper, info)?;
         }
         let Some(own) = &mut self.own else {
-            return self.halt(TalkVerdict::Blocked, "the talk's name is not registered");
+            return Ok(Some(obstacle_of("the talk's name is not registered")));
         };
-        if own.order_dial(rt, &places, info.name.as_slice())? {
-            Ok(None)
-        } else {
-            self.halt(TalkVerdict::Blocked, "nobody takes orders to dial")
-        }
+        let is_taken = own.order_dial(rt, &places, info.name.as_slice())?;
+        Ok((!is_taken).then(|| obstacle_of("nobody takes orders to dial")))
     }
 
     // Has a node started whose port mapper has our port. Why it was not, where it was not.
-    fn order_start(&mut self) -> Result<Halt, Fault> {
+    fn order_start(&mut self) -> Result<Option<StepFact>, Fault> {
         let rt = self.setting.rt;
         let Some(orders) = self.setting.start else {
-            return self.halt(TalkVerdict::Skipped, "nobody starts the node");
+            return Ok(Some(omission_of("nobody starts the node")));
         };
         self.own = OwnPort::open(rt, &orders);
         let Some(own) = &mut self.own else {
-            return self.halt(TalkVerdict::Blocked, "no port is free");
+            return Ok(Some(obstacle_of("no port is free")));
         };
-        if own.order_start(rt, &orders)? {
-            Ok(None)
-        } else {
-            self.halt(TalkVerdict::Blocked, "nobody takes orders to start")
-        }
+        let is_taken = own.order_start(rt, &orders)?;
+        Ok((!is_taken).then(|| obstacle_of("nobody takes orders to start")))
     }
 
     // Has the node dial what is registered, and takes its connection, unless none has to come within so many milliseconds.
-    fn call(
-        &mut self,
-        links: &mut Vec<TalkLink>,
-        conn: u8,
-        none: Option<u32>,
-        info: &NodeInfo,
-    ) -> Result<Halt, Fault> {
-        match (self.order_dial(info)?, none) {
-            (None, None) => self.take(links, conn, self.limit),
-            (None, Some(limit)) => self.want_none(conn, limit),
-            (halt, _) => Ok(halt),
+    fn call(&mut self, conn: u8, none: Option<u32>, info: &NodeInfo) -> Result<StepFact, Fault> {
+        match self.order_dial(info)? {
+            Some(seen) => Ok(seen),
+            None => self.take(conn, none.unwrap_or(self.terms.limit), none.is_none()),
         }
     }
 
     // Has a node started, and takes its connection to its port mapper.
-    fn start(&mut self, links: &mut Vec<TalkLink>, conn: u8) -> Result<Halt, Fault> {
+    fn start(&mut self, conn: u8) -> Result<StepFact, Fault> {
         match self.order_start()? {
-            None => self.take(links, conn, START),
-            halt => Ok(halt),
+            Some(seen) => Ok(seen),
+            None => self.take(conn, START, true),
         }
     }
 
@@ -269,160 +205,106 @@ impl<'a> TalkPlay<'a> {
     }
 
     // Says something.
-    fn say(&mut self, link: &mut TalkLink, saying: &Saying) -> Result<Halt, Fault> {
-        let conn = link.conn;
-        let said = bytes_to_say(self.alloc, saying, conn, &self.learned, self.setting.cookie)?;
-        let Some(bytes) = said else {
-            return self.halt(
-                TalkVerdict::Skipped,
-                "the message has no more bytes than that",
-            );
-        };
-        self.note(conn, Speaker::Us, &bytes, "")?;
-        if !write_pieces(self.setting.rt, link, &bytes, saying) {
-            self.note(conn, Speaker::Us, b"", "cannot write")?;
+    fn say(&mut self, state: &TalkState, at: usize, saying: &Saying) -> Result<StepFact, Fault>
+        requires { at < length self.old.links.items }
+    {
+        let link = &mut self.links[at];
+        let cookie = self.terms.cookie;
+        match bytes_to_say(self.alloc, saying, link.conn, &state.learned, cookie)? {
+            None => Ok(StepFact::Unsaid),
+            Some(bytes) => {
+                let is_whole = write_pieces(self.setting.rt, link, &bytes, saying);
+                Ok(StepFact::Said(ByteString::from_vec(bytes), is_whole))
+            }
         }
-        Ok(None)
     }
 
-    // Lets what was awaited through, and keeps what was learned from it.
-    fn pass(&mut self, link: &mut TalkLink, passage: &Passage) -> Result<Halt, Fault> {
-        let count = passage.count.min(link.came.len());
-        self.note(link.conn, Speaker::Peer, &link.came[..count], link.ending())?;
-        if let Some(port) = registered_port(&link.came[..count]) {
-            self.registered = Some(port);
-        }
-        let _ = link.came.drain(..count);
-        if let Some(number) = passage.number {
-            self.learned.push(Learned {
-                conn: link.conn,
-                number,
-            })?;
-        }
-        Ok(None)
-    }
-
-    // Awaits what is demanded. Where it does not come the talk ends by this verdict.
-    fn hear(
+    // Listens until that is there which is awaited.
+    fn listen(
         &mut self,
-        link: &mut TalkLink,
-        demand: &Demand,
-        verdict: TalkVerdict,
-    ) -> Result<Halt, Fault> {
-        match await_judgement(&self.setting, link, demand, self.limit, &self.learned)? {
-            Judgement::Kept(passage) => self.pass(link, &passage),
-            Judgement::Loose(passage) => {
-                self.record.verdict = TalkVerdict::Loose;
-                self.pass(link, &passage)
-            }
-            Judgement::Deviates(deviation) => {
-                self.note(link.conn, Speaker::Peer, &link.came, link.ending())?;
-                let came = link.description(self.alloc)?;
-                let why = format!(in self.alloc; "{}: {came}", deviation.name())?;
-                self.halt(verdict, &why)
-            }
-            Judgement::More => self.halt(verdict, "no judgement"),
-        }
+        state: &TalkState,
+        at: usize,
+        awaited: &WaitGoal<'_, '_, '_>,
+    ) -> Result<StepFact, Fault>
+        requires { at < length self.old.links.items }
+    {
+        let link = &mut self.links[at];
+        let conn = link.conn;
+        let before = state.came_on(self.alloc, conn, &[])?;
+        let heard = listen_until(self.setting.rt, link, before, awaited)?;
+        let came = state.came_on(self.alloc, conn, heard.bytes.as_slice())?;
+        self.registered = registered_port(&came).or(self.registered);
+        Ok(StepFact::Heard(heard))
     }
 
-    // Takes whatever comes within this many milliseconds.
-    fn tell(&mut self, link: &mut TalkLink, time: u32) -> Result<Halt, Fault> {
-        listen_for(self.setting.rt, link, time)?;
-        self.note(link.conn, Speaker::Peer, &link.came, link.ending())?;
-        if !self.record.why.is_empty() {
-            self.record.why.push_str("; ")?;
-        }
-        self.record.why.push_str(&link.description(self.alloc)?)?;
-        link.came.clear();
-        self.record.verdict = TalkVerdict::Noted;
-        Ok(None)
-    }
-
-    // Ends the writing on a connection, or the connection.
-    fn leave(&mut self, link: &TalkLink, action: &Action) -> Result<Halt, Fault> {
-        let act = match action {
+    // Makes a step on the connection of its letter. There is at most one of each.
+    fn use_link(&mut self, state: &TalkState, step: &TalkStep) -> Result<StepFact, Fault> {
+        let Some(at) = self.links.iter().position(|link| link.conn == step.conn) else {
+            return Ok(obstacle_of("the connection is not open"));
+        };
+        match &step.action {
+            Action::Say(saying) => return self.say(state, at, saying),
+            Action::Hear(demand) | Action::Want(demand) => {
+                let awaited = WaitGoal::Judgement(state, self.terms, demand);
+                return self.listen(state, at, &awaited);
+            }
+            Action::Tell(time) => return self.listen(state, at, &WaitGoal::Time(*time)),
             Action::Half => {
-                link.half();
-                "ends its writing"
+                self.links[at].half();
+                return Ok(StepFact::Made);
             }
-            Action::Reset => {
-                link.reset();
-                "resets"
-            }
-            _ => "closes",
-        };
-        self.note(link.conn, Speaker::Us, b"", act)?;
-        Ok(None)
-    }
-
-    // Makes a step on a connection that is open.
-    fn act_on(&mut self, link: &mut TalkLink, action: &Action) -> Result<Halt, Fault> {
-        match action {
-            Action::Say(saying) => self.say(link, saying),
-            Action::Hear(demand) => self.hear(link, demand, TalkVerdict::Blocked),
-            Action::Want(demand) => self.hear(link, demand, TalkVerdict::Deviates),
-            Action::Tell(time) => self.tell(link, *time),
-            _ => self.leave(link, action),
+            Action::Reset => self.links[at].reset(),
+            _ => {}
         }
-    }
-
-    // Makes a step on the connection of this letter. There is at most one of each.
-    fn use_link(&mut self, links: &mut Vec<TalkLink>, step: &'a TalkStep) -> Result<Halt, Fault> {
-        let Some(at) = links.iter().position(|link| link.conn == step.conn) else {
-            return self.halt(TalkVerdict::Blocked, "the connection is not open");
-        };
-        let halt = self.act_on(&mut links[at], &step.action)?;
-        if matches!(step.action, Action::Close | Action::Reset) {
-            links.swap_remove(at);
-        }
-        Ok(halt)
+        let _ = self.links.swap_remove(at);
+        Ok(StepFact::Made)
     }
 
     // Makes a step.
-    fn take_step(&mut self, links: &mut Vec<TalkLink>, step: &'a TalkStep) -> Result<Halt, Fault> {
-        self.record.wanted = step.text.as_slice();
+    fn make(&mut self, state: &TalkState, step: &TalkStep) -> Result<StepFact, Fault> {
         match &step.action {
-            Action::Dial => self.connect(links, step.conn, self.node_place()),
-            Action::Ask => self.connect(links, step.conn, self.setting.mapper),
-            Action::Call(none, info) => self.call(links, step.conn, *none, info),
-            Action::Start => self.start(links, step.conn),
-            Action::Take => self.take(links, step.conn, self.limit),
+            Action::Dial => self.connect(step.conn, self.node_place()),
+            Action::Ask => self.connect(step.conn, self.setting.mapper),
+            Action::Call(none, info) => self.call(step.conn, *none, info),
+            Action::Start => self.start(step.conn),
+            Action::Take => self.take(step.conn, self.terms.limit, true),
             Action::Wait(time) => {
                 sleep(self.setting.rt, Duration::from_millis(u64::from(*time)));
-                Ok(None)
+                Ok(StepFact::Made)
             }
-            _ => self.use_link(links, step),
+            _ => self.use_link(state, step),
         }
-    }
-
-    // Makes all steps, and returns the verdict.
-    fn take_steps(&mut self, steps: &'a [TalkStep]) -> Result<TalkVerdict, Fault> {
-        let mut links = Vec::new(self.alloc);
-        for step in steps {
-            if let Some(verdict) = self.take_step(&mut links, step)? {
-                return Ok(verdict);
-            }
-        }
-        Ok(self.record.verdict)
-    }
-
-    // Makes all steps, and keeps the verdict that counts, and the time.
-    fn complete(&mut self, level: Level, steps: &'a [TalkStep]) -> Result<(), Fault> {
-        self.record.verdict = verdict_at(level, self.take_steps(steps)?);
-        self.record.took = milliseconds_since(self.setting.rt, self.begun)?;
-        Ok(())
-    }
-
-    // What became of the talk.
-    fn into_record(self) -> TalkRecord<'a> {
-        let TalkPlay { record, .. } = self;
-        record
     }
 }
 
+// Makes all steps of a talk, as far as it goes on.
+#[tactic(auto, using(crate::proofs::Steps::none_yet, crate::proofs::Steps::one_more))]
+fn play_steps<'a>(
+    setting: &Setting<'a>,
+    talk: &QueuedTalk<'a>,
+    state: &mut TalkState,
+    played: &mut Vec<PlayedStep>,
+) -> Result<u32, Fault>
+    // The talk begins.
+    requires { played.old.items ≡ [] }
+    ensures { OnOk result (standing_of state.new ≡ standing_after talk.now.terms (standing_of state.old) talk.now.steps.now played.new.items) }
+{
+    let mut play = TalkPlay::begin(setting, talk.terms)?;
+    for step in talk.steps {
+        if state.is_over {
+            break;
+        }
+        let seen = play.make(state, step)?;
+        state.take(play.alloc, &talk.terms, step, &seen)?;
+        let at = milliseconds_since(setting.rt, play.begun)?;
+        played.push(PlayedStep { at, seen })?;
+    }
+    milliseconds_since(setting.rt, play.begun)
+}
+
 // The verdict that counts: at level may nothing deviates, and at any other nothing is only noted.
-fn verdict_at(level: Level, verdict: TalkVerdict) -> TalkVerdict
-    ensures { result ≡ verdict_at level verdict }
+fn verdict_by_level(level: Level, verdict: TalkVerdict) -> TalkVerdict
+    ensures { result ≡ verdict_by_level level verdict }
 {
     match (level, verdict) {
         (Level::May, TalkVerdict::Deviates) => TalkVerdict::Noted,
@@ -431,9 +313,46 @@ fn verdict_at(level: Level, verdict: TalkVerdict) -> TalkVerdict
     }
 }
 
-/// Plays a talk, and returns what became of it.
-pub fn play<'a>(setting: &Setting<'a>, queued: &QueuedTalk<'a>) -> Result<TalkRecord<'a>, Fault> {
-    let mut play = TalkPlay::begin(setting, queued.limit)?;
-    play.complete(queued.label.level, queued.steps)?;
-    Ok(play.into_record())
+/// Plays a talk, and returns what was seen, and the verdict.
+pub fn play<'a>(
+    setting: &Setting<'a>,
+    talk: &QueuedTalk<'a>,
+) -> Result<(TalkTry, TalkVerdict), Fault>
+    ensures { IfOk result (λ it. it.1 ≡ try_verdict talk.now it.0.played.items) }
+{
+    let alloc = setting.rt.alloc();
+    let mut state = TalkState::new(alloc)?;
+    let mut played = Vec::new(alloc);
+    let took = play_steps(setting, talk, &mut state, &mut played)?;
+    let outcome = state.verdict_in(talk.steps.len(), played.len());
+    let TalkState { why, .. } = state;
+    let one = TalkTry { played, why, took };
+    Ok((one, verdict_by_level(talk.label.level, outcome)))
+}
+
+/// A talk that is left out for this reason, and the verdict.
+#[tactic(auto, using(crate::proofs::Steps::left_out))]
+pub fn leave_out(
+    alloc: Global,
+    talk: &QueuedTalk<'_>,
+    why: &'static str,
+) -> Result<(TalkTry, TalkVerdict), AllocError>
+    ensures { IfOk result (λ it. it.1 ≡ try_verdict talk.now it.0.played.items) }
+{
+    let mut played = Vec::new(alloc);
+    let obstacle = Obstacle {
+        why,
+        is_skipped: true,
+    };
+    played.push(PlayedStep {
+        at: 0,
+        seen: StepFact::Stopped(obstacle),
+    })?;
+    let why = why.to_owned(alloc)?;
+    let one = TalkTry {
+        played,
+        why,
+        took: 0,
+    };
+    Ok((one, TalkVerdict::Skipped))
 }

@@ -5,10 +5,22 @@ ghost use Rattle.distcheck.specs.Deciding.{level_by};
 
 use crate::command::CheckOrder;
 use crate::playing::Setting;
+use crate::standing::JudgingTerms;
 use crate::suite::SuiteFile;
-use dist_conformance::{Action, Level, Marks, RowTalk, Section, SectionKind, SuiteRow, TalkStep};
+use dist_conformance::{
+    Action, Demand, Level, Marks, Pattern, RowTalk, SectionKind, SuiteRow, TalkStep,
+};
 use dist_names::number_in;
-use std::alloc::AllocError;
+use std::alloc::{AllocError, Global};
+
+/// How many talks are played at once, beside those that mostly wait. Our own choice: a node that serves many peers serves these too.
+const AT_ONCE: usize = 8;
+
+/// How many milliseconds a demand waits in a row that is not slow.
+pub const USUAL: u32 = 5000;
+
+/// A talk that waits so many milliseconds has a thread of its own: none waits behind it. Our own choice.
+const LONG: u32 = 1500;
 
 /// What is printed of a talk and its row, and its place among all.
 #[derive(Clone, Copy)]
@@ -29,6 +41,8 @@ pub struct TalkLabel<'a> {
     pub title: &'a [u8],
     /// Its id.
     pub id: &'a [u8],
+    /// All lines of its file, its row's among them.
+    pub text: &'a str,
 }
 
 /// A talk that may be played.
@@ -36,10 +50,16 @@ pub struct TalkLabel<'a> {
 pub struct QueuedTalk<'a> {
     /// What is printed of it.
     pub label: TalkLabel<'a>,
-    /// How many milliseconds a demand waits.
-    pub limit: u32,
+    /// By what it is judged.
+    pub terms: JudgingTerms<'a>,
     /// What is done.
     pub steps: &'a [TalkStep],
+    /// How often it is begun anew if its bytes cannot be said.
+    pub tries: u32,
+    /// Whether it is played against the port mapper.
+    pub is_of_mapper: bool,
+    /// Whether no other talk is on its way beside it.
+    pub is_alone: bool,
     /// Why it is not played, if it is not.
     pub skipped: Option<&'static str>,
 }
@@ -47,32 +67,124 @@ pub struct QueuedTalk<'a> {
 /// The talks that may be played, by when they are.
 #[derive(Drop)]
 pub struct TalkQueue<'a> {
-    /// A few of these at once.
-    pub beside: Vec<QueuedTalk<'a>>,
-    /// Each of these in a thread of its own, all the time: it mostly waits.
-    pub slow: Vec<QueuedTalk<'a>>,
+    /// Before all others, one after the other: they show how the others have to be played.
+    pub first: Vec<QueuedTalk<'a>>,
+    /// Beside one another; the talks of each of these one after the other.
+    pub lanes: Vec<Vec<QueuedTalk<'a>>>,
     /// After all others, one after the other: each changes what others see.
     pub alone: Vec<QueuedTalk<'a>>,
-    /// How many there are.
+    /// How many talks there are.
     pub count: usize,
+    /// How many rows there are for what is checked, those among them that are not asked for.
+    pub rows: usize,
 }
 
-/// How many milliseconds a demand waits in a row that is not slow.
-pub const USUAL: u32 = 5000;
-
 impl<'a> TalkQueue<'a> {
+    // No talk yet.
+    fn new(alloc: Global) -> Result<TalkQueue<'a>, AllocError> {
+        let mut lanes = Vec::new(alloc);
+        for _ in 0..AT_ONCE {
+            lanes.push(Vec::new(alloc))?;
+        }
+        Ok(TalkQueue {
+            first: Vec::new(alloc),
+            lanes,
+            alone: Vec::new(alloc),
+            count: 0,
+            rows: 0,
+        })
+    }
+
+    // Adds a talk beside others: to a lane, or to one of its own.
+    fn push_beside(&mut self, alloc: Global, queued: QueuedTalk<'a>) -> Result<(), AllocError> {
+        let at = self.count % AT_ONCE;
+        if time_of(queued.steps) < LONG
+            && queued.terms.limit <= USUAL
+            && let Some(lane) = self.lanes.get_mut(at)
+        {
+            return Ok(lane.push(queued)?);
+        }
+        let mut lane = Vec::new(alloc);
+        lane.push(queued)?;
+        Ok(self.lanes.push(lane)?)
+    }
+
     // Adds a talk of a row with these marks.
-    fn push(&mut self, marks: &Marks, queued: QueuedTalk<'a>) -> Result<(), AllocError> {
-        if marks.alone {
+    fn push(
+        &mut self,
+        alloc: Global,
+        marks: &Marks,
+        queued: QueuedTalk<'a>,
+    ) -> Result<(), AllocError> {
+        if marks.first {
+            self.first.push(queued)?;
+        } else if marks.alone {
             self.alone.push(queued)?;
-        } else if marks.limit > USUAL {
-            self.slow.push(queued)?;
         } else {
-            self.beside.push(queued)?;
+            self.push_beside(alloc, queued)?;
         }
         self.count = self.count.saturating_add(1);
         Ok(())
     }
+
+    // Adds the talks of a row.
+    fn push_row(
+        &mut self,
+        setting: &Setting<'a>,
+        file: &'a SuiteFile,
+        row: &'a SuiteRow,
+        order: &CheckOrder<'_>,
+    ) -> Result<(), AllocError> {
+        self.rows = self.rows.saturating_add(1);
+        for talk in row.talks.as_slice() {
+            let label = label_of(self.count, order.guide, file, row, talk);
+            if !is_wanted(order, &label) {
+                continue;
+            }
+            let steps = talk.steps.as_slice();
+            let queued = QueuedTalk {
+                label,
+                terms: JudgingTerms {
+                    limit: row.marks.limit,
+                    cookie: setting.cookie,
+                },
+                steps,
+                tries: row.marks.tries,
+                is_of_mapper: matches!(file.section.kind, SectionKind::Mapper),
+                is_alone: row.marks.alone || row.marks.first,
+                skipped: reason_to_skip(&row.marks, steps, order),
+            };
+            self.push(setting.rt.alloc(), &row.marks, queued)?;
+        }
+        Ok(())
+    }
+}
+
+// How many milliseconds a demand wants that nothing, or nothing more, comes.
+fn time_in(demand: &Demand) -> u32 {
+    let mut longest = 0;
+    for patterns in demand.wanted.as_slice() {
+        for pattern in patterns.as_slice() {
+            if let Pattern::Silence(time) | Pattern::Open(time) = pattern {
+                longest = longest.max(*time);
+            }
+        }
+    }
+    longest
+}
+
+// How many milliseconds a talk takes at least.
+fn time_of(steps: &[TalkStep]) -> u32 {
+    let mut sum = 0u32;
+    for step in steps {
+        let time = match &step.action {
+            Action::Wait(time) | Action::Tell(time) | Action::Call(Some(time), _) => *time,
+            Action::Hear(demand) | Action::Want(demand) => time_in(demand),
+            _ => 0,
+        };
+        sum = sum.saturating_add(time);
+    }
+    sum
 }
 
 // Whether the node's name stands between those of talks, so that they are lesser where they begin with `0c`, and greater with `zz`.
@@ -83,29 +195,29 @@ fn is_between(order: &CheckOrder<'_>) -> bool {
     }
 }
 
+// Whether a name in capitals is lesser than the node's, by their bytes.
+fn is_lesser(name: &[u8], order: &CheckOrder<'_>) -> bool {
+    match order.node {
+        Some(node) => name.strip_prefix(b"ZZ").is_none() || node.name > "[",
+        None => false,
+    }
+}
+
 // Why nobody has the node do its part in a step, if nobody does.
 fn reason_in_step(step: &TalkStep, order: &CheckOrder<'_>) -> Option<&'static str> {
-    match step.action {
+    match &step.action {
         Action::Call(..) if order.make_it_dial.is_none() => {
             Some("nobody makes the node dial (--make-it-dial)")
         }
         Action::Call(..) if !is_between(order) => {
             Some("the node's name does not sort between 0d and zz")
         }
+        Action::Call(_, info) if !is_lesser(info.name.as_slice(), order) => {
+            Some("the node's name does not sort behind ZZ")
+        }
         Action::Start if order.start.is_none() => Some("nobody starts the node (--start)"),
         _ => None,
     }
-}
-
-// The first such reason.
-fn reason_in_steps(steps: &[TalkStep], order: &CheckOrder<'_>) -> Option<&'static str> {
-    for step in steps {
-        let reason = reason_in_step(step, order);
-        if reason.is_some() {
-            return reason;
-        }
-    }
-    None
 }
 
 // Why a talk of a row with these marks is not played, if it is not.
@@ -114,7 +226,7 @@ fn reason_to_skip(
     steps: &[TalkStep],
     order: &CheckOrder<'_>,
 ) -> Option<&'static str> {
-    let reason = reason_in_steps(steps, order);
+    let reason = steps.iter().find_map(|step| reason_in_step(step, order));
     if reason.is_some() {
         reason
     } else if marks.harsh && !order.harsh {
@@ -155,80 +267,40 @@ fn level_by(guide: u32, since: u32, level: Level) -> Level
 fn label_of<'a>(
     place: usize,
     guide: u16,
-    section: &'a Section,
+    file: &'a SuiteFile,
     row: &'a SuiteRow,
     talk: &'a RowTalk,
 ) -> TalkLabel<'a> {
     TalkLabel {
         place,
-        number: section.number,
-        section: section.title.as_slice(),
+        number: file.section.number,
+        section: file.section.title.as_slice(),
         row: row.id.as_slice(),
         level: level_by(u32::from(guide), row.marks.since, row.level),
         source: row.source.as_slice(),
         title: row.title.as_slice(),
         id: talk.id.as_slice(),
+        text: &file.text,
     }
 }
 
-// Adds the talks of a row.
-fn push_row<'a>(
-    queue: &mut TalkQueue<'a>,
-    section: &'a Section,
-    row: &'a SuiteRow,
-    order: &CheckOrder<'_>,
-) -> Result<(), AllocError> {
-    for talk in row.talks.as_slice() {
-        let label = label_of(queue.count, order.guide, section, row, talk);
-        let steps = talk.steps.as_slice();
-        if is_wanted(order, &label) {
-            let queued = QueuedTalk {
-                label,
-                limit: row.marks.limit,
-                steps,
-                skipped: reason_to_skip(&row.marks, steps, order),
-            };
-            queue.push(&row.marks, queued)?;
-        }
-    }
-    Ok(())
-}
-
-// Adds the talks of all rows that there is somebody to play with.
-fn push_rows<'a>(
-    queue: &mut TalkQueue<'a>,
+/// The talks that may be played, in the order of their rows: those that there is somebody to play with.
+pub fn queue_of<'a>(
     suite: &'a [SuiteFile],
     order: &CheckOrder<'_>,
-    setting: &Setting<'_>,
-) -> Result<(), AllocError> {
+    setting: &Setting<'a>,
+) -> Result<TalkQueue<'a>, AllocError> {
+    let mut queue = TalkQueue::new(setting.rt.alloc())?;
     for file in suite {
-        let section = &file.section;
-        let partner = match section.kind {
+        let partner = match file.section.kind {
             SectionKind::Node => setting.node,
             SectionKind::Mapper => setting.mapper,
         };
         if partner.is_some() {
-            for row in section.rows.as_slice() {
-                push_row(queue, section, row, order)?;
+            for row in file.section.rows.as_slice() {
+                queue.push_row(setting, file, row, order)?;
             }
         }
     }
-    Ok(())
-}
-
-/// The talks that may be played, in the order of their rows.
-pub fn queue_of<'a>(
-    suite: &'a [SuiteFile],
-    order: &CheckOrder<'_>,
-    setting: &Setting<'_>,
-) -> Result<TalkQueue<'a>, AllocError> {
-    let alloc = setting.rt.alloc();
-    let mut queue = TalkQueue {
-        beside: Vec::new(alloc),
-        slow: Vec::new(alloc),
-        alone: Vec::new(alloc),
-        count: 0,
-    };
-    push_rows(&mut queue, suite, order, setting)?;
     Ok(queue)
 }

@@ -1,9 +1,12 @@
 //! What became of each row, and of all of them.
 
-use crate::playing::TalkRecord;
+ghost use Rattle.std.specs.Prelude.{◌≡◌, length, filter, map, IfOk, All};
+ghost use Rattle.dist_conformance.specs.Verdicts.{worst_of};
+ghost use Rattle.distcheck.specs.{Played.played_verdict, Played.exit_of, Rows.has_verdict, Rows.IsRow};
+
 use crate::queue::TalkLabel;
-use crate::running::PlayedTalk;
-use dist_conformance::{RowResult, TalkVerdict, worst};
+use crate::tries::{PlayedTalk, TalkTry};
+use dist_conformance::{RowResult, TalkVerdict, status, worst};
 use std::alloc::{AllocError, Global};
 
 /// The verdicts, in the order in which they are counted.
@@ -21,82 +24,107 @@ pub const VERDICTS: [TalkVerdict; 6] = [
 pub struct PlayedRow<'a> {
     /// Its talks.
     pub talks: &'a [PlayedTalk<'a>],
-    /// What is printed of the first of them that has the row's verdict.
-    pub label: TalkLabel<'a>,
-    /// What became of that.
-    pub record: &'a TalkRecord<'a>,
+    /// The first of them that has the row's verdict.
+    pub shown: &'a PlayedTalk<'a>,
     /// The level of the row, and the worst verdict of its talks.
     pub result: RowResult,
 }
 
+// The verdicts of these talks.
+fn verdicts_of(alloc: Global, talks: &[PlayedTalk<'_>]) -> Result<Vec<TalkVerdict>, AllocError>
+    ensures { IfOk result (λ vs. vs.items ≡ map played_verdict talks.now) }
+{
+    talks.iter().map(|talk| talk.verdict()).collect(alloc)
+}
+
+// The first of these talks that has this verdict, or this one.
+fn first_with<'a>(
+    talks: &'a [PlayedTalk<'a>],
+    verdict: TalkVerdict,
+    first: &'a PlayedTalk<'a>,
+) -> &'a PlayedTalk<'a> {
+    talks
+        .iter()
+        .find(|talk| talk.verdict() == verdict)
+        .unwrap_or(first)
+}
+
 impl<'a> PlayedRow<'a> {
     // The row of these talks, of which this is the first.
-    fn new(talks: &'a [PlayedTalk<'a>], first: &'a PlayedTalk<'a>) -> PlayedRow<'a> {
-        let mut shown = first;
-        for talk in talks {
-            if worst(&[shown.record.verdict, talk.record.verdict]) != shown.record.verdict {
-                shown = talk;
-            }
-        }
-        let result = RowResult {
-            level: first.label.level,
-            verdict: shown.record.verdict,
-        };
-        PlayedRow {
+    fn of(
+        alloc: Global,
+        talks: &'a [PlayedTalk<'a>],
+        first: &'a PlayedTalk<'a>,
+    ) -> Result<PlayedRow<'a>, AllocError>
+        ensures { IfOk result (λ row. (row.talks.now ≡ talks.now) × IsRow row) }
+    {
+        let verdict = worst(&verdicts_of(alloc, talks)?);
+        Ok(PlayedRow {
             talks,
-            label: shown.label,
-            record: &shown.record,
-            result,
-        }
+            shown: first_with(talks, verdict, first),
+            result: RowResult {
+                level: first.talk.label.level,
+                verdict,
+            },
+        })
+    }
+
+    /// What is printed of the talk that is shown.
+    pub fn shown_label(&self) -> TalkLabel<'a> {
+        let shown = self.shown;
+        shown.talk.label
     }
 
     /// How many of its talks have its verdict.
     pub fn count(&self) -> usize {
-        let mut count = 0usize;
-        for talk in self.talks {
-            if talk.record.verdict == self.result.verdict {
-                count = count.saturating_add(1);
-            }
-        }
-        count
+        let verdict = self.result.verdict;
+        self.talks
+            .iter()
+            .filter(|talk| talk.verdict() == verdict)
+            .count()
+    }
+
+    /// The try that shows its verdict.
+    pub fn shown_try(&self) -> Option<&'a TalkTry> {
+        self.shown.telling_try()
     }
 }
 
 /// How many of these rows have this verdict.
-pub fn count_in(rows: &[PlayedRow<'_>], verdict: TalkVerdict) -> usize {
-    let mut count = 0usize;
-    for row in rows {
-        if row.result.verdict == verdict {
-            count = count.saturating_add(1);
-        }
-    }
-    count
-}
-
-// Whether two talks are of one row.
-fn is_of_one_row(one: &PlayedTalk<'_>, other: &PlayedTalk<'_>) -> bool {
-    one.label.row == other.label.row
+pub fn count_in(rows: &[PlayedRow<'_>], verdict: TalkVerdict) -> usize
+    ensures { result ≡ length (filter (has_verdict verdict) rows.now) }
+{
+    rows.iter()
+        .filter(|row| row.result.verdict == verdict)
+        .count()
 }
 
 /// The rows of these talks, in their order.
 pub fn rows_of<'a>(
     alloc: Global,
     played: &'a [PlayedTalk<'a>],
-) -> Result<Vec<PlayedRow<'a>>, AllocError> {
+) -> Result<Vec<PlayedRow<'a>>, AllocError>
+    ensures rows { IfOk result (λ rows. All IsRow rows.items) }
+{
     let mut rows = Vec::new(alloc);
-    for talks in played.chunk_by(|one, other| is_of_one_row(one, other)) {
+    for talks in played.chunk_by(|one, other| one.talk.label.row == other.talk.label.row) {
         if let Some(first) = talks.first() {
-            rows.push(PlayedRow::new(talks, first))?;
+            rows.push(PlayedRow::of(alloc, talks, first)?)?;
         }
     }
     Ok(rows)
 }
 
-/// The results of these rows.
-pub fn results_of(alloc: Global, rows: &[PlayedRow<'_>]) -> Result<Vec<RowResult>, AllocError> {
+/// The exit status, by these talks. With `strict` every level counts.
+pub fn exit_of(alloc: Global, played: &[PlayedTalk<'_>], strict: bool) -> Result<u8, AllocError>
+    ensures { IfOk result (λ exit. exit ≡ exit_of strict played.now) }
+{
     let mut results = Vec::new(alloc);
-    for row in rows {
-        results.push(row.result)?;
+    for talk in played {
+        results.push(RowResult {
+            level: talk.talk.label.level,
+            verdict: talk.verdict(),
+        })?;
     }
-    Ok(results)
+    Ok(status(&results, strict))
 }

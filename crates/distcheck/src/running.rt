@@ -1,30 +1,64 @@
-//! Plays all talks: a few at once, slow ones beside them, and at the end those that are played alone.
+//! Plays all talks: those that are played first, then the others beside one another, then those that are played alone; and at the end
+//! once more alone what deviates.
 
-ghost use Rattle.std.specs.Prelude.{◌≡◌};
-ghost use Rattle.distcheck.specs.Deciding.{counts_first};
+ghost use Rattle.std.specs.Prelude.{◌≡◌, ◌++◌, IfOk, OnOk};
+ghost use Rattle.distcheck.specs.{Lanes.all_in, Lanes.lane_at, Lanes.lanes_in, Lanes.lanes_of, Lanes.queued_talks, Played.talks_of, Trying.try_verdict};
 
 use crate::fault::Fault;
-use crate::playing::{Setting, TalkRecord, play};
-use crate::queue::{QueuedTalk, TalkLabel, TalkQueue};
-use dist_conformance::TalkVerdict;
+use crate::lane::LaneReply;
+use crate::playing::{Setting, leave_out, play};
+use crate::progress::SectionTally;
+use crate::queue::{QueuedTalk, TalkQueue};
+use crate::tries::{PlayedTalk, TalkTry};
+use dist_conformance::{Level, TalkVerdict};
 use std::alloc::AllocError;
 use std::sync::atomic::{AtomicBool, AtomicUsize, Ordering};
 use std::thread::{Threads, map_indices, sleep};
 use std::time::Duration;
 
-/// How many talks are played at once, beside the slow ones. Our own choice: a node that serves many peers serves these too.
-const AT_ONCE: usize = 8;
-
 /// How many milliseconds after the first try the second begins.
 const BREATH: u64 = 400;
 
-/// A talk, and what became of it.
+/// How many talks have to hear nothing, until it is believed that nothing ever comes; fewer, where one is played at a time. Our own choice.
+const SILENT: usize = 12;
+
+const SILENT_ALONE: usize = 3;
+
+// Whether a node, or a port mapper, lets hear of itself.
 #[derive(Drop)]
-pub struct PlayedTalk<'a> {
-    /// What is printed of the talk.
-    pub label: TalkLabel<'a>,
-    /// What became of it.
-    pub record: TalkRecord<'a>,
+struct PartnerTally {
+    is_heard: AtomicBool,
+    // How many talks heard nothing, and wanted something.
+    silent: AtomicUsize,
+}
+
+impl PartnerTally {
+    // Nothing was played yet.
+    fn new() -> PartnerTally {
+        PartnerTally {
+            is_heard: AtomicBool::new(false),
+            silent: AtomicUsize::new(0),
+        }
+    }
+
+    // Whether any talk heard something.
+    fn is_heard(&self) -> bool {
+        self.is_heard.load(Ordering::SeqCst)
+    }
+
+    // Whether nothing ever comes, by so many talks.
+    fn is_silent(&self, talks: usize) -> bool {
+        !self.is_heard() && self.silent.load(Ordering::SeqCst) >= talks
+    }
+
+    // Counts a try.
+    fn note(&self, one: &TalkTry, verdict: TalkVerdict) {
+        if one.is_heard() {
+            self.is_heard.store(true, Ordering::SeqCst);
+        } else if is_bad(verdict) {
+            self.silent.fetch_add(1, Ordering::SeqCst);
+        }
+    }
 }
 
 // What the threads share.
@@ -32,140 +66,280 @@ pub struct PlayedTalk<'a> {
 struct TalkCrew<'a> {
     setting: Setting<'a>,
     queue: &'a TalkQueue<'a>,
-    // The place of the next talk that is played beside others.
-    next: AtomicUsize,
+    // Whether one talk is played at a time.
+    is_serial: bool,
     // Whether nobody listens any more.
     is_gone: AtomicBool,
+    node: PartnerTally,
+    mapper: PartnerTally,
+    progress: SectionTally<'a>,
 }
 
-// The record of a talk that is not played, for this reason.
-fn skip<'a>(setting: &Setting<'_>, why: &str) -> Result<TalkRecord<'a>, AllocError> {
-    let mut record = TalkRecord::new(setting.rt.alloc());
-    record.verdict = TalkVerdict::Skipped;
-    record.why.push_str(why)?;
-    Ok(record)
+/// What became of all talks.
+#[derive(Drop)]
+pub struct PlayedSuite<'a> {
+    /// The talks, in their order.
+    pub talks: Vec<PlayedTalk<'a>>,
+    /// Whether the node takes one handshake at a time, so that the others were played one after the other.
+    pub is_one_at_a_time: bool,
 }
 
-// Whether a first try decides alone: a second one may find a machine that is less busy.
-fn is_final(record: &TalkRecord<'_>) -> bool {
-    record.is_refused || !matches!(record.verdict, TalkVerdict::Deviates | TalkVerdict::Blocked)
+// Whether a second try may come to more: it may find a machine that is less busy.
+fn is_bad(verdict: TalkVerdict) -> bool {
+    matches!(verdict, TalkVerdict::Deviates | TalkVerdict::Blocked)
 }
 
-// Whether the first of two tries counts: what deviates is not blocked by a second try, which may meet what the first left behind.
-fn counts_first(first: TalkVerdict, second: TalkVerdict) -> bool
-    ensures { result ≡ counts_first first second }
+// Plays a talk; anew, where its bytes cannot be said.
+fn play_anew<'a>(
+    setting: &Setting<'a>,
+    talk: &QueuedTalk<'a>,
+) -> Result<(TalkTry, TalkVerdict), Fault>
+    ensures { IfOk result (λ it. it.1 ≡ try_verdict talk.now it.0.played.items) }
 {
-    matches!(
-        (first, second),
-        (
-            TalkVerdict::Deviates,
-            TalkVerdict::Blocked | TalkVerdict::Skipped
-        )
-    )
-}
-
-// Plays a talk, and where it is blocked or deviates once more.
-fn play_twice<'a>(setting: &Setting<'a>, queued: &QueuedTalk<'a>) -> Result<TalkRecord<'a>, Fault> {
-    let first = play(setting, queued)?;
-    if is_final(&first) {
-        return Ok(first);
+    for _ in 1..talk.tries {
+        let (one, verdict) = play(setting, talk)?;
+        if !one.is_unsaid() {
+            return Ok((one, verdict));
+        }
     }
-    sleep(setting.rt, Duration::from_millis(BREATH));
-    let second = play(setting, queued)?;
-    if counts_first(first.verdict, second.verdict) {
-        Ok(first)
-    } else {
-        Ok(second)
-    }
+    play(setting, talk)
 }
 
 impl<'a> TalkCrew<'a> {
-    // What becomes of a talk: it is played, unless nobody listens any more.
-    fn record_of(&self, queued: &QueuedTalk<'a>) -> Result<TalkRecord<'a>, Fault> {
-        if let Some(why) = queued.skipped {
-            return Ok(skip(&self.setting, why)?);
+    // Whether the partner of a talk lets hear of itself.
+    fn partner(&self, talk: &QueuedTalk<'_>) -> &PartnerTally {
+        if talk.is_of_mapper {
+            &self.mapper
+        } else {
+            &self.node
         }
-        if self.is_gone.load(Ordering::SeqCst) {
-            return Ok(skip(&self.setting, "nobody listens any more")?);
+    }
+
+    // Why a talk is not played, if it is not.
+    fn reason_to_skip(&self, talk: &QueuedTalk<'_>) -> Option<&'static str> {
+        let silent = if self.is_serial { SILENT_ALONE } else { SILENT };
+        if talk.skipped.is_some() {
+            talk.skipped
+        } else if self.is_gone.load(Ordering::SeqCst) {
+            Some("nobody listens any more")
+        } else if self.partner(talk).is_silent(silent) {
+            Some("nothing came in any talk")
+        } else {
+            None
         }
-        let record = play_twice(&self.setting, queued)?;
-        if record.is_refused {
+    }
+
+    // Plays a talk once more.
+    fn play_again(&self, played: PlayedTalk<'a>) -> Result<PlayedTalk<'a>, Fault>
+        ensures { IfOk result (λ it. it.talk ≡ played.entry.talk) }
+    {
+        let talk = played.talk;
+        let (one, verdict) = play_anew(&self.setting, &talk)?;
+        self.partner(&talk).note(&one, verdict);
+        if one.is_refused() {
             self.is_gone.store(true, Ordering::SeqCst);
         }
-        Ok(record)
+        Ok(played.with(one, verdict)?)
     }
 
-    // Plays a talk, and adds what became of it.
-    fn perform(
-        &self,
-        queued: &QueuedTalk<'a>,
-        played: &mut Vec<PlayedTalk<'a>>,
-    ) -> Result<(), Fault> {
-        let record = self.record_of(queued)?;
-        let label = queued.label;
-        Ok(played.push(PlayedTalk { label, record })?)
-    }
-
-    // Plays talks as long as there are some: those that are played beside others.
-    fn take_turns(&self, played: &mut Vec<PlayedTalk<'a>>) -> Result<(), Fault> {
-        for _ in 0..self.queue.beside.len() {
-            let next = self.next.fetch_add(1, Ordering::SeqCst);
-            let Some(queued) = self.queue.beside.get(next) else {
-                break;
-            };
-            self.perform(queued, played)?;
+    // Plays a talk twice, if a second try may come to more. As long as nothing was ever heard it does not.
+    fn play_twice(&self, played: PlayedTalk<'a>) -> Result<PlayedTalk<'a>, Fault>
+        ensures { IfOk result (λ it. it.talk ≡ played.entry.talk) }
+    {
+        let played = self.play_again(played)?;
+        let is_gone = self.is_gone.load(Ordering::SeqCst);
+        if is_gone || !is_bad(played.last_verdict()) || !self.partner(&played.talk).is_heard() {
+            return Ok(played);
         }
-        Ok(())
+        sleep(self.setting.rt, Duration::from_millis(BREATH));
+        self.play_again(played)
     }
 
-    // The work of a thread: a slow talk, or as many others as it comes to.
-    fn work(&self, place: usize) -> Result<Vec<PlayedTalk<'a>>, Fault> {
+    // Plays a talk, or leaves it out.
+    fn perform(&self, talk: &QueuedTalk<'a>) -> Result<PlayedTalk<'a>, Fault>
+        ensures { IfOk result (λ it. it.talk ≡ talk.now) }
+    {
+        let alloc = self.setting.rt.alloc();
+        let played = PlayedTalk::new(alloc, talk);
+        match self.reason_to_skip(talk) {
+            Some(why) => {
+                let (one, verdict) = leave_out(alloc, talk, why)?;
+                Ok(played.with(one, verdict)?)
+            }
+            None => self.play_twice(played),
+        }
+    }
+
+    // Plays these talks, one after the other.
+    fn play_lane(&self, lane: &[QueuedTalk<'a>]) -> Result<Vec<PlayedTalk<'a>>, Fault>
+        ensures { IfOk result (λ ps. talks_of ps.items ≡ lane.now) }
+    {
         let mut played = Vec::new(self.setting.rt.alloc());
-        match self.queue.slow.get(place) {
-            Some(queued) => self.perform(queued, &mut played)?,
-            None => self.take_turns(&mut played)?,
+        for talk in lane {
+            played.push(self.perform(talk)?)?;
+            self.progress.note(self.setting.rt, &talk.label);
         }
         Ok(played)
     }
 
-    // Plays the talks that are played beside others, each in a thread.
-    fn play_beside<R: Threads + Sync>(
-        &self,
-        threads: &R,
-        played: &mut Vec<PlayedTalk<'a>>,
-    ) -> Result<(), Fault> {
-        let count = self.queue.slow.len().saturating_add(AT_ONCE);
-        let alloc = self.setting.rt.alloc();
-        for of_thread in map_indices(threads, alloc, count, &|place| self.work(place))? {
-            played.append(&mut of_thread?)?;
+    // Plays the lane at this place.
+    fn make_reply(&self, place: usize) -> LaneReply<'a>
+        ensures { result.lane.now ≡ lane_at self.now.queue.now.lanes.items place }
+    {
+        let queue = self.queue;
+        let lane: &'a [QueuedTalk<'a>] = match queue.lanes.get(place) {
+            Some(lane) => lane,
+            None => &[],
+        };
+        LaneReply {
+            lane,
+            played: self.play_lane(lane),
         }
-        Ok(())
     }
 
-    // Plays the others, one after the other.
-    fn play_alone(&self, played: &mut Vec<PlayedTalk<'a>>) -> Result<(), Fault> {
-        for queued in &self.queue.alone {
-            self.perform(queued, played)?;
+    // Plays all lanes beside one another, each in a thread.
+    fn play_beside<R: Threads + Sync>(&self, threads: &R) -> Result<Vec<LaneReply<'a>>, Fault>
+        ensures { IfOk result (λ replies. lanes_in replies.items ≡ lanes_of self.now.queue.now.lanes.items) }
+    {
+        let queue = self.queue;
+        let replies = map_indices(
+            threads,
+            self.setting.rt.alloc(),
+            queue.lanes.len(),
+            &|place: usize| -> LaneReply<'_>
+                ensures { result.lane.now ≡ lane_at self.entry.now.queue.now.lanes.items place }
+            { self.make_reply(place) },
+        )?;
+        Ok(replies)
+    }
+
+    // Plays all lanes one after the other.
+    fn play_in_turn(&self) -> Result<Vec<LaneReply<'a>>, Fault>
+        ensures { IfOk result (λ replies. lanes_in replies.items ≡ lanes_of self.now.queue.now.lanes.items) }
+    {
+        let queue: &'a TalkQueue<'a> = self.queue;
+        let mut replies = Vec::new(self.setting.rt.alloc());
+        for lane in &queue.lanes {
+            replies.push(LaneReply {
+                lane,
+                played: self.play_lane(lane),
+            })?;
         }
-        Ok(())
+        Ok(replies)
+    }
+
+    // Plays all lanes.
+    fn play_lanes<R: Threads + Sync>(&self, threads: &R) -> Result<Vec<LaneReply<'a>>, Fault>
+        ensures { IfOk result (λ replies. lanes_in replies.items ≡ lanes_of self.now.queue.now.lanes.items) }
+    {
+        if self.is_serial {
+            self.play_in_turn()
+        } else {
+            self.play_beside(threads)
+        }
+    }
+
+    // Plays a talk alone that deviates beside others: it deviates only if it does so twice.
+    fn confirm(&self, played: PlayedTalk<'a>) -> Result<PlayedTalk<'a>, Fault>
+        ensures { IfOk result (λ it. it.talk ≡ played.entry.talk) }
+    {
+        let talk = played.talk;
+        let is_settled = played.verdict() != TalkVerdict::Deviates
+            || matches!(talk.label.level, Level::May)
+            || talk.is_alone
+            || self.is_serial
+            || self.is_gone.load(Ordering::SeqCst)
+            || !self.partner(&talk).is_heard();
+        if is_settled {
+            return Ok(played);
+        }
+        let played = if played.tries.len() < 2 {
+            self.play_again(played)?
+        } else {
+            played
+        };
+        if played.verdict() == TalkVerdict::Deviates {
+            self.play_twice(played)
+        } else {
+            Ok(played)
+        }
+    }
+
+    // Has what deviates verdict_alone. In a row of which one talk deviates for good the others are not played again.
+    fn confirm_all(&self, talks: Vec<PlayedTalk<'a>>) -> Result<Vec<PlayedTalk<'a>>, Fault>
+        ensures { IfOk result (λ ps. talks_of ps.items ≡ talks_of talks.entry.items) }
+    {
+        let mut verdict_alone = Vec::new(self.setting.rt.alloc());
+        let mut deviating: &'a [u8] = &[];
+        for played in talks {
+            let row = played.talk.label.row;
+            let played = if row == deviating {
+                played
+            } else {
+                self.confirm(played)?
+            };
+            if played.verdicts.len() > 2 && played.verdict() == TalkVerdict::Deviates {
+                deviating = row;
+            }
+            verdict_alone.push(played)?;
+        }
+        Ok(verdict_alone)
     }
 }
 
-/// Plays all talks, and returns what became of each, in their order.
+// Appends what lanes came to.
+fn take_replies<'a>(
+    replies: Vec<LaneReply<'a>>,
+    played: &mut Vec<PlayedTalk<'a>>,
+) -> Result<(), Fault>
+    ensures { OnOk result (talks_of played.new.items ≡ talks_of played.old.items ++ all_in (lanes_in replies.entry.items)) }
+{
+    for reply in replies {
+        let LaneReply {
+            played: mut more,
+            ..
+        } = reply;
+        played.append(&mut more?)?;
+    }
+    Ok(())
+}
+
+impl<'a> TalkCrew<'a> {
+    // Plays all talks, each once, and returns what became of them in the order in which they are queued.
+    fn play_all<R: Threads + Sync>(&mut self, threads: &R) -> Result<PlayedSuite<'a>, Fault>
+        ensures { IfOk result (λ suite. talks_of suite.talks.items ≡ queued_talks self.old.queue.now) }
+    {
+        let queue: &'a TalkQueue<'a> = self.queue;
+        let mut talks = self.play_lane(&queue.first)?;
+        let is_held_up = talks.iter().any(|played| is_bad(played.verdict()));
+        self.is_serial = self.is_serial || is_held_up;
+        take_replies(self.play_lanes(threads)?, &mut talks)?;
+        talks.append(&mut self.play_lane(&queue.alone)?)?;
+        Ok(PlayedSuite {
+            talks: self.confirm_all(talks)?,
+            is_one_at_a_time: is_held_up && self.node.is_heard(),
+        })
+    }
+}
+
+/// Plays all talks, each once, and returns what became of each, in their order.
 pub fn run_talks<'a, R: Threads + Sync>(
     threads: &R,
     setting: &Setting<'a>,
     queue: &'a TalkQueue<'a>,
-) -> Result<Vec<PlayedTalk<'a>>, Fault> {
-    let crew = TalkCrew {
+    is_serial: bool,
+) -> Result<PlayedSuite<'a>, Fault> {
+    let alloc = setting.rt.alloc();
+    let mut crew = TalkCrew {
         setting: *setting,
         queue,
-        next: AtomicUsize::new(0),
+        is_serial,
         is_gone: AtomicBool::new(false),
+        node: PartnerTally::new(),
+        mapper: PartnerTally::new(),
+        progress: SectionTally::of(alloc, queue)?,
     };
-    let mut played = Vec::new(setting.rt.alloc());
-    crew.play_beside(threads, &mut played)?;
-    crew.play_alone(&mut played)?;
-    played.sort_by_key(|talk| talk.label.place)?;
-    Ok(played)
+    let mut suite = crew.play_all(threads)?;
+    suite.talks.sort_by_key(|played| played.talk.label.place)?;
+    Ok(suite)
 }

@@ -5,8 +5,9 @@ use crate::fault::Fault;
 use dist_conformance::{RowError, Section, SuiteNames, read_section};
 use dist_names::escape;
 use std::alloc::{AllocError, Global};
+use std::io::{self, ErrorKind};
 use std::path::AsPath;
-use std::{env, fs, io};
+use std::{env, fs};
 
 /// A file of rows.
 #[derive(Drop)]
@@ -78,6 +79,15 @@ fn names_in(rt: &HostRuntime, folder: &str) -> io::Result<Vec<String>> {
     Ok(names)
 }
 
+// The text of a file. A pipe or a device is none, and not waited for.
+fn read_text(rt: &HostRuntime, path: &str) -> io::Result<String> {
+    if fs::metadata(rt, path)?.is_file() {
+        fs::read_to_string(rt, path)
+    } else {
+        Err(ErrorKind::InvalidInput.into())
+    }
+}
+
 // Reads a file of rows.
 fn read_file(
     rt: &HostRuntime,
@@ -87,7 +97,7 @@ fn read_file(
 ) -> Result<SuiteFile, Fault> {
     let alloc = rt.alloc();
     let path = format!(in alloc; "{folder}/{name}")?;
-    let Ok(text) = fs::read_to_string(rt, path.as_str()) else {
+    let Ok(text) = read_text(rt, &path) else {
         return Err(unread(alloc, &path));
     };
     match read_section(alloc, text.as_bytes(), names) {

@@ -1,10 +1,11 @@
-//! A connection of a talk: what came on it, and what is written on it. Each wait has a limit.
+//! A connection of a talk: what is read from it, and what is written on it. Each wait has a limit.
 
-ghost use Rattle.std.specs.Prelude.{◌≡◌, IfOk, false};
+ghost use Rattle.std.specs.Prelude.{◌≡◌, IfOk};
+ghost use Rattle.distcheck.specs.Seeing.{HearsMore};
 
-use crate::transcript::{digits_of, letter_of};
+use crate::seen::PeerEnd;
 use dist_stream::{Heard, Limited, SocketStream, Stream};
-use std::alloc::{AllocError, Global};
+use std::alloc::AllocError;
 use std::io;
 use std::net::{Net, SocketAddr, TcpListener, TcpStream};
 use std::os::fd::AsRawFd;
@@ -18,6 +19,9 @@ const WRITE: u64 = 1;
 
 const WRITES: usize = 5;
 
+// The most bytes that are read of a connection: 1 MiB. What comes beyond stays unread. Our own choice.
+const MOST: usize = 1 << 20;
+
 // The most bytes of one read.
 const PIECE: usize = 4096;
 
@@ -26,59 +30,68 @@ const PIECE: usize = 4096;
 pub struct TalkLink {
     /// Which of the talk's connections it is: 0 for a, 1 for b and so on.
     pub conn: u8,
-    /// What came, and was not yet asked for.
-    pub came: Vec<u8>,
-    /// Whether the peer has closed it.
-    pub ended: bool,
-    /// Whether that was no plain end.
-    pub is_reset: bool,
+    /// What became of the peer's side.
+    pub end: PeerEnd,
+    // How many bytes are read at most from now on.
+    room: usize,
     stream: SocketStream,
+}
+
+// One read: what came is appended. Returns what became of the peer's side.
+fn read_more<S: Stream>(stream: &mut S, bytes: &mut Vec<u8>) -> Result<PeerEnd, AllocError>
+    ensures { IfOk result (HearsMore (S.meaning stream.old) (S.meaning stream.new) bytes.old.items bytes.new.items) }
+{
+    let mut room = [0u8; PIECE];
+    match stream.read(&mut room) {
+        Heard::Bytes(0) => Ok(PeerEnd::Closed),
+        Heard::Bytes(count) => {
+            bytes.extend_from_slice(&room[..count])?;
+            Ok(PeerEnd::Open)
+        }
+        Heard::Quiet => Ok(PeerEnd::Open),
+        Heard::Failed => Ok(PeerEnd::Reset),
+    }
 }
 
 impl TalkLink {
     /// Connects to this address, within five seconds. An error is the system's.
     pub fn open<R: Net<Listener = TcpListener, Stream = TcpStream>>(
         rt: &R,
-        alloc: Global,
         conn: u8,
         address: &SocketAddr,
     ) -> io::Result<TalkLink>
-        ensures conn { IfOk result (λ link. link.conn ≡ conn) }
-        ensures open { IfOk result (λ link. link.ended ≡ false) }
+        ensures { IfOk result (λ link. link.conn ≡ conn) }
     {
         let socket = TcpStream::connect_timeout(rt, address, Duration::from_secs(CONNECT))?;
-        TalkLink::over(alloc, conn, socket)
+        TalkLink::over(conn, socket)
     }
 
     /// The connection that this socket has. An error is the system's.
-    pub fn over(alloc: Global, conn: u8, socket: TcpStream) -> io::Result<TalkLink>
-        ensures conn { IfOk result (λ link. link.conn ≡ conn) }
-        ensures open { IfOk result (λ link. link.ended ≡ false) }
+    pub fn over(conn: u8, socket: TcpStream) -> io::Result<TalkLink>
+        ensures { IfOk result (λ link. link.conn ≡ conn) }
     {
         let _ = socket.set_nodelay(true);
         let stream = SocketStream::with_turn(socket, Duration::from_secs(WRITE))?;
         Ok(TalkLink {
             conn,
-            came: Vec::new(alloc),
-            ended: false,
-            is_reset: false,
+            end: PeerEnd::Open,
+            room: MOST,
             stream,
         })
     }
 
-    /// Waits for bytes or an end, for this time at most, and takes what came.
-    pub fn listen(&mut self, limit: Duration) -> Result<(), AllocError> {
-        let mut room = [0u8; PIECE];
+    /// Whether more may come.
+    pub fn is_open(&self) -> bool {
+        self.room != 0 && !self.end.is_over()
+    }
+
+    /// Waits for bytes or an end, for this time at most, and appends what came.
+    pub fn listen(&mut self, limit: Duration, bytes: &mut Vec<u8>) -> Result<(), AllocError> {
+        let before = bytes.len();
         let _ = self.stream.get_ref().set_read_timeout(Some(limit));
-        match self.stream.read(&mut room) {
-            Heard::Bytes(0) => self.ended = true,
-            Heard::Bytes(count) => self.came.extend_from_slice(&room[..count])?,
-            Heard::Quiet => {}
-            Heard::Failed => {
-                self.ended = true;
-                self.is_reset = true;
-            }
-        }
+        self.end = read_more(&mut self.stream, bytes)?;
+        let count = bytes.len().saturating_sub(before);
+        self.room = self.room.saturating_sub(count);
         Ok(())
     }
 
@@ -102,31 +115,5 @@ impl TalkLink {
         let nowhere = [0u8; 128];
         let fd = self.stream.get_ref().as_raw_fd();
         let _ = unsafe { libc::net::connect(fd, &nowhere, 16) };
-    }
-
-    /// What became of it: nothing, as long as it is open.
-    pub fn ending(&self) -> &'static str {
-        match (self.ended, self.is_reset) {
-            (true, true) => "is reset",
-            (true, false) => "is closed",
-            (false, _) => "",
-        }
-    }
-
-    /// What came, and what became of the connection, in words.
-    pub fn description(&self, alloc: Global) -> Result<String, AllocError> {
-        let letter = letter_of(self.conn);
-        let act = if self.ended {
-            self.ending()
-        } else {
-            "stays open"
-        };
-        let hex = digits_of(alloc, &self.came)?;
-        let came = if hex.is_empty() {
-            "nothing"
-        } else {
-            hex.as_str()
-        };
-        format!(in alloc; "{letter}: {came}, {act}")
     }
 }

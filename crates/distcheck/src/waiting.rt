@@ -1,9 +1,11 @@
-//! Waits: for a judgement of what comes, for a time, and between pieces of what is written.
+//! Waits: until what came is decided, and between pieces of what is written.
 
 use crate::fault::Fault;
-use crate::playing::Setting;
+use crate::seen::{HeardBytes, Timing};
+use crate::standing::{JudgingTerms, TalkState};
 use crate::talk_link::TalkLink;
-use dist_conformance::{Demand, Judgement, Learned, Observed, Saying, judge};
+use dist_conformance::{Demand, Judgement, Saying};
+use dist_names::ByteString;
 use std::thread::sleep;
 use std::time::{Duration, Instant};
 
@@ -26,45 +28,66 @@ pub fn now(rt: &HostRuntime) -> Result<Instant, Fault> {
     }
 }
 
-/// Has what came judged, again and again, until that is decided: within `limit` milliseconds.
-pub fn await_judgement(
-    setting: &Setting<'_>,
-    link: &mut TalkLink,
-    demand: &Demand,
-    limit: u32,
-    learned: &[Learned],
-) -> Result<Judgement, Fault> {
-    let start = now(setting.rt)?;
-    for _ in 0..u64::MAX {
-        let judgement = judge(
-            demand,
-            &Observed {
-                came: &link.came,
-                ended: link.ended,
-                elapsed: milliseconds_since(setting.rt, start)?,
-                limit,
-                learned,
-                cookie: setting.cookie,
-            },
-        );
-        if !matches!(judgement, Judgement::More) {
-            return Ok(judgement);
-        }
-        link.listen(Duration::from_millis(WAIT))?;
+// Waits for bytes or an end, and appends what came. Returns whether bytes came.
+fn listen_once(rt: &HostRuntime, link: &mut TalkLink, came: &mut Vec<u8>) -> Result<bool, Fault> {
+    let before = came.len();
+    let wait = Duration::from_millis(WAIT);
+    if link.is_open() {
+        link.listen(wait, came)?;
+    } else {
+        sleep(rt, wait);
     }
-    Ok(Judgement::More)
+    Ok(before < came.len())
 }
 
-/// Listens for this many milliseconds, or until the end.
-pub fn listen_for(rt: &HostRuntime, link: &mut TalkLink, time: u32) -> Result<(), Fault> {
-    let start = now(rt)?;
-    for _ in 0..u64::MAX {
-        if link.ended || time <= milliseconds_since(rt, start)? {
-            break;
+/// What is listened for.
+#[derive(Clone, Copy)]
+pub enum WaitGoal<'s, 'c, 'd> {
+    /// The judgement of a demand: it came, or cannot come any more.
+    Judgement(&'s TalkState, JudgingTerms<'c>, &'d Demand),
+    /// The end of so many milliseconds, or of the connection.
+    Time(u32),
+}
+
+impl WaitGoal<'_, '_, '_> {
+    // Whether it is there, by what came until then.
+    fn is_there(&self, came: &[u8], timing: Timing) -> bool {
+        match self {
+            WaitGoal::Judgement(state, terms, demand) => !matches!(
+                state.judgement(terms, demand, came, timing),
+                Judgement::More
+            ),
+            WaitGoal::Time(time) => timing.end.is_over() || *time <= timing.elapsed,
         }
-        link.listen(Duration::from_millis(WAIT))?;
     }
-    Ok(())
+}
+
+/// Listens on a connection, of which this came before, until that is there which is awaited. Returns what came since.
+pub fn listen_until(
+    rt: &HostRuntime,
+    link: &mut TalkLink,
+    mut came: Vec<u8>,
+    awaited: &WaitGoal<'_, '_, '_>,
+) -> Result<HeardBytes, Fault> {
+    let start = now(rt)?;
+    let before = came.len();
+    let mut last = 0;
+    for _ in 0..u64::MAX {
+        let elapsed = milliseconds_since(rt, start)?;
+        let timing = Timing {
+            end: link.end,
+            elapsed,
+            pause: elapsed.saturating_sub(last),
+        };
+        if awaited.is_there(&came, timing) {
+            let bytes = ByteString::from_slice(rt.alloc(), came.get(before..).unwrap_or(&[]))?;
+            return Ok(HeardBytes { bytes, timing });
+        }
+        if listen_once(rt, link, &mut came)? {
+            last = milliseconds_since(rt, start)?;
+        }
+    }
+    Err(Fault::NoTime)
 }
 
 // The shortest pause between two pieces, in milliseconds, so that they do not come as one. Our own choice.

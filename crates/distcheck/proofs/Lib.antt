@@ -1,0 +1,3 @@
+pub mod Lanes
+pub mod Order
+pub mod Steps

@@ -1,0 +1,20 @@
+-- What is seen of a connection.
+use Rattle.std.specs.Prelude.{◌≡◌, ℕ, Bool, true, false, List, ◌++◌}
+use Rattle.std.specs.Io.KnownBytes.{prepend_known, IsAtEnd}
+use Rattle.dist_stream.specs.Stream.{StreamState}
+use Rattle.distcheck.specs.declared.seen.PeerEnd.{PeerEnd}
+use Rattle.distcheck.specs.declared.seen.PeerEnd.TheVariants as end
+
+-- nothing more can come
+abbrev pub end_of : PeerEnd → Bool
+end_of end.Open = false
+end_of end.Closed = true
+end_of end.Reset = true
+
+-- WHAT CAME IS WHAT WAS READ: these bytes were read from the stream, and stand behind what had come before; it ended only where none is left
+pub record HearsMore (old new : StreamState) (before after : List ℕ) (how : PeerEnd) : Type 0 where
+  pub heard : List ℕ
+  pub unread : old.unread ≡ prepend_known heard new.unread
+  pub written : new.written ≡ old.written
+  pub after_is : after ≡ before ++ heard
+  pub ended : how ≡ end.Closed → IsAtEnd new.unread

@@ -1,0 +1,30 @@
+-- THE VERDICT OF A TALK, by those of its tries.
+use Rattle.std.specs.Prelude.{if◌then◌else◌, List, [], ◌∷◌, map}
+use Rattle.dist_conformance.specs.declared.verdicts.TalkVerdict.{TalkVerdict}
+use Rattle.dist_conformance.specs.declared.verdicts.TalkVerdict.TheVariants as verdict
+use Rattle.distcheck.specs.{Deciding.counts_first, Deciding.verdict_by_level, Playing.outcome_of}
+use Rattle.distcheck.specs.declared.{queue.QueuedTalk.QueuedTalk, seen.PlayedStep.PlayedStep, tries.TalkTry.TalkTry}
+
+-- the verdict of one try, by what was seen in its steps
+abbrev pub try_verdict : QueuedTalk → List PlayedStep → TalkVerdict
+try_verdict talk played = verdict_by_level talk.label.level (outcome_of talk.terms talk.steps.now played)
+
+-- that of each try
+abbrev pub verdicts_of : QueuedTalk → List TalkTry → List TalkVerdict
+verdicts_of talk tries = map (λ (t : TalkTry). try_verdict talk t.played.items) tries
+
+-- that of one or two tries: what deviates is not blocked by a second
+abbrev pub verdict_of_two : List TalkVerdict → TalkVerdict
+verdict_of_two [] = verdict.Skipped
+verdict_of_two (first ∷ []) = first
+verdict_of_two (first ∷ second ∷ more) = if counts_first first second then first else second
+
+-- what deviates beside other talks deviates only if it does so alone
+abbrev pub verdict_alone : TalkVerdict → TalkVerdict
+verdict_alone verdict.Deviates = verdict.Deviates
+verdict_alone other = verdict.Loose
+
+-- that of all tries: two, and those alone
+abbrev pub tries_verdict : List TalkVerdict → TalkVerdict
+tries_verdict (first ∷ second ∷ one ∷ more) = verdict_alone (verdict_of_two (one ∷ more))
+tries_verdict verdicts = verdict_of_two verdicts

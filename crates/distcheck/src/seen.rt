@@ -1,0 +1,120 @@
+//! What is seen in the steps of a talk.
+
+ghost use Rattle.std.specs.Prelude.{◌≡◌, if◌then◌else◌};
+ghost use Rattle.distcheck.specs.Seeing.{end_of};
+ghost use Rattle.dist_conformance.specs.declared.verdicts.TalkVerdict.TheVariants as verdict;
+
+use dist_conformance::TalkVerdict;
+use dist_names::ByteString;
+
+/// What became of the peer's side of a connection.
+#[derive(Clone, Copy, PartialEq, Eq)]
+pub enum PeerEnd {
+    /// It is open.
+    Open,
+    /// The peer ended it.
+    Closed,
+    /// It was reset.
+    Reset,
+}
+
+impl PeerEnd {
+    /// Whether nothing more can come.
+    pub fn is_over(self) -> bool
+        ensures { result ≡ end_of self }
+    {
+        match self {
+            PeerEnd::Open => false,
+            PeerEnd::Closed | PeerEnd::Reset => true,
+        }
+    }
+
+    /// In words; nothing, as long as it is open.
+    pub fn text(self) -> &'static str {
+        match self {
+            PeerEnd::Open => "",
+            PeerEnd::Closed => "is closed",
+            PeerEnd::Reset => "is reset",
+        }
+    }
+}
+
+/// When a step that listens was over, and how its connection stood then. Times are in milliseconds.
+#[derive(Clone, Copy)]
+pub struct Timing {
+    /// What had become of the connection.
+    pub end: PeerEnd,
+    /// How long the step had lasted.
+    pub elapsed: u32,
+    /// How long ago the last byte came, or the step began.
+    pub pause: u32,
+}
+
+/// What came on a connection in one step.
+#[derive(Drop)]
+pub struct HeardBytes {
+    /// These bytes.
+    pub bytes: ByteString,
+    /// When that was.
+    pub timing: Timing,
+}
+
+/// Why a step was not made.
+#[derive(Clone, Copy)]
+pub struct Obstacle {
+    /// In words.
+    pub why: &'static str,
+    /// Whether nothing was tried, and the talk is skipped. Otherwise it is blocked.
+    pub is_skipped: bool,
+}
+
+/// What is seen in a step.
+#[derive(Drop)]
+pub enum StepFact {
+    /// It was made: a connection was made or taken, our side of one was ended, or time was spent. In `call none`: nobody came.
+    Made,
+    /// These bytes were written. The second: whether the connection took all of them.
+    Said(ByteString, bool),
+    /// This came.
+    Heard(HeardBytes),
+    /// A connection came that must not.
+    Came,
+    /// Nobody listens where the step connects.
+    Refused,
+    /// The message has no more bytes than the step cuts it to.
+    Unsaid,
+    /// The step was not made.
+    Stopped(Obstacle),
+}
+
+/// A step that was played.
+#[derive(Drop)]
+pub struct PlayedStep {
+    /// How many milliseconds after the beginning of the talk it was over.
+    pub at: u32,
+    /// What was seen.
+    pub seen: StepFact,
+}
+
+impl PlayedStep {
+    /// Whether the peer let hear of itself: by a byte, or by an end.
+    pub fn is_heard(&self) -> bool {
+        match &self.seen {
+            StepFact::Heard(heard) => !heard.bytes.is_empty() || heard.timing.end.is_over(),
+            _ => false,
+        }
+    }
+}
+
+impl Obstacle {
+    /// The verdict of a talk that ends by it.
+    pub fn verdict(self) -> TalkVerdict
+        ensures { result ≡ (if self.is_skipped then verdict.Skipped else verdict.Blocked) }
+    {
+        if self.is_skipped {
+            TalkVerdict::Skipped
+        } else {
+            TalkVerdict::Blocked
+        }
+    }
+}
