@@ -1,2 +1,3 @@
 pub mod Logged
 pub mod Numbers
+pub mod Places

@@ -3,35 +3,41 @@
 use Rattle.std.specs.Prelude.{ℕ, ◌-◌, ◌==◌, ◌||◌, ◌&&◌, Bool, true, false, List, [], ◌∷◌, ◌++◌, codes, length, drop, nat_le, if◌then◌else◌}
 use Rattle.std.specs.{List.flat_map, List.starts_with, Fmt.decimal}
 use Rattle.dist_epmd_clients.specs.declared.counts.Counts.{Counts}
+use Rattle.distmapd.specs.declared.metrics.TheConstants.{REGISTRATIONS, CLIENTS, ANSWERS_OWED, REGISTERED, ENDED, REFUSED, LOOKED_UP, LISTED}
+use Rattle.distmapd.specs.declared.metrics.TheConstants.{UNANSWERED, MADE_ROOM, LATE, NO_MEMORY, MISSED}
 
 -- ---- figures
 
--- a figure: its name, its kind, and its value; a counter only rises, a gauge may also fall
+-- a figure: its name, its kind, what it counts, and its value; a counter only rises, a gauge may also fall
 abbrev pub Figure : Type 0
-Figure = List ℕ × List ℕ × ℕ
+Figure = List ℕ × List ℕ × List ℕ × ℕ
+
+-- the lines with the kind and the value of a figure
+unfoldable pub value_text : List ℕ → List ℕ → ℕ → List ℕ
+value_text name kind value =
+    codes "# TYPE " ++ (name ++ (codes " " ++ (kind ++ (codes "\n" ++ (name ++ (codes " " ++ (decimal value ++ codes "\n")))))))
 
 -- the lines of a figure
 unfoldable pub figure_text : Figure → List ℕ
-figure_text f =
-    codes "# TYPE " ++ (f.0 ++ (codes " " ++ (f.1 ++ (codes "\n" ++ (f.0 ++ (codes " " ++ (decimal f.2 ++ codes "\n")))))))
+figure_text f = codes "# HELP " ++ (f.0 ++ (codes " " ++ (f.2 ++ (codes "\n" ++ value_text f.0 f.1 f.3))))
 
 -- the figures of a port mapper that counted these, has so many clients, which have not left, and owes so many answers to clients that
 -- have left
 abbrev pub figures : Counts → ℕ → ℕ → List Figure
 figures c clients owed =
-    (codes "distmapd_registrations", codes "gauge", c.registered - c.ended)
-    ∷ (codes "distmapd_clients", codes "gauge", clients)
-    ∷ (codes "distmapd_answers_owed", codes "gauge", owed)
-    ∷ (codes "distmapd_registrations_total", codes "counter", c.registered)
-    ∷ (codes "distmapd_registrations_ended_total", codes "counter", c.ended)
-    ∷ (codes "distmapd_registrations_refused_total", codes "counter", c.refused)
-    ∷ (codes "distmapd_lookups_total", codes "counter", c.looked_up)
-    ∷ (codes "distmapd_listings_total", codes "counter", c.listed)
-    ∷ (codes "distmapd_unanswered_total", codes "counter", c.unanswered)
-    ∷ (codes "distmapd_clients_made_room_total", codes "counter", c.made_room)
-    ∷ (codes "distmapd_clients_late_total", codes "counter", c.late)
-    ∷ (codes "distmapd_clients_no_memory_total", codes "counter", c.no_memory)
-    ∷ (codes "distmapd_events_missed_total", codes "counter", c.missed)
+    (codes "distmapd_registrations", codes "gauge", REGISTRATIONS.now, c.registered - c.ended)
+    ∷ (codes "distmapd_clients", codes "gauge", CLIENTS.now, clients)
+    ∷ (codes "distmapd_answers_owed", codes "gauge", ANSWERS_OWED.now, owed)
+    ∷ (codes "distmapd_registrations_total", codes "counter", REGISTERED.now, c.registered)
+    ∷ (codes "distmapd_registrations_ended_total", codes "counter", ENDED.now, c.ended)
+    ∷ (codes "distmapd_registrations_refused_total", codes "counter", REFUSED.now, c.refused)
+    ∷ (codes "distmapd_lookups_total", codes "counter", LOOKED_UP.now, c.looked_up)
+    ∷ (codes "distmapd_listings_total", codes "counter", LISTED.now, c.listed)
+    ∷ (codes "distmapd_unanswered_total", codes "counter", UNANSWERED.now, c.unanswered)
+    ∷ (codes "distmapd_clients_made_room_total", codes "counter", MADE_ROOM.now, c.made_room)
+    ∷ (codes "distmapd_clients_late_total", codes "counter", LATE.now, c.late)
+    ∷ (codes "distmapd_clients_no_memory_total", codes "counter", NO_MEMORY.now, c.no_memory)
+    ∷ (codes "distmapd_events_missed_total", codes "counter", MISSED.now, c.missed)
     ∷ []
 
 -- ALL FIGURES, one after the other

@@ -1,6 +1,9 @@
 -- What the command line of `distmapd` asks for: options of epmd (ERTS Reference Manual, epmd), and some of our own.
-use Rattle.std.specs.Prelude.{ℕ, true, false, ◌&&◌, ◌==◌, List, [], ◌∷◌, Option, Some, None, Result, Ok, Err, codes, nat_lt, nat_le, if◌then◌else◌}
-use Rattle.std.specs.{Cmp.Lexicographic.pointwise, Str.Parse.digits_value}
+use Rattle.std.specs.Prelude.{◌≡◌, ◌⊎◌, ◌<◌, ℕ, true, false, ◌&&◌, ◌==◌, List, [], ◌∷◌, Option, Some, None, Result, Ok, Err, codes, nat_lt}
+use Rattle.std.specs.Prelude.{nat_le, if◌then◌else◌}
+use Rattle.std.specs.{Cmp.Lexicographic.pointwise, Net.Grammar.IsSocketText, Net.Socket.socket_ip, Net.Socket.socket_port, Str.Parse.digits_value}
+use Rattle.std.specs.declared.net.socket_addr.SocketAddr.{SocketAddr}
+use Rattle.std.specs.declared.net.ip_addr.IpAddr.TheVariants as Ip
 use Rattle.std.proofs.Common.{Bor}
 use Rattle.dist_names.specs.Digits.{is_numeral}
 use Rattle.distmapd.specs.declared.key.Key.TheVariants.{Takes, Does, Systemd, Quiet, NotDone}
@@ -41,6 +44,23 @@ abbrev pub handed_over : Option (Bor (List ℕ)) → Option ℕ
 handed_over None = Some 1
 handed_over (Some word) = number_of 16 word.now
 
+-- THE PLACE that a value of `-metrics` writes: a port of 127.0.0.1, or an IP address and a port that is not 0
+abbrev pub IsPlace : List ℕ → SocketAddr → Type 0
+IsPlace word place =
+    ((number_of 65535 word ≡ Some (socket_port place)) × (socket_ip place ≡ Ip.V4 (record { octets = 127 ∷ 0 ∷ 0 ∷ 1 ∷ [] })))
+    ⊎ (IsSocketText word place × (0 < socket_port place))
+
+-- WHAT `-metrics` MEANS: nothing where it is not given, and else the place that its value writes
+abbrev pub MeansPlace : Option (Bor (List ℕ)) → Option SocketAddr → Type 0
+MeansPlace None found = found ≡ None
+MeansPlace (Some word) None = ⊥
+MeansPlace (Some word) (Some place) = IsPlace word.now place
+
+-- its value writes no place
+abbrev pub WritesNoPlace : Option (Bor (List ℕ)) → Type 0
+WritesNoPlace None = ⊥
+WritesNoPlace (Some word) = (place : SocketAddr) → ¬ (IsPlace word.now place)
+
 unfoldable pub form_named : List ℕ → Option LogForm
 form_named word = if pointwise ◌==◌ word (codes "text") then Some form.Text else (if pointwise ◌==◌ word (codes "json") then Some form.Json else None)
 
@@ -79,7 +99,7 @@ after_value s value.Addresses word = reading_of (record s { addresses = Some wor
 after_value s value.Seconds word = with_value (number_of 4294967295 word.now) error.BadTimeout (λ n. record s { seconds = n })
 after_value s value.Clients word = with_value (number_of 4294967295 word.now) error.BadClients (λ n. record s { clients = n })
 after_value s value.Log word = with_value (form_named word.now) error.BadLog (λ f. record s { log = Some f })
-after_value s value.Metrics word = with_value (number_of 65535 word.now) error.BadMetrics (λ n. record s { metrics = Some n })
+after_value s value.Metrics word = reading_of (record s { metrics = Some word }) None
 
 -- the state after a word, by what that word should be
 abbrev pub after_word : Settings → Option (AwaitedValue × Word) → Word → Read

@@ -22,8 +22,8 @@ pub enum Fault {
     /// It can't listen: the port is taken, an address is not this host's, or no listening socket was handed over to it.
     #[error("ListenFailed: the port is taken, an address is not of this host, or no socket that listens was handed over to it")]
     ListenFailed,
-    /// It can't listen at the port of the figures.
-    #[error("MetricsFailed: it can't listen at that port of 127.0.0.1")]
+    /// It can't listen at the place of the figures.
+    #[error("MetricsFailed: the port of -metrics is taken, or the address is not of this host")]
     MetricsFailed,
     /// The system doesn't report what is ready.
     #[error("ServeFailed")]

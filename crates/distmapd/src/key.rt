@@ -18,7 +18,7 @@ pub enum AwaitedValue {
     Clients,
     /// The form of the log.
     Log,
-    /// The port at which the figures are served.
+    /// The place at which the figures are served.
     Metrics,
 }
 

@@ -1,170 +1,146 @@
-//! The lines of the log, in both forms. What a client sent is escaped in both.
+//! The lines of the log: what each says of an event.
 
-ghost use Rattle.std.specs.{Prelude.◌≡◌, Prelude.◌++◌, Prelude.IfOk, Prelude.codes, String.string_bytes};
-ghost use Rattle.distmapd.specs.Lines.{event_line, left_out_line, line, name_front, name_part, port_part, refused_words, silence, spelling};
+ghost use Rattle.std.specs.{Prelude.◌≡◌, Prelude.IfOk, Prelude.codes, Prelude.map, String.string_bytes};
+ghost use Rattle.distmapd.specs.{Lines.client, Lines.event_line, Lines.left_out_line, Lines.reason, Members.Shown, Members.member_of};
 
-use crate::json::json_string;
+use crate::members::{LineMember, LineValue, line};
 use crate::settings::LogForm;
 use dist_epmd_clients::ClientEvent;
-use dist_names::quote;
 use std::alloc::{AllocError, Global};
+use std::collections::BTreeMap;
+use std::net::IpAddr;
 
-// The most bytes of a name that are shown. No registered name is longer.
-const SHOWN: usize = 255;
-
-impl LogForm {
-    // The one of two texts that a line in this form has.
-    fn spelling(self, text: &'static str, json: &'static str) -> &'static str
-        ensures { result.now ≡ spelling self text.now json.now }
-    {
-        match self {
-            LogForm::Text => text,
-            LogForm::Json => json,
-        }
-    }
+/// What the lines of a round have in common.
+#[derive(Clone, Copy)]
+pub struct Round<'a> {
+    /// The second since the start.
+    pub second: u64,
+    /// The time of day, as text.
+    pub time: &'a str,
+    /// The addresses of clients, by the numbers of their connections.
+    pub addresses: &'a BTreeMap<u64, IpAddr>,
 }
 
-// A line: its word, a number after its key, and the rest.
-#[tactic(auto, unfolding(crate::specs::Lines::line))]
-fn line(
-    alloc: Global,
+/// Why a registration was refused: a node of its name is registered, or not.
+pub const TAKEN: &str = "a node of this name is registered";
+
+pub const NOT_TAKEN: &str = "no name that may be registered, or no room";
+
+/// Why a client was not answered: on this host, or on another.
+pub const UNSERVED: &str = "it asked for nothing that is served";
+
+pub const UNSERVED_THERE: &str = "from another host it asked for nothing that is served there";
+
+// The port of a node.
+fn port_member(port: u16) -> LineMember<'static>
+    ensures { member_of result ≡ (codes "port", Shown.number port) }
+{
+    ("port", LineValue::Number(u64::from(port)))
+}
+
+// Why something was refused: a sentence for people, the condition for programs.
+fn reason(
     form: LogForm,
-    word: &str,
-    key: &str,
-    number: u64,
-    more: &str,
-) -> Result<String, AllocError>
-    ensures { IfOk result (λ text. string_bytes text ≡ line form word.now key.now number more.now) }
+    key: &'static str,
+    holds: bool,
+    if_so: &'static str,
+    if_not: &'static str,
+) -> LineMember<'static>
+    ensures { member_of result ≡ reason form key.now holds if_so.now if_not.now }
 {
-    match form {
-        LogForm::Text => format!(in alloc; "distmapd: {word} {key}={number}{more}\n"),
-        LogForm::Json => {
-            format!(in alloc; "{{\"event\":\"{word}\",\"{key}\":{number}{more}}}\n")
-        }
+    match (form, holds) {
+        (LogForm::Text, true) => ("why", LineValue::Text(if_so)),
+        (LogForm::Text, false) => ("why", LineValue::Text(if_not)),
+        (LogForm::Json, _) => (key, LineValue::Bool(holds)),
     }
 }
 
-// The part of a name that is shown.
-fn name_front(name: &[u8]) -> &[u8]
-    ensures { result.now ≡ name_front name.now }
+// The members that each event of a client has: its connection and its address.
+fn client(round: &Round<'_>, conn: u64) -> [LineMember<'static>; 2]
+    ensures { map member_of result ≡ client round.now conn }
 {
-    if name.len() < SHOWN {
-        name
-    } else {
-        &name[..SHOWN]
-    }
-}
-
-// The part of a line that shows a name.
-#[tactic(auto, unfolding(crate::specs::Lines::name_part))]
-fn name_part(alloc: Global, form: LogForm, name: &[u8]) -> Result<String, AllocError>
-    ensures { IfOk result (λ text. string_bytes text ≡ name_part form name.now) }
-{
-    let front = name_front(name);
-    match form {
-        LogForm::Text => {
-            let quoted = quote(alloc, front)?;
-            format!(in alloc; " name={quoted}")
-        }
-        LogForm::Json => {
-            let string = json_string(alloc, front)?;
-            format!(in alloc; ",\"name\":{string}")
-        }
-    }
-}
-
-// The part of a line that shows a port.
-#[tactic(auto, unfolding(crate::specs::Lines::port_part))]
-fn port_part(alloc: Global, form: LogForm, port: u16) -> Result<String, AllocError>
-    ensures { IfOk result (λ text. string_bytes text ≡ port_part form port) }
-{
-    let key = form.spelling(" port=", ",\"port\":");
-    format!(in alloc; "{key}{port}")
-}
-
-// Why a registration was refused.
-fn refused_words(form: LogForm, is_taken: bool) -> &'static str
-    ensures { result.now ≡ refused_words form is_taken }
-{
-    match (form, is_taken) {
-        (LogForm::Text, true) => " why=\"a node of this name is registered\"",
-        (LogForm::Text, false) => " why=\"no name that may be registered, or no room\"",
-        (LogForm::Json, true) => ",\"taken\":true",
-        (LogForm::Json, false) => ",\"taken\":false",
-    }
-}
-
-// Why a client was not answered.
-fn silence(form: LogForm, is_local: bool) -> &'static str
-    ensures { result.now ≡ silence form is_local }
-{
-    match (form, is_local) {
-        (LogForm::Text, true) => " why=\"it asked for nothing that is served\"",
-        (LogForm::Text, false) => {
-            " why=\"from another host it asked for nothing that is served there\""
-        }
-        (LogForm::Json, true) => ",\"local\":true",
-        (LogForm::Json, false) => ",\"local\":false",
-    }
-}
-
-// A line with a connection, a name, and the rest.
-fn named_line(
-    alloc: Global,
-    form: LogForm,
-    word: &str,
-    conn: u64,
-    name: &[u8],
-    more: &str,
-) -> Result<String, AllocError>
-    ensures { IfOk result (λ text. string_bytes text ≡ line form word.now (codes "connection") conn (name_part form name.now ++ more.now)) }
-{
-    let mut parts = name_part(alloc, form, name)?;
-    parts.push_str(more)?;
-    line(alloc, form, word, "connection", conn, &parts)
+    let host = round.addresses.get(&conn).copied();
+    [
+        ("connection", LineValue::Number(conn)),
+        ("address", LineValue::Host(host)),
+    ]
 }
 
 /// The line of an event; empty if the event has none.
-pub fn event_line(alloc: Global, form: LogForm, event: &ClientEvent) -> Result<String, AllocError>
-    ensures { IfOk result (λ text. string_bytes text ≡ event_line form event.now) }
+pub fn event_line(
+    alloc: Global,
+    form: LogForm,
+    round: &Round<'_>,
+    event: &ClientEvent,
+) -> Result<String, AllocError>
+    ensures { IfOk result (λ text. string_bytes text ≡ event_line form round.now event.now) }
 {
+    let time = round.time;
     match event {
         ClientEvent::Registered { conn, name, port } => {
-            let port = port_part(alloc, form, *port)?;
-            named_line(alloc, form, "registered", *conn, name.as_slice(), &port)
+            let more = [("name", LineValue::Name(name)), port_member(*port)];
+            line(
+                alloc,
+                form,
+                time,
+                "registered",
+                &client(round, *conn),
+                &more,
+            )
         }
         ClientEvent::Ended { conn, name } => {
-            named_line(alloc, form, "ended", *conn, name.as_slice(), "")
+            let more = [("name", LineValue::Name(name))];
+            line(alloc, form, time, "ended", &client(round, *conn), &more)
         }
         ClientEvent::Refused {
             conn,
             name,
             is_taken,
         } => {
-            let why = refused_words(form, *is_taken);
-            named_line(alloc, form, "refused", *conn, name.as_slice(), why)
+            let why = reason(form, "taken", *is_taken, TAKEN, NOT_TAKEN);
+            let more = [("name", LineValue::Name(name)), why];
+            line(alloc, form, time, "refused", &client(round, *conn), &more)
         }
         ClientEvent::Unanswered { conn, is_local } => {
-            let why = silence(form, *is_local);
-            line(alloc, form, "unanswered", "connection", *conn, why)
+            let why = reason(form, "local", *is_local, UNSERVED, UNSERVED_THERE);
+            line(
+                alloc,
+                form,
+                time,
+                "unanswered",
+                &client(round, *conn),
+                &[why],
+            )
         }
         ClientEvent::MadeRoom { conn } => {
-            let word = form.spelling("made room", "made_room");
-            line(alloc, form, word, "connection", *conn, "")
+            line(alloc, form, time, "made_room", &client(round, *conn), &[])
         }
-        ClientEvent::Late { count } => line(alloc, form, "late", "connections", *count, ""),
         ClientEvent::NoMemory { conn } => {
-            let word = form.spelling("no memory", "no_memory");
-            line(alloc, form, word, "connection", *conn, "")
+            line(alloc, form, time, "no_memory", &client(round, *conn), &[])
+        }
+        ClientEvent::Late { count } => {
+            line(
+                alloc,
+                form,
+                time,
+                "late",
+                &[("connections", LineValue::Number(*count))],
+                &[],
+            )
         }
         ClientEvent::LookedUp | ClientEvent::Listed => Ok(String::new(alloc)),
     }
 }
 
 /// The line that says how many lines were left out.
-pub fn left_out_line(alloc: Global, form: LogForm, count: u64) -> Result<String, AllocError>
-    ensures { IfOk result (λ text. string_bytes text ≡ left_out_line form count) }
+pub fn left_out_line(
+    alloc: Global,
+    form: LogForm,
+    round: &Round<'_>,
+    count: u64,
+) -> Result<String, AllocError>
+    ensures { IfOk result (λ text. string_bytes text ≡ left_out_line form round.now count) }
 {
-    let word = form.spelling("left out", "left_out");
-    line(alloc, form, word, "lines", count, "")
+    let lines = [("lines", LineValue::Number(count))];
+    line(alloc, form, round.time, "left_out", &lines, &[])
 }

@@ -5,7 +5,7 @@ ghost use Rattle.dist_epmd_clients.specs.Reporting.{counts_of, events_of};
 ghost use Rattle.distmapd.specs.Logging.{LogsEvent, LogsEvents, LogsRound, Puts, PutsFor, ReportsLeftOut};
 ghost use Rattle.distmapd.specs.Rates.{new_rates};
 
-use crate::lines::{event_line, left_out_line};
+use crate::lines::{Round, event_line, left_out_line};
 use crate::rates::Rates;
 use crate::settings::LogForm;
 use dist_epmd_clients::{ClientEvent, Clients};
@@ -62,12 +62,19 @@ impl Log {
     }
 
     // Writes the line of an event, if its kind may have one more line in this second.
-    fn write_event<W: Write>(&mut self, alloc: Global, out: &mut W, event: &ClientEvent, now: u64)
-        ensures logs { LogsEvent self.old.form now event.now self.old.rates self.new.rates (W.contents out.old) (W.contents out.new) }
+    fn write_event<W: Write>(
+        &mut self,
+        alloc: Global,
+        out: &mut W,
+        round: &Round<'_>,
+        event: &ClientEvent,
+    )
+        ensures logs { LogsEvent self.old.form round.now event.now self.old.rates self.new.rates (W.contents out.old) (W.contents out.new) }
         ensures form { self.new.form ≡ self.old.form }
     {
+        let now = round.second;
         if self.rates.admit(event, now) {
-            let line = event_line(alloc, self.form, event);
+            let line = event_line(alloc, self.form, round, event);
             self.put_for(out, 1, line, now);
         } else {
             self.rates.leave_out(1, now);
@@ -75,41 +82,48 @@ impl Log {
     }
 
     // Writes the lines of events.
-    fn write_all<W: Write>(&mut self, alloc: Global, out: &mut W, events: &[ClientEvent], now: u64)
-        ensures logs { LogsEvents self.old.form now events.now self.old.rates self.new.rates (W.contents out.old) (W.contents out.new) }
+    fn write_all<W: Write>(
+        &mut self,
+        alloc: Global,
+        out: &mut W,
+        round: &Round<'_>,
+        events: &[ClientEvent],
+    )
+        ensures logs { LogsEvents self.old.form round.now events.now self.old.rates self.new.rates (W.contents out.old) (W.contents out.new) }
         ensures form { self.new.form ≡ self.old.form }
     {
         for event in events {
-            self.write_event(alloc, out, event, now);
+            self.write_event(alloc, out, round, event);
         }
     }
 
     // Writes how many lines were left out, once the second of the last one is over.
-    fn write_left_out<W: Write>(&mut self, alloc: Global, out: &mut W, now: u64)
-        ensures reports { ReportsLeftOut self.old.form now self.old.rates self.new.rates (W.contents out.old) (W.contents out.new) }
+    fn write_left_out<W: Write>(&mut self, alloc: Global, out: &mut W, round: &Round<'_>)
+        ensures reports { ReportsLeftOut self.old.form round.now self.old.rates self.new.rates (W.contents out.old) (W.contents out.new) }
         ensures form { self.new.form ≡ self.old.form }
     {
-        let count = self.rates.take_left_out(now);
+        let count = self.rates.take_left_out(round.second);
         if count > 0 {
-            let line = left_out_line(alloc, self.form, count);
-            self.put_for(out, count, line, now);
+            let line = left_out_line(alloc, self.form, round, count);
+            self.put_for(out, count, line, round.second);
         }
     }
 
-    /// Writes the events since the last call of `forget_events`, in this second.
+    /// Writes the events since the last call of `forget_events`.
     pub fn write_events<S: Drop, W: Write>(
         &mut self,
         alloc: Global,
         out: &mut W,
+        round: &Round<'_>,
         clients: &Clients<S>,
-        now: u64,
     )
-        ensures logs { LogsRound self.old.form now (counts_of clients.now).missed (events_of clients.now)
+        ensures logs { LogsRound self.old.form round.now (counts_of clients.now).missed (events_of clients.now)
             self.old.rates self.new.rates (W.contents out.old) (W.contents out.new) }
         ensures form { self.new.form ≡ self.old.form }
     {
-        self.write_left_out(alloc, out, now);
-        self.rates.leave_out_missed(clients.counts().missed, now);
-        self.write_all(alloc, out, clients.events(), now);
+        self.write_left_out(alloc, out, round);
+        self.rates
+            .leave_out_missed(clients.counts().missed, round.second);
+        self.write_all(alloc, out, round, clients.events());
     }
 }

@@ -1,15 +1,18 @@
 //! A port mapper for Erlang nodes, in place of `epmd`: it stays in the foreground, and serves all clients at once.
 #![tactic(auto)]
 
-ghost use Rattle.std.specs.Prelude.{◌≤◌};
+ghost use Rattle.std.specs.Prelude.{◌≡◌, ◌≢◌, ◌≤◌, IfErr, IfOk};
+ghost use Rattle.distmapd.specs.{declared.fault.Fault.TheVariants.NoMemory, Words.MeansPlace, Words.WritesNoPlace};
 
+mod addresses;
 mod answer;
 mod fault;
-mod json;
 mod key;
 mod lines;
 mod log;
+mod members;
 mod metrics;
+mod moment;
 mod monitor;
 mod names;
 mod notice;
@@ -24,14 +27,16 @@ mod sockets;
 mod spares;
 mod standard_error;
 
+use crate::addresses::ClientAddresses;
 use crate::fault::Fault;
 use crate::log::Log;
+use crate::moment::{TimeOfDay, now_seconds};
 use crate::monitor::Monitor;
 use crate::names::print_names;
 use crate::notice::say_ready;
 use crate::output::print;
-use crate::reading::settings_of;
-use crate::refusal::BadWord;
+use crate::reading::{metrics_place, settings_of};
+use crate::refusal::{BadWord, WordError};
 use crate::serving::{Beside, serve};
 use crate::settings::{Settings, Task};
 use crate::sockets::{handed_over, listeners, port_of};
@@ -42,15 +47,15 @@ use dist_program::{mapper_port, report, texts, variable, words_of};
 use mio::net::TcpListener;
 use std::alloc::{AllocError, Global};
 use std::io::{self, Write};
-use std::net::Net;
+use std::net::{Net, SocketAddr};
 use std::process::ExitCode;
 use std::sync::Wait;
-use std::time::{Clock, Duration, SystemTime, UNIX_EPOCH};
+use std::time::Clock;
 
 /// How the program is called.
 const HELP: &str =
     "usage: distmapd [-port N] [-address A,B] [-packet_timeout S] [-max_clients N] [-systemd]
-                [-log text|json] [-quiet] [-metrics PORT]
+                [-log text|json] [-quiet] [-metrics [ADDRESS:]PORT]
        distmapd -names [-port N]
        distmapd --help | --version
 
@@ -65,7 +70,7 @@ A port mapper for Erlang nodes, in place of epmd. It stays in the foreground.
   -systemd           the sockets are handed over, LISTEN_FDS of them from descriptor 3 on
   -log text|json     in which form it says on standard error what happens (text)
   -quiet             it says nothing of that
-  -metrics PORT      serves its figures to Prometheus at this port of 127.0.0.1
+  -metrics PORT      serves its figures to Prometheus at this port of 127.0.0.1; ADDRESS:PORT at another address
   -names             prints the names that the port mapper of this host knows
   --help, -help      prints this
   --version          prints the version
@@ -97,11 +102,12 @@ fn perform<R: Net + Wait + Clock, W: Write>(
     let port = mapper_port(rt)?;
     let addresses = variable(rt, "ERL_EPMD_ADDRESS")?;
     let settings = settings_in(rt.alloc(), &words, port, addresses.as_deref())?;
+    let metrics = metrics_in(rt.alloc(), settings.metrics)?;
     match settings.task {
         Task::Help => print(out, HELP),
         Task::Version => print(out, VERSION),
         Task::Names => print_names(rt, rt.alloc(), settings.port, out),
-        Task::Serve => run(rt, host, &settings),
+        Task::Serve => run(rt, host, &settings, metrics),
     }
 }
 
@@ -118,6 +124,23 @@ fn settings_in<'a>(
     }
 }
 
+// The place that the value of `-metrics` writes, if there is one.
+fn metrics_in(alloc: Global, word: Option<&str>) -> Result<Option<SocketAddr>, Fault>
+    ensures ok { IfOk result (MeansPlace word.entry) }
+    ensures err { IfErr result (λ fault. fault ≢ NoMemory → WritesNoPlace word.entry) }
+{
+    let Some(word) = word else {
+        return Ok(None);
+    };
+    match metrics_place(word) {
+        Some(place) => Ok(Some(place)),
+        None => {
+            let why = WordError::BadMetrics;
+            Err(Fault::BadWords(sentence(alloc, BadWord { word, why })?))
+        }
+    }
+}
+
 // The sentence that refuses the words, with the bad one in it.
 fn sentence(alloc: Global, bad: BadWord<'_>) -> Result<String, AllocError> {
     let quoted = quote(alloc, bad.word.as_bytes())?;
@@ -130,9 +153,7 @@ fn sentence(alloc: Global, bad: BadWord<'_>) -> Result<String, AllocError> {
 fn first_creation<R: Clock>(rt: &R) -> u32
     ensures { 4 ≤ result }
 {
-    let now = SystemTime::now(rt).unwrap_or(UNIX_EPOCH);
-    let since = now.duration_since(UNIX_EPOCH).unwrap_or(Duration::ZERO);
-    u32::try_from(since.as_secs())
+    u32::try_from(now_seconds(rt))
         .unwrap_or(0)
         .max(LEAST_CREATION)
 }
@@ -147,12 +168,16 @@ fn sockets_handed_over(rt: &HostRuntime, settings: &Settings<'_>) -> Result<u16,
     handed_over(said.as_deref(), process.as_deref(), libc::getpid()).ok_or(Fault::ListenFailed)
 }
 
-// The port at which the figures are served, if they are.
-fn monitor_at<R: Net>(net: &R, alloc: Global, port: Option<u16>) -> Result<Option<Monitor>, Fault> {
-    let Some(port) = port else {
+// The monitor at this place, if there is one.
+fn monitor_at<R: Net>(
+    net: &R,
+    alloc: Global,
+    place: Option<SocketAddr>,
+) -> Result<Option<Monitor>, Fault> {
+    let Some(place) = place else {
         return Ok(None);
     };
-    match Monitor::new(net, alloc, port) {
+    match Monitor::new(net, alloc, place) {
         Ok(monitor) => Ok(Some(monitor)),
         Err(_) => Err(Fault::MetricsFailed),
     }
@@ -190,13 +215,16 @@ fn run<R: Net + Wait + Clock>(
     rt: &HostRuntime,
     host: &R,
     settings: &Settings<'_>,
+    metrics: Option<SocketAddr>,
 ) -> Result<(), Fault> {
     let alloc = rt.alloc();
     let sockets = listeners(host, alloc, settings, sockets_handed_over(rt, settings)?)?;
     let port = port_of(&sockets).ok_or(Fault::ListenFailed)?;
     let mut beside = Beside {
         log: settings.log.map(|form| Log::new(form)),
-        monitor: monitor_at(host, alloc, settings.metrics)?,
+        addresses: ClientAddresses::new(alloc),
+        moment: TimeOfDay::new(alloc),
+        monitor: monitor_at(host, alloc, metrics)?,
         standard_error: StandardError::open(),
     };
     match server_at(host, alloc, settings, sockets, port) {

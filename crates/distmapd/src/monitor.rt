@@ -12,7 +12,7 @@ use mio::net::TcpListener;
 use mio::{Events, Token};
 use std::alloc::{AllocError, Global};
 use std::io::{self, ErrorKind};
-use std::net::{self, IpAddr, Ipv4Addr, Net, SocketAddr};
+use std::net::{self, Net, SocketAddr};
 use std::os::fd::AsRawFd;
 
 // The most monitoring clients at once: a later one takes the place of the oldest. Our own choice.
@@ -99,10 +99,9 @@ pub struct Monitor {
 }
 
 impl Monitor {
-    /// Listens at a port of the loopback. An error is the system's, for example if the port is taken.
-    pub fn new(net: &impl Net, alloc: Global, port: u16) -> io::Result<Monitor> {
-        let address = SocketAddr::new(IpAddr::V4(Ipv4Addr::LOCALHOST), port);
-        let listener = TcpListener::bind(net, address)?;
+    /// Listens at this place. An error is the system's, for example if the port is taken.
+    pub fn new(net: &impl Net, alloc: Global, place: SocketAddr) -> io::Result<Monitor> {
+        let listener = TcpListener::bind(net, place)?;
         let mut spares = Spares::new(alloc, listener.as_raw_fd());
         spares.hold(SEATS + 1);
         Ok(Monitor {

@@ -2,13 +2,16 @@
 //!
 //! It does not read the environment, and does not parse addresses: they stay a text.
 
-ghost use Rattle.std.specs.{Prelude.◌≡◌, Prelude.◌<◌, Prelude.◌≤◌, Prelude.IfSome, Prelude.SomeIff, Str.Parse.IsNumeral, Str.Parse.digits_value};
-ghost use Rattle.distmapd.specs.Words.{after_key, after_value, after_word, all_keys, at_word, form_named, key_in, number_of, reading_of, settings_of};
+ghost use Rattle.std.specs.{Prelude.◌≡◌, Prelude.◌<◌, Prelude.◌≤◌, Prelude.IfSome, Prelude.SomeIff, Prelude.MatchOption};
+ghost use Rattle.std.specs.{Str.Parse.IsNumeral, Str.Parse.digits_value};
+ghost use Rattle.std.specs.declared.net.socket_addr.SocketAddr.{SocketAddr};
+ghost use Rattle.distmapd.specs.Words.{IsPlace, after_key, after_value, after_word, all_keys, at_word, form_named, key_in, number_of, reading_of, settings_of};
 
 use crate::key::{AwaitedValue, KEYS, Key, key_in};
 use crate::refusal::{BadWord, WordError};
 use crate::settings::{LogForm, Settings, Task};
 use dist_names::number_32;
+use std::net::{IpAddr, Ipv4Addr, SocketAddr};
 
 /// After how many seconds a client is closed that has not asked. Source: ERTS Reference Manual, epmd.
 const SECONDS: u32 = 60;
@@ -52,6 +55,21 @@ pub fn number_of(word: &str, most: u32) -> Option<u32>
     ensures bound { IfSome result (λ n. n ≤ most) }
 {
     number_up_to(word.as_bytes(), most)
+}
+
+/// The place that a value of `-metrics` writes: a port of 127.0.0.1, or an IP address and a port. `None` if it writes none.
+#[tactic(auto, using(crate::proofs::Places::no_place))]
+pub fn metrics_place(word: &str) -> Option<SocketAddr>
+    ensures { MatchOption result ((place : SocketAddr) → ¬ (IsPlace word.now place)) (IsPlace word.now) }
+{
+    match number_of(word, 65535) {
+        Some(port) => Some(SocketAddr::new(IpAddr::V4(Ipv4Addr::LOCALHOST), port as u16)),
+        None => match word.parse::<SocketAddr>() {
+            Ok(place) if place.port() == 0 => None,
+            Ok(place) => Some(place),
+            Err(_) => None,
+        },
+    }
 }
 
 // The form of the log with this name.
@@ -104,9 +122,7 @@ impl<'a> Settings<'a> {
                 self.clients = number_of(word, u32::MAX).ok_or(WordError::BadClients)?;
             }
             AwaitedValue::Log => self.log = Some(form_of(word).ok_or(WordError::BadLog)?),
-            AwaitedValue::Metrics => {
-                self.metrics = Some(number_of(word, 65535).ok_or(WordError::BadMetrics)? as u16);
-            }
+            AwaitedValue::Metrics => self.metrics = Some(word),
         }
         reading_of(self, None)
     }

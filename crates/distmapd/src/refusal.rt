@@ -23,8 +23,8 @@ pub enum WordError {
     /// The log has no such form.
     #[error("-log wants text or json")]
     BadLog,
-    /// The port of the figures is not a number from 1 to 65,535.
-    #[error("-metrics wants a port number from 1 to 65535")]
+    /// The place of the figures is neither a port from 1 to 65,535 nor an IP address and such a port.
+    #[error("-metrics wants a port number from 1 to 65535, or an IP address and one, as 10.0.0.1:9100 or [::1]:9100")]
     BadMetrics,
     /// It is the last word, and an option.
     #[error("the last word wants a value behind it")]

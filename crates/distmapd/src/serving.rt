@@ -1,6 +1,9 @@
 //! The loop: the port mapper, and beside it its log and the monitoring port.
 
+use crate::addresses::ClientAddresses;
+use crate::lines::Round;
 use crate::log::Log;
+use crate::moment::TimeOfDay;
 use crate::monitor::Monitor;
 use crate::standard_error::StandardError;
 use dist_epmd_server::{EVENTS, ROOM, Server, serve_ready};
@@ -21,8 +24,26 @@ const MOST_EVENTS: usize = 8192;
 #[derive(Drop)]
 pub struct Beside {
     pub log: Option<Log>,
+    pub addresses: ClientAddresses,
+    pub moment: TimeOfDay,
     pub monitor: Option<Monitor>,
     pub standard_error: StandardError,
+}
+
+// Logs what happened in a round, in this second.
+fn log_round<R: Clock>(rt: &R, alloc: Global, server: &mut Server, beside: &mut Beside, now: u64) {
+    let Some(log) = &mut beside.log else {
+        return;
+    };
+    beside.addresses.note(server.clients(), now);
+    let round = Round {
+        second: now,
+        time: beside.moment.stamp(rt, alloc),
+        addresses: beside.addresses.table(),
+    };
+    log.write_events(alloc, &mut beside.standard_error, &round, server.clients());
+    server.forget_events();
+    beside.addresses.forget(server.clients());
 }
 
 /// Serves until the system fails to report what is ready, and returns its error.
@@ -50,10 +71,7 @@ pub fn serve<R: Wait + Clock>(
             monitor.serve(server, &events, &mut room, now);
         }
         server.sweep(now);
-        if let Some(log) = &mut beside.log {
-            log.write_events(alloc, &mut beside.standard_error, server.clients(), now);
-            server.forget_events();
-        }
+        log_round(rt, alloc, server, beside, now);
     }
     Ok(())
 }

@@ -39,6 +39,6 @@ pub struct Settings<'a> {
     pub systemd: bool,
     /// The form of the log. `None`: no log.
     pub log: Option<LogForm>,
-    /// The port of the loopback at which the figures are served. `None`: they are not.
-    pub metrics: Option<u16>,
+    /// The place at which the figures are served, as it was written. `None`: they are not.
+    pub metrics: Option<&'a str>,
 }

@@ -6,5 +6,5 @@ use Rattle.distmapd.proofs.metrics.text_of.Given as goal
 
 abbrev pub invariant-loop-figure : goal.invariant-loop-figure
 invariant-loop-figure l =
-    string_bytes l.text ++ flat_map figure_text (map (λ f. (f.0.now, f.1.now, f.2)) (drop l.figure-index l.figures))
-    ≡ flat_map figure_text (map (λ f. (f.0.now, f.1.now, f.2)) l.figures)
+    string_bytes l.text ++ flat_map figure_text (map (λ f. (f.0.now, f.1.now, f.2.now, f.3)) (drop l.figure-index l.figures))
+    ≡ flat_map figure_text (map (λ f. (f.0.now, f.1.now, f.2.now, f.3)) l.figures)

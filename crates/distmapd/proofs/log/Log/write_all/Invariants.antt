@@ -6,7 +6,7 @@ use Rattle.distmapd.proofs.log.Log.write_all.Given as goal
 abbrev pub invariant-loop-event : goal.invariant-loop-event
 invariant-loop-event g l = record {
   logs : (new : Rates) (after : Option (List ℕ)) →
-      LogsEvents l.self.form l.now (drop l.event-index l.events) l.self.rates new (g.W.Write.contents l.out) after →
-      LogsEvents l.fn.self.form l.now l.events l.fn.self.rates new (g.W.Write.contents l.fn.out) after;
+      LogsEvents l.self.form l.round (drop l.event-index l.events) l.self.rates new (g.W.Write.contents l.out) after →
+      LogsEvents l.fn.self.form l.round l.events l.fn.self.rates new (g.W.Write.contents l.fn.out) after;
   form : l.self.form ≡ l.fn.self.form;
 }
