@@ -7,8 +7,8 @@
  *
  * It prints a line when a peer comes up or goes down, sends a tick after each TICK seconds (a quarter of net_ticktime), and
  * ends after SECONDS. Hosts are names or addresses, IPv4 or IPv6; each address of PEER's host is tried. It listens at ::1 where its
- * own host is an IPv6 address, else at 127.0.0.1. The port mapper is at ERL_EPMD_PORT, 4369 if unset. What Erlang's processes say to
- * it is dropped. */
+ * own host is an IPv6 address, else at 127.0.0.1. The port mapper is at ERL_EPMD_PORT, 4369 if unset. It answers net_adm:ping; all
+ * else that Erlang's processes say to it is dropped. */
 #define _POSIX_C_SOURCE 200809L
 #include <distnode.h>
 
@@ -24,7 +24,7 @@
 #include <time.h>
 #include <unistd.h>
 
-enum { MOST_LINKS = 64, ROOM = 65540, SAY = 1024, COOKIE = 4097, FORGET_EACH = 65536 };
+enum { MOST_LINKS = 64, ROOM = 65540, SAY = 1024, COOKIE = 4097, FORGET_EACH = 65536, PING = 2048 };
 
 /* A connection that carries one end of the node. */
 struct link {
@@ -193,7 +193,47 @@ static void dropped(struct link *it, size_t n) {
     memmove(it->bytes, it->bytes + n, it->held);
 }
 
-/* Takes what is held: frames of the handshake, then packets, of which one without bytes is a tick and is answered by one. */
+/* Some bytes of a packet. */
+struct piece { const void *bytes; size_t n; };
+
+#define TEXT(text) {text, sizeof text - 1}
+
+/* Whether these bytes are those pieces, one after the other. */
+static int are_pieces(const uint8_t *bytes, size_t n, const struct piece *piece, size_t count) {
+    for (; count; bytes += piece->n, n -= piece->n, piece++, count--)
+        if (n < piece->n || memcmp(bytes, piece->bytes, piece->n)) return 0;
+    return !n;
+}
+
+/* Writes a packet of these pieces, behind its length. */
+static void write_packet(struct link *it, const struct piece *piece, size_t count) {
+    uint8_t packet[PING] = {0};
+    size_t n = 4;
+    for (; count; n += piece->n, piece++, count--) memcpy(packet + n, piece->bytes, piece->n);
+    packet[2] = (uint8_t)((n - 4) >> 8), packet[3] = (uint8_t)(n - 4);
+    if (write_all(it->fd, packet, n)) lose(it, DN_WHY_WRITE_FAILED);
+}
+
+/* Answers the n bytes of a packet that are held, at most PING, if it is that of net_adm:ping: {6, Pid, Unused, net_kernel} (REG_SEND), and
+ * {'$gen_call', {Pid, Tag}, {is_auth, Node}}. Node is that of Pid and of Tag, which is a reference, or [alias | Reference]. The answer is
+ * {2, Unused, Pid} (SEND), and {Tag, yes}. Each term has one form under the flags below (ERTS User's Guide, External Term Format). In a
+ * shorter packet a length is read behind its end, but within the buffer, and the pieces are then more than its n bytes. */
+static void answer_ping(struct link *it, size_t n) {
+    static const char call[] = "w\0w\12net_kernel\203h\3w\11$gen_callh\2", alias[] = "l\0\0\0\1w\5alias";
+    const uint8_t *pid = it->bytes + 6, *node = pid + 1;
+    size_t node_n = 2u + node[1], pid_n = 1 + node_n + 12;
+    const uint8_t *tag = pid + pid_n + sizeof call - 1 + pid_n;
+    size_t alias_n = memcmp(tag, alias, sizeof alias - 1) ? 0 : sizeof alias - 1;
+    const uint8_t *words = tag + alias_n + 2;
+    size_t numbers_n = 4 + 4u * *words, tag_n = alias_n + 3 + node_n + numbers_n;
+    const struct piece asked[] = {TEXT("p\203h\4a\6"), TEXT("Xw"), {pid + 2, pid_n - 2}, TEXT(call), {pid, pid_n}, {alias, alias_n}, TEXT("Z\0"),
+        {words, 1}, {node, node_n}, {words + 1 + node_n, numbers_n}, TEXT("h\2w\7is_auth"), {node, node_n}};
+    const struct piece answer[] = {TEXT("p\203h\3a\2w\0"), {pid, pid_n}, TEXT("\203h\2"), {tag, tag_n}, TEXT("w\3yes")};
+    if (are_pieces(it->bytes, n, asked, sizeof asked / sizeof *asked)) write_packet(it, answer, sizeof answer / sizeof *answer);
+}
+
+/* Takes what is held: frames of the handshake, then packets, of which one without bytes is a tick and is answered by one. A packet of
+ * at most PING bytes is looked at once it is whole. */
 static void take(struct link *it) {
     while (it->fd >= 0 && !it->up) {
         dn_reply reply;
@@ -208,8 +248,10 @@ static void take(struct link *it) {
         dropped(it, n), it->skip -= (uint32_t)n;
         if (it->skip || it->held < 4) return;
         uint32_t size = (uint32_t)it->bytes[0] << 24 | it->bytes[1] << 16 | it->bytes[2] << 8 | it->bytes[3];
+        if (size <= PING && it->held - 4 < size) return;
         dropped(it, 4), it->skip = size;
         if (!size) tick(it);
+        else if (size <= PING) answer_ping(it, size);
     }
 }
 

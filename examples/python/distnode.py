@@ -1,7 +1,8 @@
 """The handshake of Erlang's distribution protocol, by ctypes over libdistnode: a class for a node, one for the registry of a
 port mapper (EPMD), and functions for its messages. There are no sockets in here: join.py and mapper.py are whole programs.
 
-The library is the one that the environment's DISTNODE_LIBRARY names, else the installed libdistnode.so.
+The library is the one that the environment's DISTNODE_LIBRARY names, else the installed libdistnode.so. Left out: dn_node_guarded_body, for
+hosts that show their peers to others; dn_node_peer_at, since `peers` goes through all; dn_code_name and dn_why_name, which Code and Why have.
 """
 
 import ctypes as c

@@ -7,12 +7,13 @@ which `ps` shows to everybody. A file that others than its owner can reach is re
 
 It prints a line when a peer comes up or goes down, and ends after so many seconds, or when it is interrupted. Hosts are names or
 addresses, IPv4 or IPv6; each address of the peer's host is tried. It listens at ::1 where its own host is an IPv6 address, else at
-127.0.0.1. The port mapper (`epmd`) is the one at ERL_EPMD_PORT, 4369 if unset. What Erlang's processes say to it is counted and
-dropped.
+127.0.0.1. The port mapper (`epmd`) is the one at ERL_EPMD_PORT, 4369 if unset. It answers `net_adm:ping`; whatever else Erlang's
+processes say to it is counted and dropped.
 """
 
 import argparse
 import os
+import re
 import selectors
 import socket
 import struct
@@ -25,6 +26,16 @@ HIDDEN_FLAGS = 0x403070F94  # as an Erlang node of OTP 25 announces them, but fo
 EPMD_PORT = int(os.environ.get("ERL_EPMD_PORT", "4369"))
 MOST_OPEN = 512  # ends at one time: a process has 1,024 descriptors by custom
 FORGET_EACH = 65_536  # ends: so often what was kept of those that are closed is given back
+
+# The packet of `net_adm:ping`: {6, Pid, Unused, net_kernel} (REG_SEND), and {'$gen_call', {Pid, Tag}, {is_auth, Node}}. Node is that of Pid and
+# of Tag, which is a reference, or [alias | Reference]. Each term has one form under the flags above (ERTS User's Guide, External Term Format).
+PING = re.compile(
+    rb"p\x83h\x04a\x06(?P<pid>X(?P<node>w.{4,256}).{12})w\x00w\x0anet_kernel"
+    rb"\x83h\x03w\x09\$gen_callh\x02(?P=pid)"
+    rb"(?P<tag>(l\x00\x00\x00\x01w\x05alias)?Z\x00(\x03(?P=node).{16}|\x04(?P=node).{20}|\x05(?P=node).{24}))"
+    rb"h\x02w\x07is_auth(?P=node)",
+    re.DOTALL,
+)
 
 
 def addresses_of(host: str) -> list[str]:
@@ -63,6 +74,15 @@ def listen_at(host: str) -> socket.socket:
     if ":" in host:
         return socket.create_server(("::1", 0), family=socket.AF_INET6)
     return socket.create_server(("127.0.0.1", 0))
+
+
+def answer_to(packet: bytes) -> bytes:
+    """The packet that answers this one, behind its length, where it is that of `net_adm:ping`: {2, Unused, Pid} (SEND), and {Tag, yes}."""
+    asked = PING.fullmatch(packet)
+    if not asked:
+        return b""
+    answer = b"p\x83h\3a\2w\0" + asked["pid"] + b"\x83h\2" + asked["tag"] + b"w\3yes"
+    return struct.pack(">I", len(answer)) + answer
 
 
 class Link:
@@ -161,9 +181,11 @@ class Joined:
             link.held = link.held[reply.taken :]
             self.said(link, reply)
         while len(link.held) >= 4 and len(link.held) >= 4 + (size := struct.unpack(">I", link.held[:4])[0]):
-            link.held = link.held[4 + size :]
+            packet, link.held = link.held[4 : 4 + size], link.held[4 + size :]
             if size:
                 link.messages += 1
+                if answer := answer_to(packet):
+                    link.stream.sendall(answer)
             elif link.end in self.links:  # a tick is answered by one
                 self.said(link, self.node.tick(link.end))
 

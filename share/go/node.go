@@ -3,6 +3,8 @@
 //
 // There are no sockets, no clock and no random numbers in here: the caller owns them, reports what happened, and does what the reply says.
 // cmd/join is a whole program; docs/C_LIBRARY.md of the sources has the order of calls.
+//
+// Left out: dn_node_guarded_body, for hosts that show their peers to others, and dn_node_peer_at, since Peers goes through all.
 package distnode
 
 // #cgo pkg-config: distnode

@@ -107,6 +107,7 @@ fn join_address(
         record,
         packets: Packets::behind_handshake(alloc, MOST_OF_PACKET, rest),
         ticker: Ticker::new(u32::from(wanted.net_ticktime) * 250, 0),
+        alloc,
     })
 }
 

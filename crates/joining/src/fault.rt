@@ -4,7 +4,7 @@ ghost use Rattle.std.specs.Prelude.{◌≡◌};
 ghost use Rattle.joining.specs.Faults.{fault_status};
 
 use dist_program::{CookieFault, HostError, WordFault};
-use distribution::{Awaited, LookupError, StepError, TurnError, Why};
+use distribution::{Awaited, LookupError, PacketError, StepError, TurnError, Why};
 use std::alloc::AllocError;
 use std::{fmt, io};
 
@@ -177,6 +177,16 @@ impl From<TurnError> for Fault {
             TurnError::WriteFailed => Why::WriteFailed,
             TurnError::Limit => Why::GaveUp,
         })
+    }
+}
+
+// (a packet that arrives, or one that is written)
+impl From<PacketError> for Fault {
+    fn from(error: PacketError) -> Fault {
+        match error {
+            PacketError::TooLong(_) => Fault::LongPacket,
+            PacketError::NoMemory => Fault::NoMemory,
+        }
     }
 }
 

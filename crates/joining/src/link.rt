@@ -1,8 +1,13 @@
-//! The link, once it is up: hands on what arrives, sends a tick if nothing was sent for a while, and gives up a silent peer.
+//! The link, once it is up: hands on what arrives, answers `net_adm:ping`, sends a tick if nothing was sent for a while, and gives up a
+//! silent peer.
 
 use crate::fault::Fault;
+use crate::ping::{answer_to, question_in};
 use crossbeam_channel::{SendTimeoutError, Sender};
-use distribution::{Due, Limited, PacketError, Packets, SocketStream, Ticker, UpRecord, Why, tick};
+use distribution::{
+    Due, Limited, Packets, SocketStream, Ticker, UpRecord, Why, tick, write_packet,
+};
+use std::alloc::Global;
 use std::sync::Wait;
 use std::sync::atomic::{AtomicBool, Ordering};
 use std::time::{Clock, Duration, Instant};
@@ -38,21 +43,45 @@ pub struct Link {
     pub packets: Packets,
     /// When a tick is due, in milliseconds since the link is kept.
     pub ticker: Ticker,
+    /// Where the memory of an answer comes from.
+    pub alloc: Global,
 }
 
 impl Link {
     // The length of the next packet, once it is whole.
     fn next_len(&self) -> Result<Option<usize>, Fault> {
-        match self.packets.front() {
-            Ok(Some(packet)) => Ok(Some(packet.len())),
-            Ok(None) => Ok(None),
-            Err(PacketError::TooLong(_)) => Err(Fault::LongPacket),
-            Err(PacketError::NoMemory) => Err(Fault::NoMemory),
+        match self.packets.front()? {
+            Some(packet) => Ok(Some(packet.len())),
+            None => Ok(None),
         }
     }
 
-    // Hands on the length of the next packet, if there is room for it within this time. While nothing is read, the peer does not count
-    // as silent. (A bounded channel needs no memory, so any other error is that nobody prints.)
+    // Sends these bytes, in ten writes at most.
+    fn send<R: Clock>(&mut self, with: &Keeping<'_, R>, bytes: &[u8]) -> Result<(), Fault> {
+        let mut limited = Limited {
+            stream: &mut self.stream,
+            left: 10,
+        };
+        limited.write_all(bytes)?;
+        self.ticker.note_write(with.now()?);
+        Ok(())
+    }
+
+    // Answers the next packet, if it is that of `net_adm:ping`.
+    fn answer_ping<R: Clock>(&mut self, with: &Keeping<'_, R>) -> Result<(), Fault> {
+        let Some(packet) = self.packets.front()? else {
+            return Ok(());
+        };
+        let Some(question) = question_in(packet) else {
+            return Ok(());
+        };
+        let answer = answer_to(self.alloc, &question)?;
+        let packet = write_packet(self.alloc, answer.as_slice())?;
+        self.send(with, packet.as_slice())
+    }
+
+    // Hands on the length of the next packet, and answers it, if there is room for the length within this time. While nothing is read,
+    // the peer does not count as silent. (A bounded channel needs no memory, so any other error is that nobody prints.)
     fn hand_on<R: Wait + Clock>(
         &mut self,
         with: &Keeping<'_, R>,
@@ -60,7 +89,10 @@ impl Link {
         wait: Duration,
     ) -> Result<bool, Fault> {
         match with.lengths.send_timeout(with.rt, len, wait) {
-            Ok(()) => self.packets.drop_front(),
+            Ok(()) => {
+                self.answer_ping(with)?;
+                self.packets.drop_front();
+            }
             Err(SendTimeoutError::Timeout(_)) if !with.ended.load(Ordering::SeqCst) => {}
             Err(_) => return Ok(false),
         }
@@ -88,14 +120,9 @@ impl Link {
         Ok(true)
     }
 
-    // Sends a tick, in ten writes at most.
+    // Sends a tick.
     fn send_tick<R: Clock>(&mut self, with: &Keeping<'_, R>) -> Result<bool, Fault> {
-        let mut limited = Limited {
-            stream: &mut self.stream,
-            left: 10,
-        };
-        limited.write_all(&tick())?;
-        self.ticker.note_write(with.now()?);
+        self.send(with, &tick())?;
         Ok(true)
     }
 

@@ -1,8 +1,8 @@
-//! The program: joins a live Erlang node as a hidden node, keeps the link until its input ends, prints each packet that arrives, and
-//! leaves.
+//! The program: joins a live Erlang node as a hidden node, keeps the link until its input ends, prints each packet that arrives, answers
+//! `net_adm:ping`, and leaves.
 //!
 //! It is the example of docs/LIBRARY.md. What it builds on is proved; of the program itself it is proved that it is safe and always
-//! terminates.
+//! terminates, and which packets ask for an answer, and with which one (`ping`).
 #![tactic(auto)]
 
 mod command;
@@ -10,6 +10,7 @@ mod dialling;
 mod fault;
 mod handshake;
 mod link;
+mod ping;
 mod printing;
 
 use command::{Invocation, JoinRequest, request_of};

@@ -5,8 +5,8 @@
 //
 // It prints a line when a peer comes up and when it goes down, and ends after so many seconds, or with the link to PEER. The
 // cookie is that of DISTNODE_COOKIE in the environment, else of $HOME/.erlang.cookie. The port mapper is the one at
-// ERL_EPMD_PORT, 4369 if unset. What Erlang's processes say to it is dropped. Each connection has a goroutine, and they use the
-// node in turn.
+// ERL_EPMD_PORT, 4369 if unset. It answers net_adm:ping; all else that Erlang's processes say to it is dropped. Each connection
+// has a goroutine, and they use the node in turn.
 package main
 
 import (
@@ -256,24 +256,55 @@ func (l *link) comeUp() (distnode.Peer, error) {
 	}
 }
 
-// dropPackets drops what is whole of the packets that came, and returns whether a tick was among them.
-func (l *link) dropPackets() (isTick bool) {
-	for len(l.held) >= 4 {
+// answerTo returns the answer to a packet, behind its length, if it is that of net_adm:ping: {6, Pid, Unused, net_kernel} (REG_SEND), and
+// {'$gen_call', {Pid, Tag}, {is_auth, Node}}. Node is that of Pid and of Tag, which is a reference, or [alias | Reference]. The answer
+// is {2, Unused, Pid} (SEND), and {Tag, yes}. Each term has one form under the flags above (ERTS User's Guide, External Term Format).
+func answerTo(packet string) []byte {
+	const call, isAuth = "w\x00w\x0anet_kernel\x83h\x03w\x09$gen_callh\x02", "h\x02w\x07is_auth"
+	if len(packet) < 9 || packet[:8] != "p\x83h\x04a\x06Xw" {
+		return nil
+	}
+	nodeLen := 2 + int(packet[8])
+	pidLen := 1 + nodeLen + 12
+	from, to := 6+pidLen+len(call)+pidLen, len(packet)-len(isAuth)-nodeLen
+	if to < from {
+		return nil
+	}
+	pid, node, tag := packet[6:6+pidLen], packet[7:7+nodeLen], packet[from:to]
+	reference := strings.TrimPrefix(tag, "l\x00\x00\x00\x01w\x05alias")
+	if len(reference) < 3 || len(reference) != 3+nodeLen+4+4*int(reference[2]) {
+		return nil
+	}
+	isReference := strings.HasPrefix(reference, "Z\x00"+reference[2:3]+node)
+	if !isReference || packet != packet[:6]+pid+call+pid+tag+isAuth+node {
+		return nil
+	}
+	answer := "p\x83h\x03a\x02w\x00" + pid + "\x83h\x02" + tag + "w\x03yes"
+	return append(binary.BigEndian.AppendUint32(nil, uint32(len(answer))), answer...)
+}
+
+// takePackets drops what is whole of the packets that came, answers those of net_adm:ping, and returns whether a tick was among them.
+func (l *link) takePackets() (isTick bool, err error) {
+	for len(l.held) >= 4 && err == nil {
 		size := int(binary.BigEndian.Uint32(l.held))
 		if len(l.held) < 4+size {
 			break
 		}
+		if answer := answerTo(string(l.held[4 : 4+size])); answer != nil {
+			_, err = l.Write(answer)
+		}
 		l.held = l.held[4+size:]
 		isTick = isTick || size == 0
 	}
-	return isTick
+	return isTick, err
 }
 
 // keep keeps the link until it ends or the time is over.
 func (l *link) keep(until time.Time) distnode.Why {
 	due := time.Now().Add(tick)
 	for time.Now().Before(until) {
-		if err := l.SetDeadline(time.Now().Add(100 * time.Millisecond)); err != nil {
+		now := time.Now()
+		if l.SetReadDeadline(now.Add(100*time.Millisecond)) != nil || l.SetWriteDeadline(now.Add(patience)) != nil {
 			return distnode.ReadFailed
 		}
 		err := l.read()
@@ -283,13 +314,14 @@ func (l *link) keep(until time.Time) distnode.Why {
 		if err != nil && !errors.Is(err, os.ErrDeadlineExceeded) {
 			return distnode.ReadFailed
 		}
+		isTick, err := l.takePackets()
 		// (a tick is answered by one)
-		if l.dropPackets() || !time.Now().Before(due) {
+		if err == nil && (isTick || !time.Now().Before(due)) {
 			due = time.Now().Add(tick)
 			_, err = l.step(func(node *distnode.Node) (distnode.Reply, error) { return node.Tick(l.end) })
-			if err != nil {
-				return distnode.WriteFailed
-			}
+		}
+		if err != nil {
+			return distnode.WriteFailed
 		}
 	}
 	return distnode.GaveUp

@@ -4,8 +4,8 @@
 //!
 //! It prints a line when a peer comes up and when it goes down, and ends after so many seconds, or with the link to PEER. The
 //! cookie is that of DISTNODE_COOKIE in the environment, else of $HOME/.erlang.cookie. The port mapper is the one at
-//! ERL_EPMD_PORT, 4369 if unset. What Erlang's processes say to it is dropped. Each connection has a thread, and the threads
-//! use the node in turn.
+//! ERL_EPMD_PORT, 4369 if unset. It answers `net_adm:ping`; all else that Erlang's processes say to it is dropped. Each connection
+//! has a thread, and the threads use the node in turn.
 
 use distnode::{
     alive_answer, alive_request, port_answer, port_request, End, Info, Node, Peer, Phase, Refused,
@@ -90,6 +90,27 @@ fn connect_to(peer: &str, mapper: u16) -> Outcome<TcpStream> {
     asked.read_to_end(&mut answer)?;
     let info = port_answer(&answer)?.ok_or("the port mapper knows no such node")?;
     connect(host, info.port)
+}
+
+/// The answer to a packet, if it is that of `net_adm:ping`: `{6, Pid, Unused, net_kernel}` (REG_SEND), and `{'$gen_call', {Pid, Tag},
+/// {is_auth, Node}}`. `Node` is that of `Pid` and of `Tag`, which is a reference, or `[alias | Reference]`. The answer is
+/// `{2, Unused, Pid}` (SEND), and `{Tag, yes}`. Each term has one form under the flags above (ERTS User's Guide, External Term Format).
+fn answer_to(packet: &[u8]) -> Option<Vec<u8>> {
+    let front = packet.strip_prefix(b"p\x83h\x04a\x06")?;
+    let pid = front.get(..15 + usize::from(*front.get(2)?))?;
+    let node = pid.strip_prefix(b"X")?.split_at(pid.len() - 13).0;
+    let call = b"w\0w\x0anet_kernel\x83h\x03w\x09$gen_callh\x02";
+    let behind = front[pid.len()..].strip_prefix(call)?.strip_prefix(pid)?;
+    let tag = behind
+        .strip_suffix(node)?
+        .strip_suffix(b"h\x02w\x07is_auth")?;
+    let reference = tag.strip_prefix(b"l\0\0\0\x01w\x05alias").unwrap_or(tag);
+    let [b'Z', 0, words, rest @ ..] = reference else {
+        return None;
+    };
+    let numbers = rest.strip_prefix(node)?;
+    let is_whole = node[0] == b'w' && numbers.len() == 4 + 4 * usize::from(*words);
+    is_whole.then(|| [b"p\x83h\x03a\x02w\0", pid, b"\x83h\x02", tag, b"w\x03yes"].concat())
 }
 
 /// What the threads use in turn: the node, and the connections that carry its ends.
@@ -211,18 +232,22 @@ impl Link {
         }
     }
 
-    /// Drops what is whole of the packets that came, and returns whether a tick was among them.
-    fn drop_packets(&mut self) -> bool {
+    /// Drops what is whole of the packets that came, answers those of `net_adm:ping`, and returns whether a tick was among them.
+    fn take_packets(&mut self) -> std::io::Result<bool> {
         let mut is_tick = false;
         while let Some(head) = self.held.first_chunk::<4>() {
             let size = u32::from_be_bytes(*head) as usize;
             if self.held.len() < 4 + size {
                 break;
             }
+            if let Some(answer) = answer_to(&self.held[4..4 + size]) {
+                let head = (answer.len() as u32).to_be_bytes();
+                (&*self.stream).write_all(&[&head, &answer[..]].concat())?;
+            }
             self.held.drain(..4 + size);
             is_tick |= size == 0;
         }
-        is_tick
+        Ok(is_tick)
     }
 
     fn tick(&self) -> Outcome<()> {
@@ -243,8 +268,11 @@ impl Link {
                     if matches!(error.kind(), ErrorKind::WouldBlock | ErrorKind::TimedOut) => {}
                 Err(_) => return Ok(Why::ReadFailed),
             }
+            let Ok(is_tick) = self.take_packets() else {
+                return Ok(Why::WriteFailed);
+            };
             // (a tick is answered by one)
-            if self.drop_packets() || due <= Instant::now() {
+            if is_tick || due <= Instant::now() {
                 due = Instant::now() + TICK;
                 if self.tick().is_err() {
                     return Ok(Why::WriteFailed);
