@@ -1,13 +1,15 @@
 -- One frame that is read where what comes may not be a frame at all.
-use Rattle.std.specs.Prelude.{◌≡◌, ℕ, ◌+◌, ◌<◌, ◌⊎◌, Bool, true, false, ◌==◌, List, [], ◌∷◌, ◌++◌, length, IfErr, OnOk, Option, Some, None, Result, Ok, Err}
+use Rattle.std.specs.Prelude.{◌≡◌, ℕ, ◌+◌, ◌^◌, ◌<◌, ◌⊎◌, Bool, true, false, ◌==◌, List, [], ◌∷◌, ◌++◌, length}
+use Rattle.std.specs.Prelude.{IfErr, OnOk, Option, Some, None, Result, Ok, Err}
 use Rattle.std.specs.{List.list_any, Int.w16}
 use Rattle.dist_names.specs.Bytes.{number}
-use Rattle.dist_frames.specs.Stream.{body_frame}
+use Rattle.dist_frames.specs.Stream.{body_frame, first_body}
 use Rattle.dist_messages.specs.declared.message.Side.{Side, TheVariants.Dialler, TheVariants.Acceptor}
 use Rattle.dist_stream.specs.{Stream.StreamState, Turns.Hears, declared.turn_error.TurnError.TurnError}
 use Rattle.dist_epmd_calls.specs.Serving.{IsInside}
-use Rattle.dist_talk.specs.declared.bodies.Came.{Came}
+use Rattle.dist_talk.specs.declared.bodies.{Came.Came, NextBody.NextBody}
 use Rattle.dist_talk.specs.declared.bodies.Came.TheVariants as came
+use Rattle.dist_talk.specs.declared.bodies.NextBody.TheVariants as next
 
 -- the tags of a side's messages: name in both forms, status, complement, reply; status, challenge in both forms, acknowledgement
 abbrev pub tags_of : Side → List ℕ
@@ -50,6 +52,18 @@ pub record HearsAs (old new : StreamState) (turns left : ℕ) (stop : Option Tur
 -- nothing was written.
 abbrev pub HearsFrameOf : StreamState → StreamState → ℕ → ℕ → List ℕ → Came → Type 0
 HearsFrameOf old new turns left tags c = HearsAs old new turns left (stop_of c) (IsCameOf tags c)
+
+-- These bytes begin with a length that counts for nothing: it is not 0, and the byte behind it is none of these tags.
+abbrev pub BeginsForeign : List ℕ → ℕ → List ℕ → Type 0
+BeginsForeign tags len bytes =
+    (first : ℕ) × (more : List ℕ)
+    × (bytes ≡ number w16 len ++ first ∷ more) × (0 < len) × (len < 2 ^ 16) × (is_one_of tags first ≡ false)
+
+-- WHAT STANDS FIRST in these bytes of a side: a whole frame, of this body; a length that counts for nothing; or neither yet.
+abbrev pub StandsFirst : Side → List ℕ → NextBody → Type 0
+StandsFirst side bytes (next.Whole body) = (first_body w16 bytes ≡ Some body.now) × IsBodyOf (tags_of side) body.now
+StandsFirst side bytes (next.Front len) = BeginsForeign (tags_of side) len bytes
+StandsFirst side bytes next.Open = (first_body w16 bytes ≡ None) × ((len : ℕ) → BeginsForeign (tags_of side) len bytes → ⊥)
 
 -- ---- the inner steps
 

@@ -121,6 +121,11 @@ is_closed (Some e) = is_close e.side e.how
 abbrev pub has_reply : List SentMessage → Bool
 has_reply said = list_any (λ s. is_some (reply_in s.content)) said
 
+-- a side said the last message of its part: a reply, an acknowledgement; packets follow
+abbrev pub is_done : Side → List SentMessage → Bool
+is_done Dialler said = has_reply said
+is_done Acceptor said = has_ack said
+
 -- the beginning is missing, where only a reply that was refused and an acknowledgement say something
 abbrev pub without_beginning : Handshake → HandshakeVerdict
 without_beginning h = if (is_closed h.ending && has_reply h.dialler.items) && (not (has_ack h.acceptor.items) && not h.missing.acceptor)

@@ -2,7 +2,7 @@
 
 ghost use Rattle.std.specs.{Prelude.◌≡◌, Prelude.◌<◌, Prelude.IfErr, Prelude.length, Int.w16};
 ghost use Rattle.dist_names.specs.Bytes.{number};
-ghost use Rattle.dist_talk.specs.Bodies.{Fills, HearsBehind, HearsFrameOf, tags_of};
+ghost use Rattle.dist_talk.specs.Bodies.{Fills, HearsBehind, HearsFrameOf, StandsFirst, tags_of};
 
 use dist_frames::first_body;
 use dist_messages::Side;
@@ -124,10 +124,12 @@ pub enum NextBody<'a> {
 }
 
 /// What stands first in these bytes of a side, by the same rule: a length counts only before one of the side's tags.
-pub fn next_body(side: Side, bytes: &[u8]) -> NextBody<'_> {
+pub fn next_body(side: Side, bytes: &[u8]) -> NextBody<'_>
+    ensures { StandsFirst side bytes.now result }
+{
     match bytes {
         [high, low, tag, ..] if !tags_of(side).contains(tag) && (*high, *low) != (0, 0) => {
-            NextBody::Front(u16::from_be_bytes([*high, *low]))
+            NextBody::Front(header_length([*high, *low]))
         }
         _ => match first_body(bytes) {
             Some(body) => NextBody::Whole(body),

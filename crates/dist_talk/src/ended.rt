@@ -1,8 +1,10 @@
 //! What a handshake came to, with the way in which it ended.
 
 ghost use Rattle.std.specs.Prelude.{◌≡◌};
-ghost use Rattle.dist_talk.specs.Ended.{closed_verdict, due_verdict, ended_at_once, ended_verdict, has_ack, has_reply, is_closed, is_missing, left_verdict};
+ghost use Rattle.dist_talk.specs.Ended.{closed_verdict, due_verdict, ended_at_once, ended_verdict, has_ack, has_reply, is_closed, is_done, is_missing};
+ghost use Rattle.dist_talk.specs.Ended.{left_verdict};
 ghost use Rattle.dist_talk.specs.Ended.{opener, probe_verdict, reset_verdict, turn_verdict, unfinished_verdict, verdict_of, without_beginning};
+ghost use Rattle.dist_talk.specs.Handshake.{said_by};
 
 use crate::handshake::{Handshake, HandshakeEnd, HowEnded, SentMessage};
 use crate::names::{is_long_and_short, is_probe_name};
@@ -148,6 +150,16 @@ fn has_reply(said: &[SentMessage]) -> bool
 }
 
 impl Handshake {
+    /// Whether a side said the last message of its part: a reply, an acknowledgement. Packets follow.
+    pub fn is_done(&self, side: Side) -> bool
+        ensures { result ≡ is_done side (said_by side self.now) }
+    {
+        match side {
+            Side::Dialler => has_reply(&self.dialler),
+            Side::Acceptor => has_ack(&self.acceptor),
+        }
+    }
+
     // Whether bytes of a side are missing behind what it said.
     fn is_missing(&self, side: Side) -> bool
         ensures { result ≡ is_missing side self.now.missing }

@@ -1,6 +1,6 @@
 //! What both sides of one handshake said, and how it ended.
 
-ghost use Rattle.std.specs.Prelude.{◌≡◌, [], None, OnErr, OnOk, false};
+ghost use Rattle.std.specs.Prelude.{◌≡◌, ◌+◌, [], None, OnErr, OnOk, false, length};
 ghost use Rattle.dist_talk.specs.Handshake.{SameHandshake, Takes, or_first, said_by};
 
 use dist_messages::{Message, Side};
@@ -107,8 +107,10 @@ impl Handshake {
     }
 
     /// How many bodies both sides sent.
-    pub fn len(&self) -> usize {
-        self.dialler.len().saturating_add(self.acceptor.len())
+    pub fn len(&self) -> usize
+        ensures { result ≡ length self.now.dialler.items + length self.now.acceptor.items }
+    {
+        self.dialler.len() + self.acceptor.len()
     }
 
     /// Takes what a side sent, at this time. If memory runs out, the handshake stays as it was.

@@ -311,7 +311,7 @@ impl HandshakeVerdict {
             HandshakeVerdict::Foreign(Side::Dialler, _) =>
                 "find out which program dials (ss -tnp on that host)",
             HandshakeVerdict::Foreign(Side::Acceptor, Service::Tls) =>
-                "dial it from a node with the same -proto_dist and -ssl_dist_optfile",
+                "dial it from a node with the same -proto_dist and -ssl_dist_optfile; distping-tls probes it",
             HandshakeVerdict::Foreign(..) =>
                 "look which program has that port; the registration may be stale",
             HandshakeVerdict::Unexpected(_) => "look which program has that port, and its release",

@@ -1,16 +1,16 @@
 //! What an attempt to connect came to.
 
 ghost use Rattle.std.specs.Prelude.{◌≡◌};
-ghost use Rattle.distping_capture.specs.Attempts.{verdict_on};
+ghost use Rattle.distping_capture.specs.{Attempts.verdict_on, Connections.Stays};
 
-use crate::connection::{CapturedConnection, PATIENCE, other_side};
+use crate::connection::{CapturedConnection, PATIENCE};
 use crate::flow::FlowEnd;
 use crate::traffic::Traffic;
 use dist_epmd_calls::LookupError;
 use dist_messages::{Message, Side};
 use dist_talk::{
     Handshake, HandshakeEnd, HandshakeVerdict, HowEnded, Missing, NextBody, SentContent,
-    SentMessage, Standing, Terms, mapper_verdict, next_body, port_verdict,
+    SentMessage, Standing, Terms, mapper_verdict, next_body, other_side, port_verdict,
 };
 use std::alloc::Global;
 
@@ -87,7 +87,9 @@ impl CapturedConnection {
     }
 
     /// Notes in its handshake what the capture lacks, and how it ended, as it stands at this time, unless that was noted.
-    pub fn conclude(&mut self, terms: &Terms<'_>, now: u64) {
+    pub fn conclude(&mut self, terms: &Terms<'_>, now: u64)
+        ensures { Stays self.old self.new }
+    {
         let Traffic::Handshake(handshake) = &self.content else {
             return;
         };

@@ -1,19 +1,22 @@
 //! One connection of TCP, as far as a capture shows it.
 
+ghost use Rattle.std.specs.Prelude.{◌≡◌, ℕ, List, IsTrue, OnOk};
+ghost use Rattle.distping_capture.specs.Connections.{Finds, Follows, Gathers, GoesOn, Holds, IsFrom, IsLeft, Keeps};
+ghost use Rattle.distping_capture.specs.Connections.{SameEnds, Sent, Stays, Still, Tells, nothing_sent};
+ghost use Rattle.distping_capture.specs.Flows.{Brings, SameBytes};
+
 use crate::flow::{Flow, FlowEnd};
-use crate::traffic::{Look, MapperTalk, Traffic, look_at};
+use crate::messages::read_messages;
+use crate::traffic::{MapperTalk, Shown, Traffic, look_at, shown_by};
 use dist_capture::{Endpoint, Segment};
 use dist_messages::Side;
-use dist_talk::{Handshake, HandshakeVerdict, NextBody, Unreached, content_of, next_body};
+use dist_talk::{Handshake, HandshakeVerdict, Unreached, other_side};
 use std::alloc::{AllocError, Global};
 use std::mem;
 
 /// How long the side whose turn it is may say nothing before it counts as silent, in nanoseconds. A node gives up after 7 seconds
 /// (`net_setuptime`), which it counts from before its connect; so 6. Our own choice.
 pub const PATIENCE: u64 = 6_000_000_000;
-
-// The most messages that are kept of a handshake, which has at most seven. Our own choice.
-const MOST_MESSAGES: usize = 16;
 
 // How long packets that are missing are awaited behind the acknowledgement, in nanoseconds: the capture may have them in another order.
 // Our own choice.
@@ -58,14 +61,6 @@ pub struct CapturedConnection {
     from_acceptor: Flow,
 }
 
-/// The other side.
-pub fn other_side(side: Side) -> Side {
-    match side {
-        Side::Dialler => Side::Acceptor,
-        Side::Acceptor => Side::Dialler,
-    }
-}
-
 // Who dialled: whoever sends the first segment without an acknowledgement, or does not have the port mapper's port; else whoever is seen
 // first.
 fn is_from_dialler(segment: &Segment, mapper_port: u16) -> bool {
@@ -84,7 +79,9 @@ pub fn ends_of(segment: &Segment) -> (Endpoint, Endpoint) {
 
 impl CapturedConnection {
     /// The connection of this segment, which was not taken yet.
-    pub fn new(segment: &Segment, mapper_port: u16) -> CapturedConnection {
+    pub fn new(segment: &Segment, mapper_port: u16) -> CapturedConnection
+        ensures { Holds result nothing_sent }
+    {
         let (dialler, acceptor) = if is_from_dialler(segment, mapper_port) {
             (segment.from, segment.to)
         } else {
@@ -126,15 +123,10 @@ impl CapturedConnection {
         }
     }
 
-    fn flow_mut(&mut self, side: Side) -> &mut Flow {
-        match side {
-            Side::Dialler => &mut self.from_dialler,
-            Side::Acceptor => &mut self.from_acceptor,
-        }
-    }
-
     /// The side that sends this segment.
-    pub fn side_of(&self, segment: &Segment) -> Side {
+    pub fn side_of(&self, segment: &Segment) -> Side
+        ensures { IsFrom self.now segment.now result }
+    {
         if segment.from == self.dialler {
             Side::Dialler
         } else {
@@ -284,7 +276,7 @@ impl CapturedConnection {
     fn is_whole(&self) -> bool {
         match self.handshake() {
             Some(handshake) => {
-                is_done(handshake, Side::Dialler)
+                handshake.is_done(Side::Dialler)
                     && !self.lacks_bytes(Side::Dialler)
                     && !self.lacks_bytes(Side::Acceptor)
             }
@@ -301,7 +293,10 @@ impl CapturedConnection {
     }
 
     /// Reads no more of it.
-    pub fn stop_reading(&mut self) {
+    pub fn stop_reading(&mut self)
+        ensures stays { Stays self.old self.new }
+        ensures content { self.new.content ≡ self.old.content }
+    {
         self.from_dialler.stop_reading();
         self.from_acceptor.stop_reading();
     }
@@ -314,41 +309,43 @@ impl CapturedConnection {
     }
 
     // The side that was taken for the one that dialled is the other one.
-    fn swap_sides(&mut self) {
+    fn swap_sides(&mut self)
+        ensures { self.new ≡ record self.old {
+          dialler = self.old.acceptor;
+          acceptor = self.old.dialler;
+          from_dialler = self.old.from_acceptor;
+          from_acceptor = self.old.from_dialler;
+        } }
+    {
         mem::swap(&mut self.dialler, &mut self.acceptor);
         mem::swap(&mut self.from_dialler, &mut self.from_acceptor);
     }
 
     // Finds out what it carries, if enough was captured for that.
-    fn recognize(&mut self, alloc: Global) {
+    fn recognize(&mut self, alloc: Global)
+        ensures { (b : Sent) → self.old.content ≡ Traffic.Unknown → Holds self.old b → Finds self.old self.new b }
+    {
         let looks = (
             look_at(self.from_dialler.bytes()),
             look_at(self.from_acceptor.bytes()),
         );
-        let is_swapped = match looks {
-            (Look::Name, _) => false,
-            (_, Look::Name) if !self.is_certain => true,
-            (Look::Later(Side::Dialler), _) | (Look::Open, Look::Later(Side::Acceptor)) => false,
-            (Look::Later(Side::Acceptor), _) | (Look::Open, Look::Later(Side::Dialler))
-                if !self.is_certain => true,
-            (Look::Open, Look::Open) => return,
-            (Look::Tls, _) => {
-                self.content = Traffic::Tls;
-                return;
+        match shown_by(looks, self.is_certain) {
+            Shown::Nothing => {}
+            Shown::Tls => self.content = Traffic::Tls,
+            Shown::Other => self.content = Traffic::Other,
+            Shown::Handshake(is_swapped) => {
+                if is_swapped {
+                    self.swap_sides();
+                }
+                self.content = Traffic::Handshake(Handshake::new(alloc));
             }
-            _ => {
-                self.content = Traffic::Other;
-                return;
-            }
-        };
-        if is_swapped {
-            self.swap_sides();
         }
-        self.content = Traffic::Handshake(Handshake::new(alloc));
     }
 
-    // Reads the messages of its handshake that are whole.
-    fn read_handshake(&mut self, alloc: Global, at: u64) -> Result<(), AllocError> {
+    // Reads the messages of its handshake that are whole, if it carries one.
+    fn read_handshake(&mut self, alloc: Global, at: u64) -> Result<(), AllocError>
+        ensures { OnOk result (SameEnds self.old self.new × ((b : Sent) → Holds self.old b → Holds self.new b × Tells self.new b)) }
+    {
         if let Traffic::Handshake(handshake) = &mut self.content {
             let flow = &mut self.from_dialler;
             let dialler = read_messages(alloc, handshake, flow, Side::Dialler, at)?;
@@ -359,8 +356,10 @@ impl CapturedConnection {
         Ok(())
     }
 
-    // Reads what is said to a port mapper. Returns whether it answered by that.
-    fn read_mapper(&mut self, alloc: Global) -> Result<bool, AllocError> {
+    // Reads what is said to a port mapper, if it is that. Returns whether it answered by that.
+    fn read_mapper(&mut self, alloc: Global) -> Result<bool, AllocError>
+        ensures { OnOk result (Keeps self.old self.new) }
+    {
         let Traffic::Mapper(talk) = &mut self.content else {
             return Ok(false);
         };
@@ -371,21 +370,26 @@ impl CapturedConnection {
         talk.read_answer(alloc, self.from_acceptor.bytes())
     }
 
+    // Whether no more of it is read: a port mapper answered, or it is neither that nor a handshake.
+    fn is_left(&self) -> bool
+        ensures { IsTrue result → IsLeft self.now.content }
+    {
+        match &self.content {
+            Traffic::Unknown | Traffic::Handshake(_) => false,
+            Traffic::Mapper(talk) => talk.is_done(),
+            Traffic::Unreached(_) | Traffic::Tls | Traffic::Other => true,
+        }
+    }
+
     // Reads what the connection carries. Returns whether a port mapper answered.
-    fn read(&mut self, alloc: Global, at: u64) -> Result<bool, AllocError> {
+    fn read(&mut self, alloc: Global, at: u64) -> Result<bool, AllocError>
+        ensures { OnOk result ((b : Sent) → Holds self.old b → GoesOn self.old self.new b) }
+    {
         if matches!(&self.content, Traffic::Unknown) {
             self.recognize(alloc);
         }
-        let is_done = match &self.content {
-            Traffic::Unknown => false,
-            Traffic::Handshake(_) => {
-                self.read_handshake(alloc, at)?;
-                false
-            }
-            Traffic::Mapper(talk) => talk.is_done(),
-            Traffic::Unreached(_) | Traffic::Tls | Traffic::Other => true,
-        };
-        if is_done {
+        self.read_handshake(alloc, at)?;
+        if self.is_left() {
             self.stop_reading();
             return Ok(false);
         }
@@ -393,7 +397,10 @@ impl CapturedConnection {
     }
 
     // Notes that the connection is dialled, or was made, if a segment shows it.
-    fn note_sign(&mut self, segment: &Segment) {
+    fn note_sign(&mut self, segment: &Segment)
+        ensures { Still self.old self.new }
+    {
+        self.latest = segment.time;
         let is_opening = segment.is_syn && !segment.is_ack;
         if is_opening && self.opening.is_none() {
             self.opening = Some(segment.sequence);
@@ -414,7 +421,9 @@ impl CapturedConnection {
     }
 
     // Notes that a side closed or reset the connection, if a segment says so, and has a number that may.
-    fn note_end(&mut self, side: Side, segment: &Segment) {
+    fn note_end(&mut self, side: Side, segment: &Segment)
+        ensures { Still self.old self.new }
+    {
         if !segment.is_fin && !segment.is_reset {
             return;
         }
@@ -432,70 +441,57 @@ impl CapturedConnection {
         }
     }
 
-    /// Takes a segment of this connection. Returns whether a port mapper answered by it.
-    pub fn take(&mut self, alloc: Global, segment: &Segment) -> Result<bool, AllocError> {
-        let side = self.side_of(segment);
-        self.latest = segment.time;
-        self.note_sign(segment);
-        if !segment.is_reset {
-            self.flow_mut(other_side(side)).take_answer(segment);
+    // Takes a segment of this side, and notes what that acknowledges.
+    fn gather(&mut self, alloc: Global, side: Side, segment: &Segment) -> Result<(), AllocError>
+        ensures { OnOk result (Gathers side self.old segment.now self.new) }
+    {
+        match side {
+            Side::Dialler => gather(
+                alloc,
+                &mut self.from_dialler,
+                &mut self.from_acceptor,
+                segment,
+            ),
+            Side::Acceptor => gather(
+                alloc,
+                &mut self.from_acceptor,
+                &mut self.from_dialler,
+                segment,
+            ),
         }
-        self.flow_mut(side).take(alloc, segment)?;
+    }
+
+    /// Takes a segment of this connection. Returns whether a port mapper answered by it.
+    pub fn take(&mut self, alloc: Global, segment: &Segment) -> Result<bool, AllocError>
+        ensures { OnOk result (Follows self.old segment.now self.new) }
+    {
+        let side = self.side_of(segment);
+        self.note_sign(segment);
+        self.gather(alloc, side, segment)?;
         self.note_end(side, segment);
         self.read(alloc, segment.time)
     }
 }
 
-// Whether a side sent the last message of its part of a handshake: a reply, an acknowledgement. Packets follow.
-fn is_done(handshake: &Handshake, side: Side) -> bool {
-    handshake.messages_of(side).iter().any(|sent| match side {
-        Side::Dialler => sent.content.reply().is_some(),
-        Side::Acceptor => sent.content.ack().is_some(),
-    })
+// Takes a segment of the side that sends this, and notes what that acknowledges of what the other side sends.
+fn gather(
+    alloc: Global,
+    flow: &mut Flow,
+    other: &mut Flow,
+    segment: &Segment,
+) -> Result<(), AllocError>
+    ensures { OnOk result (((piece : List ℕ) × Brings flow.old segment.now piece flow.new) × SameBytes other.old other.new) }
+{
+    if !segment.is_reset {
+        other.take_answer(segment);
+    }
+    flow.take(alloc, segment)
 }
 
 // Notes that a side ended by this segment what it sends, and what it had received.
-fn end_flow(flow: &mut Flow, other: &mut Flow, segment: &Segment) {
+fn end_flow(flow: &mut Flow, other: &mut Flow, segment: &Segment)
+    ensures { SameBytes flow.old flow.new × SameBytes other.old other.new }
+{
     other.take_answer(segment);
     flow.note_end(segment, other);
-}
-
-// Reads the next message of a side, if it is whole. Returns how many bytes its body has.
-fn read_message(
-    alloc: Global,
-    handshake: &mut Handshake,
-    flow: &mut Flow,
-    side: Side,
-    at: u64,
-) -> Result<Option<usize>, AllocError> {
-    if handshake.len() >= MOST_MESSAGES || is_done(handshake, side) {
-        flow.consume(usize::MAX);
-        return Ok(None);
-    }
-    let NextBody::Whole(body) = next_body(side, flow.bytes()) else {
-        return Ok(None);
-    };
-    let length = body.len();
-    let content = content_of(alloc, side, body)?;
-    handshake.take(side, content, at)?;
-    flow.consume(length.saturating_add(2));
-    Ok(Some(length))
-}
-
-// Reads the messages of a side that are whole. Returns how many bytes their bodies have.
-fn read_messages(
-    alloc: Global,
-    handshake: &mut Handshake,
-    flow: &mut Flow,
-    side: Side,
-    at: u64,
-) -> Result<usize, AllocError> {
-    let mut said: usize = 0;
-    for _ in 0..=MOST_MESSAGES {
-        match read_message(alloc, handshake, flow, side, at)? {
-            Some(length) => said = said.saturating_add(length),
-            None => return Ok(said),
-        }
-    }
-    Ok(said)
 }

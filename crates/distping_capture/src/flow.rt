@@ -1,5 +1,8 @@
 //! What one side of a connection sends, by its sequence numbers (RFC 9293, 3.4: they are compared modulo 2^32).
 
+ghost use Rattle.std.specs.Prelude.{◌≡◌, ℕ, List, None, OnOk, true};
+ghost use Rattle.distping_capture.specs.Flows.{Begins, Brings, Delivers, SameBytes, bytes_of, gathered, number_of_first, without_first};
+
 use dist_capture::{Segment, SegmentStream};
 use std::alloc::{AllocError, Global};
 
@@ -65,7 +68,9 @@ fn is_beyond(number: u32, known: Option<u32>) -> bool {
 }
 
 // The number of the first byte of a segment.
-fn first_of(segment: &Segment) -> u32 {
+fn first_of(segment: &Segment) -> u32
+    ensures { result ≡ number_of_first segment.now }
+{
     segment.sequence.wrapping_add(u32::from(segment.is_syn))
 }
 
@@ -75,9 +80,21 @@ fn behind(segment: &Segment) -> u32 {
     first_of(segment).wrapping_add(length as u32)
 }
 
+// Takes the bytes of a segment, unless too many wait to be read. Returns whether they were kept.
+fn gather(stream: &mut SegmentStream, segment: &Segment) -> Result<bool, AllocError>
+    ensures { OnOk result (stream.new ≡ gathered segment.now stream.old) }
+{
+    if stream.ready().len() >= MOST_UNREAD {
+        return Ok(false);
+    }
+    stream.take(first_of(segment), &segment.payload)
+}
+
 impl Flow {
     /// Nothing was sent yet, and the connection's first segment was captured at this time.
-    pub fn new(at: u64) -> Flow {
+    pub fn new(at: u64) -> Flow
+        ensures { (result.stream ≡ None) × (result.is_read ≡ true) }
+    {
         Flow {
             stream: None,
             is_read: true,
@@ -99,7 +116,9 @@ impl Flow {
     }
 
     /// The bytes that follow those that were read, as far as none is missing.
-    pub fn bytes(&self) -> &[u8] {
+    pub fn bytes(&self) -> &[u8]
+        ensures { result.now ≡ bytes_of self.now }
+    {
         match &self.stream {
             Some(stream) => stream.ready(),
             None => b"",
@@ -107,7 +126,9 @@ impl Flow {
     }
 
     /// Takes the first bytes away.
-    pub fn consume(&mut self, count: usize) {
+    pub fn consume(&mut self, count: usize)
+        ensures { self.new ≡ without_first self.old count }
+    {
         if let Some(stream) = &mut self.stream {
             stream.consume(count);
         }
@@ -136,7 +157,9 @@ impl Flow {
     }
 
     // Up to which number the other side received what this one sent.
-    fn note_acknowledged(&mut self, number: u32) {
+    fn note_acknowledged(&mut self, number: u32)
+        ensures { SameBytes self.old self.new }
+    {
         if is_beyond(number, self.acknowledged) {
             self.acknowledged = Some(number);
             self.again = 0;
@@ -153,7 +176,9 @@ impl Flow {
     }
 
     // Notes when bytes came, and whether they were sent before, and not received.
-    fn note_bytes(&mut self, segment: &Segment) {
+    fn note_bytes(&mut self, segment: &Segment)
+        ensures { SameBytes self.old self.new }
+    {
         if segment.payload.is_empty() && segment.missing == 0 {
             return;
         }
@@ -165,22 +190,32 @@ impl Flow {
         }
     }
 
-    // Takes the bytes of a segment.
-    fn feed(&mut self, alloc: Global, segment: &Segment) -> Result<(), AllocError> {
+    // Begins to read its bytes at this segment, unless it did before, or no more of them are read.
+    fn begin(&mut self, alloc: Global, segment: &Segment)
+        ensures { Begins self.old self.new.stream × (self.new.is_read ≡ self.old.is_read) }
+    {
         if self.is_read && self.stream.is_none() {
             let first = self.beginning(segment);
             self.stream = Some(SegmentStream::new(alloc, first, MOST_WAITING));
         }
+    }
+
+    // Takes the bytes of a segment.
+    fn feed(&mut self, alloc: Global, segment: &Segment) -> Result<(), AllocError>
+        ensures { OnOk result ((piece : List ℕ) × Delivers self.old segment.now piece self.new) }
+    {
+        self.begin(alloc, segment);
         if let Some(stream) = &mut self.stream {
-            let has_room = stream.ready().len() < MOST_UNREAD;
-            let is_kept = has_room && stream.take(first_of(segment), &segment.payload)?;
+            let is_kept = gather(stream, segment)?;
             self.has_lost = self.has_lost || !is_kept || segment.missing > 0;
         }
         Ok(())
     }
 
     /// Takes a segment of this side. A reset has no bytes, and a close without bytes may have any number.
-    pub fn take(&mut self, alloc: Global, segment: &Segment) -> Result<(), AllocError> {
+    pub fn take(&mut self, alloc: Global, segment: &Segment) -> Result<(), AllocError>
+        ensures { OnOk result ((piece : List ℕ) × Brings self.old segment.now piece self.new) }
+    {
         if segment.is_reset {
             return Ok(());
         }
@@ -197,7 +232,9 @@ impl Flow {
     }
 
     /// Notes what a segment of the other side acknowledges.
-    pub fn take_answer(&mut self, segment: &Segment) {
+    pub fn take_answer(&mut self, segment: &Segment)
+        ensures { SameBytes self.old self.new }
+    {
         if let Some(number) = segment.acknowledges {
             self.note_acknowledged(number);
         }
@@ -217,7 +254,9 @@ impl Flow {
     }
 
     /// Notes that this side ended the connection by this segment. An end that is behind a gap gives way to one that is not.
-    pub fn note_end(&mut self, segment: &Segment, other: &Flow) {
+    pub fn note_end(&mut self, segment: &Segment, other: &Flow)
+        ensures { SameBytes self.old self.new }
+    {
         if self.known_end().is_none() {
             self.end = Some(FlowEnd {
                 at: segment.time,

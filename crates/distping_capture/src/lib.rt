@@ -9,12 +9,15 @@ mod connection;
 mod dials;
 mod finder;
 mod flow;
+mod laws;
 mod left_out;
 mod lines;
+mod messages;
 mod nodes;
 mod object;
 mod reading;
 mod register;
 mod traffic;
 
+pub use laws::the_bytes_alone;
 pub use reading::read_capture;

@@ -3,7 +3,7 @@
 ghost use Rattle.std.specs.Prelude.{◌≡◌, IfOk};
 ghost use Rattle.distping_capture.specs.Attempts.{verdict_on};
 
-use crate::connection::{CapturedConnection, PATIENCE, other_side};
+use crate::connection::{CapturedConnection, PATIENCE};
 use crate::dials::PastDial;
 use crate::flow::FlowEnd;
 use crate::traffic::{MapperTalk, Traffic, registration_of};
@@ -12,7 +12,9 @@ use dist_epmd_calls::LookupError;
 use dist_frames::first_body;
 use dist_messages::{Message, Side};
 use dist_names::{ByteString, Creation, Flags};
-use dist_talk::{Handshake, HandshakeVerdict, NodeDescription, SentContent, SentMessage, Terms};
+use dist_talk::{
+    Handshake, HandshakeVerdict, NodeDescription, SentContent, SentMessage, Terms, other_side,
+};
 use distping_report::LinePiece::{self, Digits, Escaped, Foreign, Host, Name, Number, Text};
 use distping_report::{LineSink, utc_text};
 use distping_words::Fault;

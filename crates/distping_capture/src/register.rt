@@ -1,8 +1,8 @@
 //! What is printed of connections, and what several of them show together: how often which pair of nodes came to what, restarts, names
 //! that two hosts use, dials that cross, lookups that lead elsewhere, and what leaves a wrong cookie in doubt.
 
-ghost use Rattle.std.specs.Prelude.{◌≡◌, IfOk};
-ghost use Rattle.distping_capture.specs.Exits.{exit_of, first_exit};
+ghost use Rattle.std.specs.Prelude.{◌≡◌, IfOk, OnOk};
+ghost use Rattle.distping_capture.specs.{Connections.Judges, Exits.exit_of, Exits.first_exit};
 
 use crate::connection::CapturedConnection;
 use crate::dials::{PastDial, add, by_pairs};
@@ -173,7 +173,9 @@ impl<'x> Register<'x> {
     }
 
     // Prints an attempt that came up, or whose connection ended, and remembers it.
-    fn put_attempt(&mut self, connection: &mut CapturedConnection) -> Result<(), Fault> {
+    fn put_attempt(&mut self, connection: &mut CapturedConnection) -> Result<(), Fault>
+        ensures { OnOk result (Judges self.old.terms connection.old connection.new) }
+    {
         self.has_found = true;
         connection.conclude(&self.terms, self.time);
         connection.stop_reading();

@@ -204,3 +204,31 @@ pub fn look_at(bytes: &[u8]) -> Look {
         _ => look_later(body),
     }
 }
+
+/// What the first bytes of both sides show.
+pub enum Shown {
+    /// Nothing yet.
+    Nothing,
+    /// A handshake, and whether the side that was taken for the one that dialled is the other one.
+    Handshake(bool),
+    /// TLS, of the side that dialled.
+    Tls,
+    /// Anything else.
+    Other,
+}
+
+/// What it means that the first bytes of the two sides look so; whether it is certain who dialled.
+pub fn shown_by(looks: (Look, Look), is_certain: bool) -> Shown {
+    match looks {
+        (Look::Name, _) => Shown::Handshake(false),
+        (_, Look::Name) if !is_certain => Shown::Handshake(true),
+        (Look::Later(Side::Dialler), _) | (Look::Open, Look::Later(Side::Acceptor)) => {
+            Shown::Handshake(false)
+        }
+        (Look::Later(Side::Acceptor), _) | (Look::Open, Look::Later(Side::Dialler))
+            if !is_certain => Shown::Handshake(true),
+        (Look::Open, Look::Open) => Shown::Nothing,
+        (Look::Tls, _) => Shown::Tls,
+        _ => Shown::Other,
+    }
+}

@@ -1,0 +1,118 @@
+-- WHAT A CONNECTION SAYS, by the bytes that were delivered of its two sides.
+use Rattle.std.specs.Prelude.{◌≡◌, ◌↔◌, ◌⊎◌, ℕ, List, [], ◌++◌, Some}
+use Rattle.dist_capture.specs.declared.segment.Segment.{Segment}
+use Rattle.dist_messages.specs.declared.message.Side.{Side, TheVariants.Dialler, TheVariants.Acceptor}
+use Rattle.dist_talk.specs.{Speaking.other_side, declared.terms.Terms.Terms}
+use Rattle.distping_capture.specs.Attempts.{verdict_on}
+use Rattle.distping_capture.specs.{Delivered.IsRead, Delivered.SaidIn, Flows.Brings, Flows.SameBytes, Flows.bytes_of}
+use Rattle.distping_capture.specs.declared.{connection.CapturedConnection.CapturedConnection, flow.Flow.Flow, traffic.Traffic.Traffic}
+use Rattle.distping_capture.specs.declared.traffic.Traffic.TheVariants as traffic
+
+-- the bytes that were delivered until now of the side that dialled and of the other one
+pub record Sent : Type 0 where
+  pub dialler : List ℕ
+  pub acceptor : List ℕ
+
+-- once a side sent these too
+abbrev pub with_piece : Side → List ℕ → Sent → Sent
+with_piece Dialler piece b = record { dialler = b.dialler ++ piece; acceptor = b.acceptor }
+with_piece Acceptor piece b = record { dialler = b.dialler; acceptor = b.acceptor ++ piece }
+
+-- of neither side anything was delivered
+abbrev pub nothing_sent : Sent
+nothing_sent = record { dialler = []; acceptor = [] }
+
+-- the same where the other side is found to have dialled
+abbrev pub exchanged : Sent → Sent
+exchanged b = record { dialler = b.acceptor; acceptor = b.dialler }
+
+-- what a side sends
+abbrev pub flow_of : Side → CapturedConnection → Flow
+flow_of Dialler c = c.from_dialler
+flow_of Acceptor c = c.from_acceptor
+
+-- These bytes were delivered: until it is known what they are all of them wait; of a handshake both sides are read.
+abbrev pub IsOf : Traffic → Sent → Flow → Flow → Type 0
+IsOf traffic.Unknown b f g = (b.dialler ≡ bytes_of f) × (b.acceptor ≡ bytes_of g)
+IsOf (traffic.Handshake h) b f g = IsRead Dialler b.dialler h f × IsRead Acceptor b.acceptor h g
+IsOf any b f g = Unit {0}
+
+abbrev pub Holds : CapturedConnection → Sent → Type 0
+Holds c b = IsOf c.content b c.from_dialler c.from_acceptor
+
+-- A handshake is what both sides said in these bytes.
+abbrev pub SaidBoth : Traffic → Sent → Type 0
+SaidBoth (traffic.Handshake h) b = SaidIn Dialler b.dialler h × SaidIn Acceptor b.acceptor h
+SaidBoth any b = Unit {0}
+
+-- THE HANDSHAKE OF A CONNECTION, if it carries one, is exactly what both sides said in the bytes that were delivered.
+abbrev pub Tells : CapturedConnection → Sent → Type 0
+Tells c b = SaidBoth c.content b
+
+-- ---- a segment
+
+-- the same side dialled, or it is found that the other one did
+abbrev pub SameEnds : CapturedConnection → CapturedConnection → Type 0
+SameEnds c e = (e.dialler ≡ c.dialler) × (e.acceptor ≡ c.acceptor)
+
+abbrev pub ExchangedEnds : CapturedConnection → CapturedConnection → Type 0
+ExchangedEnds c e = (e.dialler ≡ c.acceptor) × (e.acceptor ≡ c.dialler)
+
+-- a segment comes from the side that dialled if it comes from that side's address and port
+abbrev pub IsFrom : CapturedConnection → Segment → Side → Type 0
+IsFrom c s side = (side ≡ Dialler) ↔ (s.from ≡ c.dialler)
+
+-- of these bytes, which were delivered, the connection goes on
+abbrev pub GoesOn : CapturedConnection → CapturedConnection → Sent → Type 0
+GoesOn c e b = (SameEnds c e × Holds e b × Tells e b) ⊎ (ExchangedEnds c e × Holds e (exchanged b) × Tells e (exchanged b))
+
+-- A SEGMENT WAS TAKEN: it delivered this piece of the bytes of the side that sent it, and no others; whatever was delivered before, what the
+-- connection says is what both sides said in all of these bytes.
+pub record Follows (c : CapturedConnection) (s : Segment) (e : CapturedConnection) : Type 0 where
+  pub side : Side
+  pub from : IsFrom c s side
+  pub piece : List ℕ
+  pub flow : Flow
+  pub brings : Brings (flow_of side c) s piece flow
+  pub goes_on : (b : Sent) → Holds c b → GoesOn c e (with_piece side piece b)
+
+-- The connection says the same, or what it says is forgotten; what else is known of it may change.
+pub record Stays (c e : CapturedConnection) : Type 0 where
+  pub ends : SameEnds c e
+  pub tells : (b : Sent) → Tells c b → Tells e b
+
+-- AN ATTEMPT WAS JUDGED: its verdict is that on what the connection carries, which says the same as before.
+pub record Judges (t : Terms) (c e : CapturedConnection) : Type 0 where
+  pub stays : Stays c e
+  pub verdict : e.verdict ≡ Some (verdict_on t e.is_at_mapper e.content)
+
+-- ---- the inner steps
+
+-- The connection carries the same, and the same bytes wait.
+pub record Still (c e : CapturedConnection) : Type 0 where
+  pub ends : SameEnds c e
+  pub content : e.content ≡ c.content
+  pub dialler : SameBytes c.from_dialler e.from_dialler
+  pub acceptor : SameBytes c.from_acceptor e.from_acceptor
+
+-- A segment of a side was taken, and nothing read.
+pub record Gathers (side : Side) (c : CapturedConnection) (s : Segment) (e : CapturedConnection) : Type 0 where
+  pub piece : List ℕ
+  pub brings : Brings (flow_of side c) s piece (flow_of side e)
+  pub other : SameBytes (flow_of (other_side side) c) (flow_of (other_side side) e)
+  pub content : e.content ≡ c.content
+  pub ends : SameEnds c e
+
+-- what is carried is no handshake, and will be none
+abbrev pub IsLeft : Traffic → Type 0
+IsLeft traffic.Unknown = ⊥
+IsLeft (traffic.Handshake h) = ⊥
+IsLeft any = Unit {0}
+
+-- it is found out, or not yet, what is carried
+abbrev pub Finds : CapturedConnection → CapturedConnection → Sent → Type 0
+Finds c e b = (SameEnds c e × Holds e b) ⊎ (ExchangedEnds c e × Holds e (exchanged b))
+
+-- what is carried was read as far as it is whole
+abbrev pub Keeps : CapturedConnection → CapturedConnection → Type 0
+Keeps c e = SameEnds c e × ((b : Sent) → Holds c b → Tells c b → Holds e b × Tells e b)
