@@ -1,6 +1,7 @@
 //! What the program works with, whatever it does.
 
-ghost use Rattle.std.specs.Prelude.{◌≡◌};
+ghost use Rattle.std.specs.{Prelude.◌≡◌, Option.option_or};
+ghost use Rattle.distping_words.specs.Ports.{port_given};
 
 use dist_names::NodeName;
 use dist_program::{Addresses, Resolving, lookup_host, variable};
@@ -83,8 +84,9 @@ impl<'a, R: Resolving> Context<'a, R> {
         ensures lines { result.lines ≡ lines.entry }
         ensures own { result.own.now ≡ own.now }
         ensures node { result.node.now ≡ node.now }
-        // A word may give the node's port.
         ensures choices { result.choices ≡ record self.now.wanted.now.choices { port = result.choices.port } }
+        // Without --port, a word may give the node's port.
+        ensures port { result.choices.port ≡ option_or self.now.wanted.now.choices.port (port_given self.now.wanted.now.ports.items node.now) }
         ensures cookie { result.cookie ≡ self.now.cookie }
     {
         let mut choices = self.wanted.choices;

@@ -4,6 +4,7 @@
 //! for what stands at each address of a name.
 
 ghost use Rattle.std.specs.Prelude.{◌≡◌};
+ghost use Rattle.distping_words.specs.Ports.{port_given};
 
 use crate::fault::Fault;
 use dist_cluster::{MOST_NODES, ServiceName, Target, group_of, target_of};
@@ -107,8 +108,10 @@ fn port_of(text: &[u8]) -> Option<u16> {
     }
 }
 
-/// The port that a word gives this node, if one does.
-pub fn given_port(ports: &[GivenPort], node: &NodeName) -> Option<u16> {
+/// The port that a word gives this node, if one does: the first of these.
+pub fn given_port(ports: &[GivenPort], node: &NodeName) -> Option<u16>
+    ensures { result ≡ port_given ports.now node.now }
+{
     let given = ports.iter().find(|given| given.node.is_same(node))?;
     Some(given.port)
 }
