@@ -1,3 +1,4 @@
+pub mod Hearing
 pub mod Lanes
 pub mod Order
 pub mod Steps

@@ -1,5 +1,5 @@
 -- The steps of a talk: none yet, one more, and one that is left out.
-use Rattle.std.proofs.Common.{◌≡◌, ℕ, ◌<◌, true, List, [], ◌∷◌, ◌++◌, length, get_or, refl, arith}
+use Rattle.std.proofs.Common.{◌≡◌, ℕ, ◌<◌, Bor, List, [], ◌∷◌, ◌++◌, length, get_or, refl, arith}
 use Rattle.dist_conformance.specs.declared.rows.Level.{Level}
 use Rattle.dist_conformance.specs.declared.rows.Level.TheVariants as level
 use Rattle.dist_conformance.specs.declared.steps.TalkStep.{TalkStep}
@@ -7,25 +7,25 @@ use Rattle.dist_conformance.specs.declared.verdicts.TalkVerdict.TheVariants as v
 use Rattle.distcheck.specs.{Deciding.verdict_by_level, Trying.try_verdict}
 use Rattle.distcheck.specs.Playing.{Standing, after, beginning, ends_by, next, standing_after}
 use Rattle.distcheck.specs.declared.{queue.QueuedTalk.QueuedTalk, standing.JudgingTerms.JudgingTerms}
-use Rattle.distcheck.specs.declared.seen.{Obstacle.Obstacle, PlayedStep.PlayedStep}
+use Rattle.distcheck.specs.declared.seen.{PlayedStep.PlayedStep}
 use Rattle.distcheck.specs.declared.seen.StepFact.TheVariants as seen
 
-pub none_yet : (t : JudgingTerms) (s : Standing) (steps : List TalkStep) → standing_after t s steps [] ≡ s
+pub none_yet : (s : Standing) (steps : List TalkStep) → standing_after s steps [] ≡ s
 unfolding standing_after
-none_yet t s steps = refl
+none_yet s steps = refl
 
-pub one_more : (t : JudgingTerms) (s : Standing) (steps : List TalkStep) (ps : List PlayedStep) (p : PlayedStep) (d : TalkStep) → length ps < length steps
-    → standing_after t s steps (ps ++ p ∷ []) ≡ next t (get_or steps (length ps) d) p.seen (standing_after t s steps ps)
+pub one_more : (s : Standing) (steps : List TalkStep) (ps : List PlayedStep) (p : PlayedStep) (d : TalkStep) → length ps < length steps
+    → standing_after s steps (ps ++ p ∷ []) ≡ next (get_or steps (length ps) d) p.seen (standing_after s steps ps)
 unfolding standing_after
-one_more t s [] ps p d h = absurd (omega arith)
-one_more t s (step ∷ steps) [] p d h = refl
-one_more t s (step ∷ steps) (q ∷ qs) p d h = one_more t (next t step q.seen s) steps qs p d (omega (arith, h))
+one_more s [] ps p d h = absurd (omega arith)
+one_more s (step ∷ steps) [] p d h = refl
+one_more s (step ∷ steps) (q ∷ qs) p d h = one_more (next step q.seen s) steps qs p d (omega (arith, h))
 
-left_out_standing : (t : JudgingTerms) (steps : List TalkStep) (n : ℕ) (o : Obstacle) → o.is_skipped ≡ true
-    → standing_after t beginning steps (record { at = n; seen = seen.Stopped o } ∷ []) ≡ ends_by verdict.Skipped beginning
+left_out_standing : (t : JudgingTerms) (steps : List TalkStep) (n : ℕ) (why : Bor (List ℕ))
+    → standing_after (beginning t) steps (record { at = n; seen = seen.Untried why } ∷ []) ≡ ends_by verdict.Skipped (beginning t)
 unfolding standing_after next after
-left_out_standing t [] n o skip = refl
-left_out_standing t (step ∷ steps) n o skip = rw skip refl
+left_out_standing t [] n why = refl
+left_out_standing t (step ∷ steps) n why = refl
 
 skipped_at : (l : Level) → verdict_by_level l verdict.Skipped ≡ verdict.Skipped
 skipped_at level.Must = refl
@@ -33,5 +33,5 @@ skipped_at level.Should = refl
 skipped_at level.Otp = refl
 skipped_at level.May = refl
 
-pub left_out : (talk : QueuedTalk) (n : ℕ) (o : Obstacle) → o.is_skipped ≡ true → try_verdict talk (record { at = n; seen = seen.Stopped o } ∷ []) ≡ verdict.Skipped
-left_out talk n o skip = rw (left_out_standing talk.terms talk.steps.now n o skip) (skipped_at talk.label.level)
+pub left_out : (talk : QueuedTalk) (n : ℕ) (why : Bor (List ℕ)) → try_verdict talk (record { at = n; seen = seen.Untried why } ∷ []) ≡ verdict.Skipped
+left_out talk n why = rw (left_out_standing talk.terms talk.talk.now.steps n why) (skipped_at talk.level)

@@ -10,22 +10,24 @@ use Rattle.dist_conformance.specs.declared.steps.Action.TheVariants as action
 use Rattle.dist_conformance.specs.declared.judging.Judgement.TheVariants as judgement
 use Rattle.dist_conformance.specs.declared.verdicts.TalkVerdict.TheVariants as verdict
 use Rattle.distcheck.specs.{Seeing.end_of, declared.standing.JudgingTerms.JudgingTerms, declared.standing.TalkState.TalkState}
-use Rattle.distcheck.specs.declared.seen.{Timing.Timing, HeardBytes.HeardBytes, Obstacle.Obstacle, StepFact.StepFact, PlayedStep.PlayedStep}
+use Rattle.distcheck.specs.declared.seen.{Timing.Timing, HeardBytes.HeardBytes, StepFact.StepFact, PlayedStep.PlayedStep}
 use Rattle.distcheck.specs.declared.seen.StepFact.TheVariants as seen
 
--- how a talk stands: its verdict so far, whether that is final, what was learned, and of each connection the bytes that came and that nothing matched yet
+-- how a talk stands: by what it is judged, its verdict so far, whether that is final, what was learned, and of each connection the bytes
+-- that came and that nothing matched yet
 pub record Standing : Type 0 where
+  pub terms : JudgingTerms
   pub verdict : TalkVerdict
   pub is_over : Bool
   pub learned : List Learned
   pub left : List (List ℕ)
 
 abbrev pub standing_of : TalkState → Standing
-standing_of s = record { verdict = s.verdict; is_over = s.is_over; learned = s.learned.items; left = s.left.items }
+standing_of s = record { terms = s.terms; verdict = s.verdict; is_over = s.is_over; learned = s.learned.items; left = s.left.items }
 
 -- before its first step, on five connections
-abbrev pub beginning : Standing
-beginning = record { verdict = verdict.Kept; is_over = false; learned = []; left = [] ∷ [] ∷ [] ∷ [] ∷ [] ∷ [] }
+abbrev pub beginning : JudgingTerms → Standing
+beginning t = record { terms = t; verdict = verdict.Kept; is_over = false; learned = []; left = [] ∷ [] ∷ [] ∷ [] ∷ [] ∷ [] }
 
 -- it ends by this verdict
 abbrev pub ends_by : TalkVerdict → Standing → Standing
@@ -42,9 +44,9 @@ abbrev pub came_on : Standing → ℕ → List ℕ → List ℕ
 came_on s conn bytes = slice_index_or s.left conn [] ++ bytes
 
 -- what is judged of it
-abbrev pub observation_in : JudgingTerms → List Learned → List ℕ → Timing → Observation
-observation_in t learned came w =
-    record { came = came; ended = end_of w.end; elapsed = w.elapsed; pause = w.pause; limit = t.limit; learned = learned; cookie = t.cookie.now }
+abbrev pub observation_in : Standing → List ℕ → Timing → Observation
+observation_in s came w =
+    record { came = came; ended = end_of w.end; elapsed = w.elapsed; pause = w.pause; limit = s.terms.limit; learned = s.learned; cookie = s.terms.cookie.now }
 
 -- what is learned, as a list
 abbrev pub if_any : Option Learned → List Learned
@@ -63,18 +65,17 @@ by_judgement v conn came (judgement.Deviates why) s = ends_by v s
 by_judgement v conn came judgement.More s = ends_by v s
 
 -- the judgement of this demand
-unfoldable pub by_demand : JudgingTerms → TalkVerdict → ℕ → Demand → HeardBytes → Standing → Standing
-by_demand t v conn demand h s =
-    let came = came_on s conn h.bytes in by_judgement v conn came (judgement_of demand (observation_in t s.learned came h.timing)) s
+unfoldable pub by_demand : TalkVerdict → ℕ → Demand → HeardBytes → Standing → Standing
+by_demand v conn demand h s = let came = came_on s conn h.bytes in by_judgement v conn came (judgement_of demand (observation_in s came h.timing)) s
 
 -- ---- steps
 
 -- what came in a step that listens: what a `hear` does not get blocks the talk, what a `want` does not get deviates, a `tell` notes
-unfoldable pub after_hearing : JudgingTerms → ℕ → Action → HeardBytes → Standing → Standing
-after_hearing t conn (action.Hear demand) h s = by_demand t verdict.Blocked conn demand h s
-after_hearing t conn (action.Want demand) h s = by_demand t verdict.Deviates conn demand h s
-after_hearing t conn (action.Tell ms) h s = record s { verdict = verdict.Noted; left = with_left conn [] s.left }
-after_hearing t conn other h s = ends_by verdict.Blocked s
+unfoldable pub after_hearing : ℕ → Action → HeardBytes → Standing → Standing
+after_hearing conn (action.Hear demand) h s = by_demand verdict.Blocked conn demand h s
+after_hearing conn (action.Want demand) h s = by_demand verdict.Deviates conn demand h s
+after_hearing conn (action.Tell ms) h s = record s { verdict = verdict.Noted; left = with_left conn [] s.left }
+after_hearing conn other h s = ends_by verdict.Blocked s
 
 -- these bytes are what is due
 abbrev pub is_due : Option (List ℕ) → List ℕ → Bool
@@ -82,10 +83,10 @@ is_due None said = false
 is_due (Some due) said = same_name due said
 
 -- what was said in a step `say` is what the step says
-unfoldable pub after_saying : JudgingTerms → ℕ → Action → List ℕ → Standing → Standing
-after_saying t conn (action.Say saying) said s =
-    if is_due (bytes_said saying conn s.learned t.cookie.now) said then s else ends_by verdict.Blocked s
-after_saying t conn other said s = ends_by verdict.Blocked s
+unfoldable pub after_saying : ℕ → Action → List ℕ → Standing → Standing
+after_saying conn (action.Say saying) said s =
+    if is_due (bytes_said saying conn s.learned s.terms.cookie.now) said then s else ends_by verdict.Blocked s
+after_saying conn other said s = ends_by verdict.Blocked s
 
 -- a step that says or listens is not just made; by one that connects nothing is left of that connection
 unfoldable pub after_making : ℕ → Action → Standing → Standing
@@ -99,31 +100,28 @@ after_making conn action.Reset s = s
 after_making conn (action.Wait ms) s = s
 after_making conn other s = record s { left = with_left conn [] s.left }
 
--- by an obstacle a talk is skipped or blocked
-abbrev pub by_obstacle : Obstacle → TalkVerdict
-by_obstacle o = if o.is_skipped then verdict.Skipped else verdict.Blocked
-
 -- WHAT A STEP COMES TO in which this was seen
-unfoldable pub after : JudgingTerms → TalkStep → StepFact → Standing → Standing
-after t step seen.Made s = after_making step.conn step.action s
-after t step (seen.Said bytes is_whole) s = after_saying t step.conn step.action bytes s
-after t step (seen.Heard h) s = after_hearing t step.conn step.action h s
-after t step seen.Came s = ends_by verdict.Deviates s
-after t step seen.Refused s = ends_by verdict.Blocked s
-after t step seen.Unsaid s = ends_by verdict.Skipped s
-after t step (seen.Stopped obstacle) s = ends_by (by_obstacle obstacle) s
+unfoldable pub after : TalkStep → StepFact → Standing → Standing
+after step seen.Made s = after_making step.conn step.action s
+after step (seen.Said bytes is_whole) s = after_saying step.conn step.action bytes s
+after step (seen.Heard h) s = after_hearing step.conn step.action h s
+after step seen.Came s = ends_by verdict.Deviates s
+after step seen.Refused s = ends_by verdict.Blocked s
+after step seen.Unsaid s = ends_by verdict.Skipped s
+after step (seen.Untried why) s = ends_by verdict.Skipped s
+after step (seen.Failed why) s = ends_by verdict.Blocked s
 
 -- the same, unless the talk is over
-unfoldable pub next : JudgingTerms → TalkStep → StepFact → Standing → Standing
-next t step what s = if s.is_over then s else after t step what s
+unfoldable pub next : TalkStep → StepFact → Standing → Standing
+next step what s = if s.is_over then s else after step what s
 
 -- ---- talks
 
 -- HOW A TALK STANDS behind the steps in which something was seen
-unfoldable pub standing_after : JudgingTerms → Standing → List TalkStep → List PlayedStep → Standing
-standing_after t s steps [] = s
-standing_after t s [] (p ∷ ps) = ends_by verdict.Skipped s
-standing_after t s (step ∷ steps) (p ∷ ps) = standing_after t (next t step p.seen s) steps ps
+unfoldable pub standing_after : Standing → List TalkStep → List PlayedStep → Standing
+standing_after s steps [] = s
+standing_after s [] (p ∷ ps) = ends_by verdict.Skipped s
+standing_after s (step ∷ steps) (p ∷ ps) = standing_after (next step p.seen s) steps ps
 
 -- a talk that is neither over nor played to its end counts as skipped
 abbrev pub verdict_in : ℕ → ℕ → Standing → TalkVerdict
@@ -131,4 +129,4 @@ verdict_in steps played s = if s.is_over || nat_le steps played then s.verdict e
 
 -- THE VERDICT of one try of a talk
 abbrev pub outcome_of : JudgingTerms → List TalkStep → List PlayedStep → TalkVerdict
-outcome_of t steps played = verdict_in (length steps) (length played) (standing_after t beginning steps played)
+outcome_of t steps played = verdict_in (length steps) (length played) (standing_after (beginning t) steps played)

@@ -11,10 +11,13 @@ end_of end.Open = false
 end_of end.Closed = true
 end_of end.Reset = true
 
--- WHAT CAME IS WHAT WAS READ: these bytes were read from the stream, and stand behind what had come before; it ended only where none is left
-pub record HearsMore (old new : StreamState) (before after : List ℕ) (how : PeerEnd) : Type 0 where
+-- WHAT CAME IS WHAT WAS READ: these bytes were read from the stream, and stand behind what had come before
+pub record HearsMore (old new : StreamState) (before after : List ℕ) : Type 0 where
   pub heard : List ℕ
   pub unread : old.unread ≡ prepend_known heard new.unread
   pub written : new.written ≡ old.written
   pub after_is : after ≡ before ++ heard
-  pub ended : how ≡ end.Closed → IsAtEnd new.unread
+
+-- the peer has ended the connection only where nothing is left to be read
+abbrev pub EndsAt : PeerEnd → StreamState → Type 0
+EndsAt how s = how ≡ end.Closed → IsAtEnd s.unread

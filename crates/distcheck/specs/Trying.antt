@@ -7,11 +7,15 @@ use Rattle.distcheck.specs.declared.{queue.QueuedTalk.QueuedTalk, seen.PlayedSte
 
 -- the verdict of one try, by what was seen in its steps
 abbrev pub try_verdict : QueuedTalk → List PlayedStep → TalkVerdict
-try_verdict talk played = verdict_by_level talk.label.level (outcome_of talk.terms talk.steps.now played)
+try_verdict talk played = verdict_by_level talk.level (outcome_of talk.terms talk.talk.now.steps played)
 
 -- that of each try
 abbrev pub verdicts_of : QueuedTalk → List TalkTry → List TalkVerdict
 verdicts_of talk tries = map (λ (t : TalkTry). try_verdict talk t.played.items) tries
+
+-- those that tries have with them
+abbrev pub told_verdicts : List TalkTry → List TalkVerdict
+told_verdicts tries = map (λ (t : TalkTry). t.verdict) tries
 
 -- that of one or two tries: what deviates is not blocked by a second
 abbrev pub verdict_of_two : List TalkVerdict → TalkVerdict

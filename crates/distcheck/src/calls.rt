@@ -3,7 +3,7 @@
 
 use crate::fault::Fault;
 use crate::reaching::{TURNS, talk_to};
-use crate::talk_link::TalkLink;
+use crate::talk_link::{SocketLink, TalkLink};
 use dist_epmd::NodeInfo;
 use dist_epmd_calls::{LookupError, register};
 use dist_program::at_port;
@@ -33,15 +33,7 @@ pub struct OwnPort {
     // The name that the node dials, where it does.
     registration: Option<SocketStream>,
     // What has the node connect ends with this connection.
-    order: Option<TalkLink>,
-}
-
-// A listener at this address, at a port that the system chooses, and the port.
-fn listen(rt: &HostRuntime, address: &SocketAddr) -> io::Result<(TcpListener, u16)> {
-    let listener = TcpListener::bind(rt, at_port(address, 0))?;
-    listener.set_nonblocking(true)?;
-    let port = listener.local_addr()?.port();
-    Ok((listener, port))
+    order: Option<SocketLink>,
 }
 
 // Registers this, as long as the connection is kept. None where the port mapper does not.
@@ -61,10 +53,12 @@ fn registration_of(
 }
 
 impl OwnPort {
-    /// Listens at this address. None where that fails.
-    pub fn open(rt: &HostRuntime, address: &SocketAddr) -> Option<OwnPort> {
-        let (listener, port) = listen(rt, address).ok()?;
-        Some(OwnPort {
+    /// Listens at this address, at a port that the system chooses. An error is the system's.
+    pub fn open(rt: &HostRuntime, address: &SocketAddr) -> io::Result<OwnPort> {
+        let listener = TcpListener::bind(rt, at_port(address, 0))?;
+        listener.set_nonblocking(true)?;
+        let port = listener.local_addr()?.port();
+        Ok(OwnPort {
             listener,
             port,
             registration: None,
@@ -78,21 +72,13 @@ impl OwnPort {
         mapper: &SocketAddr,
         info: &NodeInfo,
     ) -> Result<Option<OwnPort>, Fault> {
-        let Ok((listener, port)) = listen(rt, mapper) else {
+        let Ok(mut own) = OwnPort::open(rt, mapper) else {
             return Ok(None);
         };
-        let mut own = info.try_clone(rt.alloc())?;
-        own.port = port;
-        let registration = registration_of(rt, mapper, &own)?;
-        if registration.is_none() {
-            return Ok(None);
-        }
-        Ok(Some(OwnPort {
-            listener,
-            port,
-            registration,
-            order: None,
-        }))
+        let mut info = info.try_clone(rt.alloc())?;
+        info.port = own.port;
+        own.registration = registration_of(rt, mapper, &info)?;
+        Ok(own.registration.is_some().then(|| own))
     }
 
     // Says this where orders are taken, in place of the order before. Returns whether that is taken.
@@ -130,7 +116,7 @@ impl OwnPort {
     }
 
     /// The connection that the node makes within this many milliseconds.
-    pub fn accept(&self, conn: u8, limit: u32) -> Option<TalkLink> {
+    pub fn accept(&self, conn: u8, limit: u32) -> Option<SocketLink> {
         let mut waits = [pollfd {
             fd: self.listener.as_raw_fd(),
             events: libc::net::POLLIN,

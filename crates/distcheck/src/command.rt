@@ -3,7 +3,7 @@
 use crate::fault::Fault;
 use crate::{HELP, VERSION};
 use clap::error::ErrorKind;
-use clap::{Arg, ArgAction, ArgMatches, Command, Error};
+use clap::{Arg, ArgAction, ArgMatches, Command};
 use dist_names::{escape, number_16};
 use dist_program::{
     WordFault, command_line, name_in, option, option_number, parser_sentence, with_word,
@@ -20,24 +20,13 @@ pub enum CheckTask<'a> {
     Check(CheckOrder<'a>),
 }
 
-/// The name of a node.
-#[derive(Clone, Copy)]
-pub struct NamedNode<'a> {
-    /// All of it.
-    pub name: &'a str,
-    /// The part before the `@`.
-    pub short: &'a str,
-    /// The part behind it.
-    pub host: &'a str,
-}
-
 /// The rows to print, or what is checked, and how.
 #[derive(Clone, Copy)]
 pub struct CheckOrder<'a> {
     /// The command line.
     pub words: &'a [String],
-    /// The node that is checked.
-    pub node: Option<NamedNode<'a>>,
+    /// The name of the node that is checked.
+    pub node: Option<&'a str>,
     /// The node's port, if its port mapper is not asked.
     pub port: Option<u16>,
     /// The port at which the node's port mapper is asked.
@@ -119,22 +108,17 @@ fn program<'a>(alloc: Global) -> Result<Command<'a>, AllocError> {
     command_line(alloc, PROGRAM, node, &SWITCHES, &VALUES)?.arg(cookie)
 }
 
-// The number from 1 to 65,535 of this option, if it is given.
 fn number_in(alloc: Global, matches: &ArgMatches<'_>, id: &str) -> Result<Option<u16>, WordFault> {
     option_number(alloc, PROGRAM, id, matches.get_str(id))
 }
 
 // The node's name, if it is given.
-fn node_in<'a>(
-    alloc: Global,
-    matches: &ArgMatches<'a>,
-) -> Result<Option<NamedNode<'a>>, WordFault> {
+fn node_in<'a>(alloc: Global, matches: &ArgMatches<'a>) -> Result<Option<&'a str>, WordFault> {
     let Some(name) = matches.get_str("node") else {
         return Ok(None);
     };
     name_in(alloc, name)?;
-    let (short, host) = name.split_once('@').unwrap_or((name, ""));
-    Ok(Some(NamedNode { name, short, host }))
+    Ok(Some(name))
 }
 
 // The host and the port of a word HOST:PORT.
@@ -175,7 +159,6 @@ fn tag_in<'a>(alloc: Global, matches: &ArgMatches<'a>) -> Result<&'a str, Fault>
     Err(Fault::BadWord(with_word(alloc, front, tag)?))
 }
 
-// What the parser matched.
 fn order_in<'a>(
     alloc: Global,
     words: &'a [String],
@@ -212,16 +195,6 @@ fn order_in<'a>(
     }
 }
 
-// What is asked for if the parser matched nothing.
-fn task_instead<'a>(alloc: Global, error: &Error) -> Result<CheckTask<'a>, Fault> {
-    match error.kind() {
-        ErrorKind::DisplayHelp => Ok(CheckTask::Print(HELP)),
-        ErrorKind::DisplayVersion => Ok(CheckTask::Print(VERSION)),
-        ErrorKind::OutOfMemory => Err(Fault::NoMemory),
-        _ => Err(Fault::BadWord(parser_sentence(alloc, PROGRAM, error)?)),
-    }
-}
-
 /// What these words ask for. `usual_port` is the port mapper's port if they name none.
 pub fn task_of<'a>(
     alloc: Global,
@@ -230,7 +203,12 @@ pub fn task_of<'a>(
 ) -> Result<CheckTask<'a>, Fault> {
     match program(alloc)?.try_get_matches_from(words) {
         Ok(matches) => Ok(CheckTask::Check(order_in(alloc, words, &matches, usual_port)?)),
-        Err(error) => task_instead(alloc, &error),
+        Err(error) => match error.kind() {
+            ErrorKind::DisplayHelp => Ok(CheckTask::Print(HELP)),
+            ErrorKind::DisplayVersion => Ok(CheckTask::Print(VERSION)),
+            ErrorKind::OutOfMemory => Err(Fault::NoMemory),
+            _ => Err(Fault::BadWord(parser_sentence(alloc, PROGRAM, &error)?)),
+        },
     }
 }
 

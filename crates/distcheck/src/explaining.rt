@@ -17,7 +17,6 @@ fn meaning(level: Level) -> &'static str {
     }
 }
 
-// Adds a row, as a line.
 fn push_row(alloc: Global, text: &mut String, row: &SuiteRow) -> Result<(), AllocError> {
     let id = escape(alloc, row.id.as_slice())?;
     let source = escape(alloc, row.source.as_slice())?;
@@ -39,7 +38,6 @@ pub fn list_of(alloc: Global, suite: &[SuiteFile]) -> Result<String, AllocError>
     Ok(text)
 }
 
-// Whether a line begins the row with this id.
 fn begins_row(line: &str, id: &[u8]) -> bool {
     let mut words = line.split_whitespace();
     words.next() == Some("row") && words.next().is_some_and(|word| word.as_bytes() == id)

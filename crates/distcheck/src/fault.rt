@@ -56,38 +56,36 @@ impl Fault {
         }
     }
 
-    // The first part of what is printed.
+    // What is printed of one that has nothing but its cause.
     fn text(&self) -> &str {
         match self {
             Fault::NothingNamed =>
                 "bad command line: no NODE and no --mapper is named (distcheck --help)",
             Fault::BadWord(sentence) => sentence.as_str(),
-            Fault::RowsUnread(_) => "ReadFailed: the rows",
             Fault::NoRow => "no row is asked for",
-            Fault::NoCookie(_) => "",
-            Fault::NoHost(_) => "NoHost",
-            Fault::ConnectFailed(_) => "ConnectFailed: ",
-            Fault::NotFound(error) => error.name(),
-            Fault::Gone(_) => "ConnectFailed: nobody takes connections any more",
             Fault::NoDescriptors => "NoDescriptors",
             Fault::NoTime => "ReadFailed: the system's clock",
             Fault::WriteFailed => "WriteFailed",
-            Fault::NoMemory => "NoMemory",
+            _ => "NoMemory",
         }
     }
 }
 
 impl fmt::Display for Fault {
     fn fmt<W: fmt::Write>(&self, f: &mut fmt::Formatter<W>) -> fmt::Result {
-        f.write_str(self.text())?;
         match self {
-            Fault::RowsUnread(name) => write!(f, " {name}"),
-            Fault::ConnectFailed(who) => f.write_str(who),
+            Fault::RowsUnread(name) => write!(f, "ReadFailed: the rows {name}"),
             Fault::NoCookie(fault) => write!(f, "{fault}"),
-            Fault::NoHost(error) => write!(f, ": {}", error.text()),
-            Fault::NotFound(error) => write!(f, ": {error}"),
-            Fault::Gone(talk) => write!(f, ": from {talk} on"),
-            _ => Ok(()),
+            Fault::NoHost(error) => write!(f, "NoHost: {}", error.text()),
+            Fault::ConnectFailed(who) => write!(f, "ConnectFailed: {who}"),
+            Fault::NotFound(error) => write!(f, "{}: {error}", error.name()),
+            Fault::Gone(talk) => {
+                write!(
+                    f,
+                    "ConnectFailed: nobody takes connections any more: from {talk} on"
+                )
+            }
+            other => f.write_str(other.text()),
         }
     }
 }

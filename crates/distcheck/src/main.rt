@@ -30,19 +30,19 @@ mod transcript;
 mod tries;
 mod waiting;
 
-use command::{CheckOrder, CheckTask, NamedNode, command_of, task_of};
+use command::{CheckOrder, CheckTask, task_of};
 use dist_conformance::SuiteNames;
-use dist_names::escape;
+use dist_names::{escape, host_part};
 use dist_program::{Resolving, find_cookie, mapper_port, read_words, report};
 use dist_secret::Cookie;
 use explaining::{explanation_of, list_of};
 use fault::{Fault, NOT_THERE};
-use objects::{SuiteSummary, objects_of};
+use objects::objects_of;
 use output::print;
 use playing::Setting;
-use queue::{TalkQueue, queue_of};
-use reaching::{NO_MAPPER, NO_START, find_call, find_node, find_place};
-use report::{ReportTerms, report_of};
+use queue::queue_of;
+use reaching::{find_call, find_node, find_place};
+use report::report_of;
 use results::{exit_of, rows_of};
 use running::{PlayedSuite, run_talks};
 use std::fmt::Write;
@@ -92,11 +92,7 @@ here.
 const VERSION: &str = "distcheck 0.2.0, distribution handshake of version 6\n";
 
 // What stands for the node in rows where none is checked.
-const NOBODY: NamedNode<'static> = NamedNode {
-    name: "?@127.0.0.1",
-    short: "?",
-    host: "127.0.0.1",
-};
+const NOBODY: &str = "?@127.0.0.1";
 
 fn main(rt: HostRuntime) -> ExitCode {
     ExitCode::from(match perform(&rt, &rt) {
@@ -127,10 +123,10 @@ fn follow<R: Resolving + Sync>(
     let alloc = rt.alloc();
     let (_, port) = order.mapper.unwrap_or(("", 0));
     let port = format!(in alloc; "{port}")?;
-    let node = order.node.unwrap_or(NOBODY);
+    let node = order.node.unwrap_or(NOBODY).as_bytes();
     let names = SuiteNames {
-        node: node.name.as_bytes(),
-        host: node.host.as_bytes(),
+        node,
+        host: host_part(node),
         tag: order.tag.as_bytes(),
         mapper: port.as_bytes(),
     };
@@ -166,12 +162,13 @@ fn check<R: Resolving + Sync>(
 ) -> Result<u8, Fault> {
     let cookie = cookie_for(rt, order)?;
     let node = find_node(rt, resolver, order)?;
+    let no_start = "nobody starts the node (bin/make_it_dial)";
     let setting = Setting {
         rt,
         node,
-        mapper: find_place(rt, resolver, order.mapper, NO_MAPPER)?,
+        mapper: find_place(rt, resolver, order.mapper, "the port mapper")?,
         call: find_call(rt, resolver, order, node)?,
-        start: find_place(rt, resolver, order.start, NO_START)?,
+        start: find_place(rt, resolver, order.start, no_start)?,
         cookie: &cookie,
     };
     let queue = queue_of(suite, order, &setting)?;
@@ -180,7 +177,7 @@ fn check<R: Resolving + Sync>(
     }
     put_heading(&setting, order, queue.count)?;
     let played = run_talks(resolver, &setting, &queue, order.serial)?;
-    put_report(rt, order, &queue, &played)
+    put_report(rt, order, &played)
 }
 
 // Prints how many talks are played with whom, unless objects are printed.
@@ -206,7 +203,7 @@ fn put_heading(setting: &Setting<'_>, order: &CheckOrder<'_>, talks: usize) -> R
 fn gone_in<'a>(talks: &'a [PlayedTalk<'a>]) -> Option<&'a [u8]> {
     for played in talks {
         if played.tries.iter().any(|one| one.is_refused()) {
-            return Some(played.talk.label.id);
+            return Some(played.queued.talk.id.as_slice());
         }
     }
     None
@@ -216,7 +213,6 @@ fn gone_in<'a>(talks: &'a [PlayedTalk<'a>]) -> Option<&'a [u8]> {
 fn put_report<'a>(
     rt: &HostRuntime,
     order: &CheckOrder<'_>,
-    queue: &TalkQueue<'a>,
     suite: &'a PlayedSuite<'a>,
 ) -> Result<u8, Fault>
     ensures { IfOk result (λ exit. exit ≡ exit_of order.now.strict suite.now.talks.items) }
@@ -226,21 +222,10 @@ fn put_report<'a>(
     let rows = rows_of(alloc, &suite.talks)?;
     let exit = exit_of(alloc, &suite.talks, order.strict)?;
     let text = if order.json {
-        let summary = SuiteSummary {
-            rows: queue.rows,
-            is_one_at_a_time: suite.is_one_at_a_time,
-            exit: if gone.is_some() { NOT_THERE } else { exit },
-        };
-        objects_of(alloc, &suite.talks, &rows, &summary)?
+        let exit = if gone.is_some() { NOT_THERE } else { exit };
+        objects_of(alloc, suite, &rows, exit)?
     } else {
-        let command = command_of(alloc, order.words)?;
-        let terms = ReportTerms {
-            strict: order.strict,
-            rows: queue.rows,
-            is_one_at_a_time: suite.is_one_at_a_time,
-            command: &command,
-        };
-        report_of(alloc, &rows, &terms)?
+        report_of(alloc, order, suite, &rows, exit)?
     };
     print(rt, &text)?;
     match gone {

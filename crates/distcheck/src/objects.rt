@@ -1,7 +1,7 @@
 //! The report for programs: a JSON object on a line for each talk, and one for all.
 
-use crate::queue::TalkLabel;
 use crate::results::{PlayedRow, VERDICTS, count_in};
+use crate::running::PlayedSuite;
 use crate::transcript::{TranscriptLine, digits_of, lines_of};
 use crate::tries::{PlayedTalk, TalkTry};
 use dist_conformance::TalkVerdict;
@@ -12,144 +12,134 @@ use std::alloc::{AllocError, Global};
 // The version of the form of the objects.
 const FORM: usize = 1;
 
-// Writes a member that is a text.
-fn put_text(out: &mut Writer, name: &str, text: &str) -> Result<(), AllocError> {
-    out.key(name)?;
-    out.string(text)
-}
-
-// Writes a member that is a text of a file of rows, which is escaped.
-fn put_bytes(alloc: Global, out: &mut Writer, name: &str, bytes: &[u8]) -> Result<(), AllocError> {
-    put_text(out, name, &escape(alloc, bytes)?)
-}
-
-// Writes a member that is a number.
-fn put_number(out: &mut Writer, name: &str, number: usize) -> Result<(), AllocError> {
-    out.key(name)?;
-    out.u64(number as u64)
-}
-
-// Begins an object of this type.
-fn begin(out: &mut Writer, name: &str) -> Result<(), AllocError> {
-    out.begin_object()?;
-    put_text(out, "type", name)?;
-    put_number(out, "form", FORM)
-}
-
-// Writes a line of a transcript.
-fn put_line(alloc: Global, out: &mut Writer, line: &TranscriptLine<'_>) -> Result<(), AllocError> {
-    out.begin_object()?;
-    put_number(out, "ms", line.at as usize)?;
-    put_text(out, "conn", line.letter)?;
-    put_text(out, "who", if line.is_peer { "peer" } else { "us" })?;
-    put_text(out, "hex", &digits_of(alloc, line.bytes)?)?;
-    put_text(out, "act", line.act)?;
-    out.end_object()
-}
-
-// Writes the verdicts of all tries, and the transcript of one, as members.
-fn put_lists(
+// An object that is being written.
+#[derive(Drop)]
+struct ObjectWriter {
     alloc: Global,
-    out: &mut Writer,
-    talk: &PlayedTalk<'_>,
-    one: &TalkTry,
-) -> Result<(), AllocError> {
-    out.key("tries")?;
-    out.begin_array()?;
-    for verdict in &talk.verdicts {
-        out.string(verdict.name())?;
-    }
-    out.end_array()?;
-    out.key("transcript")?;
-    out.begin_array()?;
-    let lines = lines_of(alloc, talk.talk.steps, &one.played)?;
-    for line in &lines {
-        put_line(alloc, out, line)?;
-    }
-    out.end_array()
+    out: Writer,
 }
 
-// Writes what a talk is, as members.
-fn put_label(alloc: Global, out: &mut Writer, label: &TalkLabel<'_>) -> Result<(), AllocError> {
-    put_bytes(alloc, out, "id", label.id)?;
-    put_bytes(alloc, out, "row", label.row)?;
-    put_text(out, "level", label.level.name())?;
-    put_bytes(alloc, out, "source", label.source)
+impl ObjectWriter {
+    fn begin(alloc: Global, name: &str) -> Result<ObjectWriter, AllocError> {
+        let out = Writer::new(Vec::new(alloc));
+        let mut object = ObjectWriter { alloc, out };
+        object.out.begin_object()?;
+        object.put_text("type", name)?;
+        object.put_number("form", FORM)?;
+        Ok(object)
+    }
+
+    // Ends it, and adds it to these lines.
+    fn end(mut self, lines: &mut String) -> Result<(), AllocError> {
+        self.out.end_object()?;
+        let Ok(text) = String::from_utf8(self.out.into_inner()) else {
+            return Err(AllocError);
+        };
+        lines.push_str(&text)?;
+        lines.push_str("\n")
+    }
+
+    fn put_text(&mut self, name: &str, text: &str) -> Result<(), AllocError> {
+        self.out.key(name)?;
+        self.out.string(text)
+    }
+
+    // Writes a member that is a text of a file of rows, which is escaped.
+    fn put_bytes(&mut self, name: &str, bytes: &[u8]) -> Result<(), AllocError> {
+        let text = escape(self.alloc, bytes)?;
+        self.put_text(name, &text)
+    }
+
+    fn put_number(&mut self, name: &str, number: usize) -> Result<(), AllocError> {
+        self.out.key(name)?;
+        self.out.u64(number as u64)
+    }
+
+    fn put_line(&mut self, line: &TranscriptLine<'_>) -> Result<(), AllocError> {
+        self.out.begin_object()?;
+        self.put_number("ms", line.at as usize)?;
+        self.put_text("conn", line.letter)?;
+        self.put_text("who", if line.is_peer { "peer" } else { "us" })?;
+        let hex = digits_of(self.alloc, line.bytes)?;
+        self.put_text("hex", &hex)?;
+        self.put_text("act", line.act)?;
+        self.out.end_object()
+    }
+
+    // Writes the verdicts of all tries, and the transcript of one, as members.
+    fn put_lists(&mut self, played: &PlayedTalk<'_>, one: &TalkTry) -> Result<(), AllocError> {
+        self.out.key("tries")?;
+        self.out.begin_array()?;
+        for it in &played.tries {
+            self.out.string(it.verdict.name())?;
+        }
+        self.out.end_array()?;
+        self.out.key("transcript")?;
+        self.out.begin_array()?;
+        for line in &lines_of(self.alloc, played.steps(), &one.played)? {
+            self.put_line(line)?;
+        }
+        self.out.end_array()
+    }
+
+    // Writes what a talk is, as members.
+    fn put_label(&mut self, played: &PlayedTalk<'_>) -> Result<(), AllocError> {
+        let queued = &played.queued;
+        self.put_bytes("id", queued.talk.id.as_slice())?;
+        self.put_bytes("row", queued.row.id.as_slice())?;
+        self.put_text("level", queued.level.name())?;
+        self.put_bytes("source", queued.row.source.as_slice())
+    }
+
+    // Writes what became of a talk, of which this try is shown, as members.
+    fn put_talk(&mut self, played: &PlayedTalk<'_>, one: &TalkTry) -> Result<(), AllocError> {
+        self.put_text("verdict", played.verdict().name())?;
+        let came = played.arrival_text(one)?;
+        self.put_text("came", &came)?;
+        self.put_bytes("wanted", played.demand_text(one))?;
+        self.put_number("ms", one.took as usize)?;
+        self.put_lists(played, one)
+    }
 }
 
-// Writes the object of a talk, of which this try is shown.
-fn put_talk(
+// The object of all rows: how many have which verdict, how many were not played, and the exit status.
+fn summary_of(
     alloc: Global,
-    out: &mut Writer,
-    talk: &PlayedTalk<'_>,
-    one: &TalkTry,
-) -> Result<(), AllocError> {
-    begin(out, "talk")?;
-    put_label(alloc, out, &talk.talk.label)?;
-    put_text(out, "verdict", talk.verdict().name())?;
-    put_text(out, "came", &talk.arrival_text(alloc, one)?)?;
-    put_bytes(alloc, out, "wanted", talk.demand_text())?;
-    put_number(out, "ms", one.took as usize)?;
-    put_lists(alloc, out, talk, one)?;
-    out.end_object()
-}
-
-/// What is said of all rows.
-#[derive(Clone, Copy)]
-pub struct SuiteSummary {
-    /// How many rows there are for what is checked.
-    pub rows: usize,
-    /// Whether the node took one handshake at a time.
-    pub is_one_at_a_time: bool,
-    /// The exit status.
-    pub exit: u8,
-}
-
-// Writes how many rows have which verdict, how many were not played, and the exit status.
-fn put_summary(
-    out: &mut Writer,
+    suite: &PlayedSuite<'_>,
     rows: &[PlayedRow<'_>],
-    summary: &SuiteSummary,
-) -> Result<(), AllocError> {
-    begin(out, "summary")?;
-    put_number(out, "rows", rows.len())?;
+    exit: u8,
+) -> Result<ObjectWriter, AllocError> {
+    let mut object = ObjectWriter::begin(alloc, "summary")?;
+    object.put_number("rows", rows.len())?;
     for verdict in &VERDICTS {
-        put_number(out, verdict.name(), count_in(rows, *verdict))?;
+        object.put_number(verdict.name(), count_in(rows, *verdict))?;
     }
-    let played = rows.len() - count_in(rows, TalkVerdict::Skipped).min(rows.len());
-    put_number(out, "not_played", summary.rows.saturating_sub(played))?;
-    out.key("one_at_a_time")?;
-    out.boolean(summary.is_one_at_a_time)?;
-    put_number(out, "exit", usize::from(summary.exit))?;
-    out.end_object()
-}
-
-// Adds the text of an object, as a line.
-fn push_object(lines: &mut String, out: Writer) -> Result<(), AllocError> {
-    let Ok(text) = String::from_utf8(out.into_inner()) else {
-        return Err(AllocError);
-    };
-    lines.push_str(&text)?;
-    lines.push_str("\n")
+    let played = rows
+        .len()
+        .saturating_sub(count_in(rows, TalkVerdict::Skipped));
+    object.put_number("not_played", suite.rows.saturating_sub(played))?;
+    object.out.key("one_at_a_time")?;
+    object.out.boolean(suite.is_one_at_a_time)?;
+    object.put_number("exit", usize::from(exit))?;
+    Ok(object)
 }
 
 /// The objects of all talks, and that of all rows, each on a line.
 pub fn objects_of(
     alloc: Global,
-    talks: &[PlayedTalk<'_>],
+    suite: &PlayedSuite<'_>,
     rows: &[PlayedRow<'_>],
-    summary: &SuiteSummary,
+    exit: u8,
 ) -> Result<String, AllocError> {
     let mut lines = String::new(alloc);
-    for talk in talks {
-        if let Some(one) = talk.telling_try() {
-            let mut out = Writer::new(Vec::new(alloc));
-            put_talk(alloc, &mut out, talk, one)?;
-            push_object(&mut lines, out)?;
+    for played in &suite.talks {
+        if let Some(one) = played.shown_try() {
+            let mut object = ObjectWriter::begin(alloc, "talk")?;
+            object.put_label(played)?;
+            object.put_talk(played, one)?;
+            object.end(&mut lines)?;
         }
     }
-    let mut out = Writer::new(Vec::new(alloc));
-    put_summary(&mut out, rows, summary)?;
-    push_object(&mut lines, out)?;
+    summary_of(alloc, suite, rows, exit)?.end(&mut lines)?;
     Ok(lines)
 }

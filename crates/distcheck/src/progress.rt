@@ -1,6 +1,6 @@
 //! What is said on a terminal while talks are played.
 
-use crate::queue::{QueuedTalk, TalkLabel, TalkQueue};
+use dist_conformance::Section;
 use dist_names::escape;
 use std::alloc::{AllocError, Global};
 use std::io::Write;
@@ -12,72 +12,58 @@ const STANDARD_ERROR: i32 = 2;
 // A section, and how many of its talks are not played yet.
 #[derive(Drop)]
 struct SectionCount<'a> {
-    number: u32,
-    title: &'a [u8],
+    section: &'a Section,
     left: AtomicUsize,
 }
 
 /// How many talks of each section are not played yet.
 #[derive(Drop)]
 pub struct SectionTally<'a> {
-    sections: Vec<SectionCount<'a>>,
+    counts: Vec<SectionCount<'a>>,
 }
 
 impl<'a> SectionTally<'a> {
-    /// That of these talks. Where standard error is no terminal it has none, and nothing is printed.
-    pub fn of(alloc: Global, queue: &TalkQueue<'a>) -> Result<SectionTally<'a>, AllocError> {
-        let mut tally = SectionTally {
-            sections: Vec::new(alloc),
-        };
-        if libc::isatty(STANDARD_ERROR) == 1 {
-            tally.add(&queue.first)?;
-            for lane in &queue.lanes {
-                tally.add(lane)?;
-            }
-            tally.add(&queue.alone)?;
+    /// That of no talk.
+    pub fn new(alloc: Global) -> SectionTally<'a> {
+        SectionTally {
+            counts: Vec::new(alloc),
         }
-        Ok(tally)
     }
 
-    // The section of this number.
-    fn section(&self, number: u32) -> Option<&SectionCount<'a>> {
-        self.sections.iter().find(|it| it.number == number)
+    fn count(&self, section: &Section) -> Option<&SectionCount<'a>> {
+        self.counts
+            .iter()
+            .find(|it| it.section.number == section.number)
     }
 
-    // Counts these talks.
-    fn add(&mut self, talks: &[QueuedTalk<'a>]) -> Result<(), AllocError> {
-        for talk in talks {
-            let label = &talk.label;
-            match self.section(label.number) {
-                Some(section) => {
-                    section.left.fetch_add(1, Ordering::SeqCst);
-                }
-                None => self.sections.push(SectionCount {
-                    number: label.number,
-                    title: label.section,
-                    left: AtomicUsize::new(1),
-                })?,
+    /// Counts a talk of this section.
+    pub fn add(&mut self, section: &'a Section) -> Result<(), AllocError> {
+        match self.count(section) {
+            Some(count) => {
+                count.left.fetch_add(1, Ordering::SeqCst);
+                Ok(())
+            }
+            None => {
+                let left = AtomicUsize::new(1);
+                Ok(self.counts.push(SectionCount { section, left })?)
             }
         }
-        Ok(())
     }
 
-    /// Notes that a talk was played. Behind the last of a section a line is printed.
-    pub fn note(&self, rt: &HostRuntime, label: &TalkLabel<'_>) {
-        let Some(section) = self.section(label.number) else {
-            return;
-        };
-        if section.left.fetch_sub(1, Ordering::SeqCst) == 1
-            && let Ok(line) = line_of(rt.alloc(), section)
+    /// Notes that a talk of this section was played. Behind the last of them a line is printed, where standard error is a terminal.
+    pub fn note(&self, rt: &HostRuntime, section: &Section) {
+        if let Some(count) = self.count(section)
+            && count.left.fetch_sub(1, Ordering::SeqCst) == 1
+            && libc::isatty(STANDARD_ERROR) == 1
+            && let Ok(line) = line_of(rt.alloc(), count.section)
         {
             let _ = rt.stderr().write_all(line.as_bytes());
         }
     }
 }
 
-// The line of a section that was played.
-fn line_of(alloc: Global, section: &SectionCount<'_>) -> Result<String, AllocError> {
-    let title = escape(alloc, section.title)?;
+fn line_of(alloc: Global, section: &Section) -> Result<String, AllocError> {
+    let title = escape(alloc, section.title.as_slice())?;
     format!(in alloc;
         "distcheck: section {} is played: {title}\n",
         section.number

@@ -1,25 +1,15 @@
 //! Finds the node, the port mapper that is checked, and whoever makes the node dial and starts it.
 
 use crate::calls::CallPlaces;
-use crate::command::{CheckOrder, NamedNode};
+use crate::command::CheckOrder;
 use crate::fault::Fault;
 use dist_epmd_calls::{LookupError, lookup};
+use dist_names::short_part;
 use dist_program::{CONNECT_SECONDS, Resolving, at_port, deadline_in, lookup_host};
 use dist_stream::{DeadlineStream, connect_by};
 use std::io;
 use std::net::SocketAddr;
 use std::time::Duration;
-
-// Who is not reached.
-const NO_NODE: &str = "the node";
-
-const NO_ORDERS: &str = "nobody makes the node dial (bin/make_it_dial)";
-
-/// The same of a port mapper.
-pub const NO_MAPPER: &str = "the port mapper";
-
-/// The same of whoever starts the node.
-pub const NO_START: &str = "nobody starts the node (bin/make_it_dial)";
 
 /// The most reads and writes of a call of the port mapper, if its time is not over before.
 pub const TURNS: usize = 4096;
@@ -33,7 +23,6 @@ pub fn talk_to<'a>(
     connect_by(rt, place, until)
 }
 
-// The addresses of a host.
 fn addresses_of<R: Resolving>(
     rt: &HostRuntime,
     resolver: &R,
@@ -43,38 +32,42 @@ fn addresses_of<R: Resolving>(
     Ok(lookup_host(resolver, *rt, host, limit)?)
 }
 
-// The port of the node: the given one, or else that which the port mapper at this address has for it.
+// The port of this node: the given one, or else that which the port mapper at this address has for it.
 fn port_at(
     rt: &HostRuntime,
     order: &CheckOrder<'_>,
-    node: NamedNode<'_>,
+    node: &str,
     address: &SocketAddr,
 ) -> Result<u16, Fault> {
     if let Some(port) = order.port {
         return Ok(port);
     }
     let Ok(mut stream) = talk_to(rt, &at_port(address, order.mapper_port)) else {
-        return Err(Fault::ConnectFailed(NO_MAPPER));
+        return Err(Fault::ConnectFailed("the port mapper"));
     };
-    match lookup(rt.alloc(), &mut stream, node.short.as_bytes(), TURNS) {
+    match lookup(rt.alloc(), &mut stream, short_part(node.as_bytes()), TURNS) {
         Ok(info) => Ok(info.port),
         Err(LookupError::NoMemory) => Err(Fault::NoMemory),
         Err(error) => Err(Fault::NotFound(error)),
     }
 }
 
-// The place of the node at this address of its host.
+// The place of this node at this address of its host.
 fn place_at(
     rt: &HostRuntime,
     order: &CheckOrder<'_>,
-    node: NamedNode<'_>,
+    node: &str,
     address: &SocketAddr,
 ) -> Result<SocketAddr, Fault> {
     let place = at_port(address, port_at(rt, order, node, address)?);
     match talk_to(rt, &place) {
         Ok(_) => Ok(place),
-        Err(_) => Err(Fault::ConnectFailed(NO_NODE)),
+        Err(_) => Err(Fault::ConnectFailed("the node")),
     }
+}
+
+fn host_of(node: &str) -> &str {
+    node.split_once('@').map_or("", |(_, host)| host)
 }
 
 /// Where the node listens, if one is checked: at the first address of its host at which it is found. The fault is that of the last address.
@@ -86,16 +79,14 @@ pub fn find_node<R: Resolving>(
     let Some(node) = order.node else {
         return Ok(None);
     };
-    let addresses = addresses_of(rt, resolver, node.host)?;
-    let Some((last, others)) = addresses.split_last() else {
-        return Err(Fault::ConnectFailed(NO_NODE));
-    };
-    for address in others {
-        if let Ok(place) = place_at(rt, order, node, address) {
-            return Ok(Some(place));
+    let mut fault = Fault::ConnectFailed("the node");
+    for address in &addresses_of(rt, resolver, host_of(node))? {
+        match place_at(rt, order, node, address) {
+            Ok(place) => return Ok(Some(place)),
+            Err(error) => fault = error,
         }
     }
-    Ok(Some(place_at(rt, order, node, last)?))
+    Err(fault)
 }
 
 /// Where somebody takes connections, if a place is named: at the first address of its host at which anybody does. `missing` is who is not
@@ -109,8 +100,7 @@ pub fn find_place<R: Resolving>(
     let Some((host, port)) = named else {
         return Ok(None);
     };
-    let addresses = addresses_of(rt, resolver, host)?;
-    for address in &addresses {
+    for address in &addresses_of(rt, resolver, host)? {
         let place = at_port(address, port);
         if talk_to(rt, &place).is_ok() {
             return Ok(Some(place));
@@ -129,13 +119,11 @@ pub fn find_call<'a, R: Resolving>(
     let (Some(place), Some(node)) = (place, order.node) else {
         return Ok(None);
     };
-    let orders = find_place(rt, resolver, order.make_it_dial, NO_ORDERS)?;
-    match orders {
-        Some(orders) => Ok(Some(CallPlaces {
-            orders,
-            mapper: at_port(&place, order.mapper_port),
-            host: node.host,
-        })),
-        None => Ok(None),
-    }
+    let missing = "nobody makes the node dial (bin/make_it_dial)";
+    let orders = find_place(rt, resolver, order.make_it_dial, missing)?;
+    Ok(orders.map(|orders| CallPlaces {
+        orders,
+        mapper: at_port(&place, order.mapper_port),
+        host: host_of(node),
+    }))
 }

@@ -1,12 +1,10 @@
 //! What became of each row, and of all of them.
 
 ghost use Rattle.std.specs.Prelude.{◌≡◌, length, filter, map, IfOk, All};
-ghost use Rattle.dist_conformance.specs.Verdicts.{worst_of};
-ghost use Rattle.distcheck.specs.{Played.played_verdict, Played.exit_of, Rows.has_verdict, Rows.IsRow};
+ghost use Rattle.distcheck.specs.{Played.played_verdict, Played.result_of, Played.exit_of, Rows.has_verdict, Rows.IsRow};
 
-use crate::queue::TalkLabel;
-use crate::tries::{PlayedTalk, TalkTry};
-use dist_conformance::{RowResult, TalkVerdict, status, worst};
+use crate::tries::PlayedTalk;
+use dist_conformance::{RowResult, Section, TalkVerdict, status, worst};
 use std::alloc::{AllocError, Global};
 
 /// The verdicts, in the order in which they are counted.
@@ -30,49 +28,17 @@ pub struct PlayedRow<'a> {
     pub result: RowResult,
 }
 
-// The verdicts of these talks.
-fn verdicts_of(alloc: Global, talks: &[PlayedTalk<'_>]) -> Result<Vec<TalkVerdict>, AllocError>
-    ensures { IfOk result (λ vs. vs.items ≡ map played_verdict talks.now) }
-{
-    talks.iter().map(|talk| talk.verdict()).collect(alloc)
-}
-
-// The first of these talks that has this verdict, or this one.
-fn first_with<'a>(
-    talks: &'a [PlayedTalk<'a>],
-    verdict: TalkVerdict,
-    first: &'a PlayedTalk<'a>,
-) -> &'a PlayedTalk<'a> {
-    talks
-        .iter()
-        .find(|talk| talk.verdict() == verdict)
-        .unwrap_or(first)
-}
-
 impl<'a> PlayedRow<'a> {
-    // The row of these talks, of which this is the first.
-    fn of(
-        alloc: Global,
-        talks: &'a [PlayedTalk<'a>],
-        first: &'a PlayedTalk<'a>,
-    ) -> Result<PlayedRow<'a>, AllocError>
-        ensures { IfOk result (λ row. (row.talks.now ≡ talks.now) × IsRow row) }
-    {
-        let verdict = worst(&verdicts_of(alloc, talks)?);
-        Ok(PlayedRow {
-            talks,
-            shown: first_with(talks, verdict, first),
-            result: RowResult {
-                level: first.talk.label.level,
-                verdict,
-            },
-        })
+    /// Its id.
+    pub fn id(&self) -> &'a [u8] {
+        let shown = self.shown;
+        shown.queued.row.id.as_slice()
     }
 
-    /// What is printed of the talk that is shown.
-    pub fn shown_label(&self) -> TalkLabel<'a> {
+    /// Its section.
+    pub fn section(&self) -> &'a Section {
         let shown = self.shown;
-        shown.talk.label
+        &shown.queued.file.section
     }
 
     /// How many of its talks have its verdict.
@@ -83,11 +49,30 @@ impl<'a> PlayedRow<'a> {
             .filter(|talk| talk.verdict() == verdict)
             .count()
     }
+}
 
-    /// The try that shows its verdict.
-    pub fn shown_try(&self) -> Option<&'a TalkTry> {
-        self.shown.telling_try()
-    }
+fn verdicts_of(alloc: Global, talks: &[PlayedTalk<'_>]) -> Result<Vec<TalkVerdict>, AllocError>
+    ensures { IfOk result (λ vs. vs.items ≡ map played_verdict talks.now) }
+{
+    talks.iter().map(|talk| talk.verdict()).collect(alloc)
+}
+
+// The row of these talks, of which this is the first.
+fn row_of<'a>(
+    alloc: Global,
+    talks: &'a [PlayedTalk<'a>],
+    first: &'a PlayedTalk<'a>,
+) -> Result<PlayedRow<'a>, AllocError>
+    ensures { IfOk result (λ row. (row.talks.now ≡ talks.now) × IsRow row) }
+{
+    let level = first.queued.level;
+    let verdict = worst(&verdicts_of(alloc, talks)?);
+    let shown = talks.iter().find(|talk| talk.verdict() == verdict);
+    Ok(PlayedRow {
+        talks,
+        shown: shown.unwrap_or(first),
+        result: RowResult { level, verdict },
+    })
 }
 
 /// How many of these rows have this verdict.
@@ -107,24 +92,32 @@ pub fn rows_of<'a>(
     ensures rows { IfOk result (λ rows. All IsRow rows.items) }
 {
     let mut rows = Vec::new(alloc);
-    for talks in played.chunk_by(|one, other| one.talk.label.row == other.talk.label.row) {
+    for talks in played.chunk_by(|one, other| one.queued.row.id == other.queued.row.id) {
         if let Some(first) = talks.first() {
-            rows.push(PlayedRow::of(alloc, talks, first)?)?;
+            rows.push(row_of(alloc, talks, first)?)?;
         }
     }
     Ok(rows)
+}
+
+fn result_of(played: &PlayedTalk<'_>) -> RowResult
+    ensures { result ≡ result_of played.now }
+{
+    RowResult {
+        level: played.queued.level,
+        verdict: played.verdict(),
+    }
+}
+
+fn results_of(alloc: Global, played: &[PlayedTalk<'_>]) -> Result<Vec<RowResult>, AllocError>
+    ensures { IfOk result (λ rs. rs.items ≡ map result_of played.now) }
+{
+    played.iter().map(|talk| result_of(talk)).collect(alloc)
 }
 
 /// The exit status, by these talks. With `strict` every level counts.
 pub fn exit_of(alloc: Global, played: &[PlayedTalk<'_>], strict: bool) -> Result<u8, AllocError>
     ensures { IfOk result (λ exit. exit ≡ exit_of strict played.now) }
 {
-    let mut results = Vec::new(alloc);
-    for talk in played {
-        results.push(RowResult {
-            level: talk.talk.label.level,
-            verdict: talk.verdict(),
-        })?;
-    }
-    Ok(status(&results, strict))
+    Ok(status(&results_of(alloc, played)?, strict))
 }

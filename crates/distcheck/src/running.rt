@@ -1,17 +1,15 @@
 //! Plays all talks: those that are played first, then the others beside one another, then those that are played alone; and at the end
 //! once more alone what deviates.
 
-ghost use Rattle.std.specs.Prelude.{◌≡◌, ◌++◌, IfOk, OnOk};
+ghost use Rattle.std.specs.Prelude.{◌≡◌, ◌++◌, IfOk, OnOk, IsPermutation};
 ghost use Rattle.distcheck.specs.{Lanes.all_in, Lanes.lane_at, Lanes.lanes_in, Lanes.lanes_of, Lanes.queued_talks, Played.talks_of, Trying.try_verdict};
 
 use crate::fault::Fault;
 use crate::lane::LaneReply;
 use crate::playing::{Setting, leave_out, play};
-use crate::progress::SectionTally;
 use crate::queue::{QueuedTalk, TalkQueue};
 use crate::tries::{PlayedTalk, TalkTry};
-use dist_conformance::{Level, TalkVerdict};
-use std::alloc::AllocError;
+use dist_conformance::{Level, SectionKind, TalkVerdict};
 use std::sync::atomic::{AtomicBool, AtomicUsize, Ordering};
 use std::thread::{Threads, map_indices, sleep};
 use std::time::Duration;
@@ -33,7 +31,6 @@ struct PartnerTally {
 }
 
 impl PartnerTally {
-    // Nothing was played yet.
     fn new() -> PartnerTally {
         PartnerTally {
             is_heard: AtomicBool::new(false),
@@ -41,7 +38,6 @@ impl PartnerTally {
         }
     }
 
-    // Whether any talk heard something.
     fn is_heard(&self) -> bool {
         self.is_heard.load(Ordering::SeqCst)
     }
@@ -51,11 +47,10 @@ impl PartnerTally {
         !self.is_heard() && self.silent.load(Ordering::SeqCst) >= talks
     }
 
-    // Counts a try.
-    fn note(&self, one: &TalkTry, verdict: TalkVerdict) {
+    fn note(&self, one: &TalkTry) {
         if one.is_heard() {
             self.is_heard.store(true, Ordering::SeqCst);
-        } else if is_bad(verdict) {
+        } else if is_bad(one.verdict) {
             self.silent.fetch_add(1, Ordering::SeqCst);
         }
     }
@@ -72,7 +67,6 @@ struct TalkCrew<'a> {
     is_gone: AtomicBool,
     node: PartnerTally,
     mapper: PartnerTally,
-    progress: SectionTally<'a>,
 }
 
 /// What became of all talks.
@@ -80,6 +74,8 @@ struct TalkCrew<'a> {
 pub struct PlayedSuite<'a> {
     /// The talks, in their order.
     pub talks: Vec<PlayedTalk<'a>>,
+    /// How many rows there are for what is checked, those among them that were not asked for.
+    pub rows: usize,
     /// Whether the node takes one handshake at a time, so that the others were played one after the other.
     pub is_one_at_a_time: bool,
 }
@@ -90,65 +86,60 @@ fn is_bad(verdict: TalkVerdict) -> bool {
 }
 
 // Plays a talk; anew, where its bytes cannot be said.
-fn play_anew<'a>(
-    setting: &Setting<'a>,
-    talk: &QueuedTalk<'a>,
-) -> Result<(TalkTry, TalkVerdict), Fault>
-    ensures { IfOk result (λ it. it.1 ≡ try_verdict talk.now it.0.played.items) }
+fn play_anew<'a>(setting: &Setting<'a>, queued: &QueuedTalk<'a>) -> Result<TalkTry, Fault>
+    ensures { IfOk result (λ one. one.verdict ≡ try_verdict queued.now one.played.items) }
 {
-    for _ in 1..talk.tries {
-        let (one, verdict) = play(setting, talk)?;
+    for _ in 1..queued.row.marks.tries {
+        let one = play(setting, queued)?;
         if !one.is_unsaid() {
-            return Ok((one, verdict));
+            return Ok(one);
         }
     }
-    play(setting, talk)
+    play(setting, queued)
 }
 
 impl<'a> TalkCrew<'a> {
     // Whether the partner of a talk lets hear of itself.
-    fn partner(&self, talk: &QueuedTalk<'_>) -> &PartnerTally {
-        if talk.is_of_mapper {
-            &self.mapper
-        } else {
-            &self.node
+    fn partner(&self, queued: &QueuedTalk<'_>) -> &PartnerTally {
+        match queued.file.section.kind {
+            SectionKind::Node => &self.node,
+            SectionKind::Mapper => &self.mapper,
         }
     }
 
     // Why a talk is not played, if it is not.
-    fn reason_to_skip(&self, talk: &QueuedTalk<'_>) -> Option<&'static str> {
+    fn reason_to_skip(&self, queued: &QueuedTalk<'_>) -> Option<&'static str> {
         let silent = if self.is_serial { SILENT_ALONE } else { SILENT };
-        if talk.skipped.is_some() {
-            talk.skipped
+        if queued.skipped.is_some() {
+            queued.skipped
         } else if self.is_gone.load(Ordering::SeqCst) {
             Some("nobody listens any more")
-        } else if self.partner(talk).is_silent(silent) {
+        } else if self.partner(queued).is_silent(silent) {
             Some("nothing came in any talk")
         } else {
             None
         }
     }
 
-    // Plays a talk once more.
     fn play_again(&self, played: PlayedTalk<'a>) -> Result<PlayedTalk<'a>, Fault>
-        ensures { IfOk result (λ it. it.talk ≡ played.entry.talk) }
+        ensures { IfOk result (λ it. it.queued ≡ played.entry.queued) }
     {
-        let talk = played.talk;
-        let (one, verdict) = play_anew(&self.setting, &talk)?;
-        self.partner(&talk).note(&one, verdict);
+        let queued = played.queued;
+        let one = play_anew(&self.setting, &queued)?;
+        self.partner(&queued).note(&one);
         if one.is_refused() {
             self.is_gone.store(true, Ordering::SeqCst);
         }
-        Ok(played.with(one, verdict)?)
+        Ok(played.with(one)?)
     }
 
     // Plays a talk twice, if a second try may come to more. As long as nothing was ever heard it does not.
     fn play_twice(&self, played: PlayedTalk<'a>) -> Result<PlayedTalk<'a>, Fault>
-        ensures { IfOk result (λ it. it.talk ≡ played.entry.talk) }
+        ensures { IfOk result (λ it. it.queued ≡ played.entry.queued) }
     {
         let played = self.play_again(played)?;
         let is_gone = self.is_gone.load(Ordering::SeqCst);
-        if is_gone || !is_bad(played.last_verdict()) || !self.partner(&played.talk).is_heard() {
+        if is_gone || !is_bad(played.last_verdict()) || !self.partner(&played.queued).is_heard() {
             return Ok(played);
         }
         sleep(self.setting.rt, Duration::from_millis(BREATH));
@@ -156,33 +147,28 @@ impl<'a> TalkCrew<'a> {
     }
 
     // Plays a talk, or leaves it out.
-    fn perform(&self, talk: &QueuedTalk<'a>) -> Result<PlayedTalk<'a>, Fault>
-        ensures { IfOk result (λ it. it.talk ≡ talk.now) }
+    fn perform(&self, queued: &QueuedTalk<'a>) -> Result<PlayedTalk<'a>, Fault>
+        ensures { IfOk result (λ it. it.queued ≡ queued.now) }
     {
         let alloc = self.setting.rt.alloc();
-        let played = PlayedTalk::new(alloc, talk);
-        match self.reason_to_skip(talk) {
-            Some(why) => {
-                let (one, verdict) = leave_out(alloc, talk, why)?;
-                Ok(played.with(one, verdict)?)
-            }
+        let played = PlayedTalk::new(alloc, queued);
+        match self.reason_to_skip(queued) {
+            Some(why) => Ok(played.with(leave_out(alloc, queued, why)?)?),
             None => self.play_twice(played),
         }
     }
 
-    // Plays these talks, one after the other.
     fn play_lane(&self, lane: &[QueuedTalk<'a>]) -> Result<Vec<PlayedTalk<'a>>, Fault>
         ensures { IfOk result (λ ps. talks_of ps.items ≡ lane.now) }
     {
         let mut played = Vec::new(self.setting.rt.alloc());
-        for talk in lane {
-            played.push(self.perform(talk)?)?;
-            self.progress.note(self.setting.rt, &talk.label);
+        for queued in lane {
+            played.push(self.perform(queued)?)?;
+            self.queue.tally.note(self.setting.rt, &queued.file.section);
         }
         Ok(played)
     }
 
-    // Plays the lane at this place.
     fn make_reply(&self, place: usize) -> LaneReply<'a>
         ensures { result.lane.now ≡ lane_at self.now.queue.now.lanes.items place }
     {
@@ -213,43 +199,35 @@ impl<'a> TalkCrew<'a> {
         Ok(replies)
     }
 
-    // Plays all lanes one after the other.
-    fn play_in_turn(&self) -> Result<Vec<LaneReply<'a>>, Fault>
+    // Plays all lanes: beside one another, or one after the other.
+    fn play_lanes<R: Threads + Sync>(&self, threads: &R) -> Result<Vec<LaneReply<'a>>, Fault>
         ensures { IfOk result (λ replies. lanes_in replies.items ≡ lanes_of self.now.queue.now.lanes.items) }
     {
+        if !self.is_serial {
+            return self.play_beside(threads);
+        }
         let queue: &'a TalkQueue<'a> = self.queue;
         let mut replies = Vec::new(self.setting.rt.alloc());
         for lane in &queue.lanes {
-            replies.push(LaneReply {
-                lane,
-                played: self.play_lane(lane),
-            })?;
+            let played = self.play_lane(lane);
+            replies.push(LaneReply { lane, played })?;
         }
         Ok(replies)
     }
 
-    // Plays all lanes.
-    fn play_lanes<R: Threads + Sync>(&self, threads: &R) -> Result<Vec<LaneReply<'a>>, Fault>
-        ensures { IfOk result (λ replies. lanes_in replies.items ≡ lanes_of self.now.queue.now.lanes.items) }
-    {
-        if self.is_serial {
-            self.play_in_turn()
-        } else {
-            self.play_beside(threads)
-        }
-    }
-
     // Plays a talk alone that deviates beside others: it deviates only if it does so twice.
     fn confirm(&self, played: PlayedTalk<'a>) -> Result<PlayedTalk<'a>, Fault>
-        ensures { IfOk result (λ it. it.talk ≡ played.entry.talk) }
+        ensures { IfOk result (λ it. it.queued ≡ played.entry.queued) }
     {
-        let talk = played.talk;
+        let queued = played.queued;
+        let marks = &queued.row.marks;
         let is_settled = played.verdict() != TalkVerdict::Deviates
-            || matches!(talk.label.level, Level::May)
-            || talk.is_alone
+            || matches!(queued.level, Level::May)
+            || marks.alone
+            || marks.first
             || self.is_serial
             || self.is_gone.load(Ordering::SeqCst)
-            || !self.partner(&talk).is_heard();
+            || !self.partner(&queued).is_heard();
         if is_settled {
             return Ok(played);
         }
@@ -265,25 +243,25 @@ impl<'a> TalkCrew<'a> {
         }
     }
 
-    // Has what deviates verdict_alone. In a row of which one talk deviates for good the others are not played again.
+    // Has what deviates confirmed. In a row of which one talk deviates for good the others are not played again.
     fn confirm_all(&self, talks: Vec<PlayedTalk<'a>>) -> Result<Vec<PlayedTalk<'a>>, Fault>
         ensures { IfOk result (λ ps. talks_of ps.items ≡ talks_of talks.entry.items) }
     {
-        let mut verdict_alone = Vec::new(self.setting.rt.alloc());
+        let mut confirmed = Vec::new(self.setting.rt.alloc());
         let mut deviating: &'a [u8] = &[];
         for played in talks {
-            let row = played.talk.label.row;
+            let row = played.queued.row.id.as_slice();
             let played = if row == deviating {
                 played
             } else {
                 self.confirm(played)?
             };
-            if played.verdicts.len() > 2 && played.verdict() == TalkVerdict::Deviates {
+            if played.tries.len() > 2 && played.verdict() == TalkVerdict::Deviates {
                 deviating = row;
             }
-            verdict_alone.push(played)?;
+            confirmed.push(played)?;
         }
-        Ok(verdict_alone)
+        Ok(confirmed)
     }
 }
 
@@ -317,19 +295,22 @@ impl<'a> TalkCrew<'a> {
         talks.append(&mut self.play_lane(&queue.alone)?)?;
         Ok(PlayedSuite {
             talks: self.confirm_all(talks)?,
+            rows: queue.rows,
             is_one_at_a_time: is_held_up && self.node.is_heard(),
         })
     }
 }
 
 /// Plays all talks, each once, and returns what became of each, in their order.
+#[tactic(auto, using(crate::proofs::Order::sorted_talks))]
 pub fn run_talks<'a, R: Threads + Sync>(
     threads: &R,
     setting: &Setting<'a>,
     queue: &'a TalkQueue<'a>,
     is_serial: bool,
-) -> Result<PlayedSuite<'a>, Fault> {
-    let alloc = setting.rt.alloc();
+) -> Result<PlayedSuite<'a>, Fault>
+    ensures { IfOk result (λ suite. IsPermutation (queued_talks queue.now) (talks_of suite.talks.items)) }
+{
     let mut crew = TalkCrew {
         setting: *setting,
         queue,
@@ -337,9 +318,8 @@ pub fn run_talks<'a, R: Threads + Sync>(
         is_gone: AtomicBool::new(false),
         node: PartnerTally::new(),
         mapper: PartnerTally::new(),
-        progress: SectionTally::of(alloc, queue)?,
     };
     let mut suite = crew.play_all(threads)?;
-    suite.talks.sort_by_key(|played| played.talk.label.place)?;
+    suite.talks.sort_by_key(|played| played.queued.place)?;
     Ok(suite)
 }

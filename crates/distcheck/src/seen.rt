@@ -1,10 +1,8 @@
 //! What is seen in the steps of a talk.
 
-ghost use Rattle.std.specs.Prelude.{◌≡◌, if◌then◌else◌};
+ghost use Rattle.std.specs.Prelude.{◌≡◌};
 ghost use Rattle.distcheck.specs.Seeing.{end_of};
-ghost use Rattle.dist_conformance.specs.declared.verdicts.TalkVerdict.TheVariants as verdict;
 
-use dist_conformance::TalkVerdict;
 use dist_names::ByteString;
 
 /// What became of the peer's side of a connection.
@@ -59,15 +57,6 @@ pub struct HeardBytes {
     pub timing: Timing,
 }
 
-/// Why a step was not made.
-#[derive(Clone, Copy)]
-pub struct Obstacle {
-    /// In words.
-    pub why: &'static str,
-    /// Whether nothing was tried, and the talk is skipped. Otherwise it is blocked.
-    pub is_skipped: bool,
-}
-
 /// What is seen in a step.
 #[derive(Drop)]
 pub enum StepFact {
@@ -83,8 +72,10 @@ pub enum StepFact {
     Refused,
     /// The message has no more bytes than the step cuts it to.
     Unsaid,
-    /// The step was not made.
-    Stopped(Obstacle),
+    /// Nothing was tried, for this reason: the talk is skipped.
+    Untried(&'static str),
+    /// The step was not made, for this reason: the talk is blocked.
+    Failed(&'static str),
 }
 
 /// A step that was played.
@@ -94,27 +85,4 @@ pub struct PlayedStep {
     pub at: u32,
     /// What was seen.
     pub seen: StepFact,
-}
-
-impl PlayedStep {
-    /// Whether the peer let hear of itself: by a byte, or by an end.
-    pub fn is_heard(&self) -> bool {
-        match &self.seen {
-            StepFact::Heard(heard) => !heard.bytes.is_empty() || heard.timing.end.is_over(),
-            _ => false,
-        }
-    }
-}
-
-impl Obstacle {
-    /// The verdict of a talk that ends by it.
-    pub fn verdict(self) -> TalkVerdict
-        ensures { result ≡ (if self.is_skipped then verdict.Skipped else verdict.Blocked) }
-    {
-        if self.is_skipped {
-            TalkVerdict::Skipped
-        } else {
-            TalkVerdict::Blocked
-        }
-    }
 }

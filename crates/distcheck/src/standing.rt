@@ -2,11 +2,11 @@
 
 ghost use Rattle.std.specs.Prelude.{◌≡◌, [], OnOk, IfOk, option_map};
 ghost use Rattle.distcheck.specs.Playing.{standing_of, beginning, ends_by, with_left, came_on, observation_in, passes, is_due};
-ghost use Rattle.distcheck.specs.Playing.{by_judgement, by_demand, after_hearing, after_saying, after_making, after, next, verdict_in};
+ghost use Rattle.distcheck.specs.Playing.{by_demand, after_hearing, after_saying, after_making, next, verdict_in};
 ghost use Rattle.dist_conformance.specs.Judging.{judgement_of};
 ghost use Rattle.dist_conformance.specs.declared.verdicts.TalkVerdict.TheVariants as verdict;
 
-use crate::seen::{HeardBytes, StepFact, Timing};
+use crate::seen::{HeardBytes, PeerEnd, StepFact, Timing};
 use crate::transcript::{digits_of, letter_of};
 use dist_conformance::{
     Action, Demand, Judgement, Learned, Observed, Passage, TalkStep, TalkVerdict, bytes_to_say,
@@ -27,7 +27,9 @@ pub struct JudgingTerms<'a> {
 
 /// How a talk stands.
 #[derive(Drop)]
-pub struct TalkState {
+pub struct TalkState<'a> {
+    /// By what it is judged.
+    pub terms: JudgingTerms<'a>,
     /// The verdict so far, or the one by which it ended.
     pub verdict: TalkVerdict,
     /// Whether it ended.
@@ -43,10 +45,12 @@ pub struct TalkState {
 // Where what was seen is none that the step can show.
 const NOT_MADE: &str = "the step was not made";
 
-impl TalkState {
+const UNSAID: &str = "the message has no more bytes than that";
+
+impl<'a> TalkState<'a> {
     /// That of a talk before its first step.
-    pub fn new(alloc: Global) -> Result<TalkState, AllocError>
-        ensures { IfOk result (λ s. standing_of s ≡ beginning) }
+    pub fn new(alloc: Global, terms: JudgingTerms<'a>) -> Result<TalkState<'a>, AllocError>
+        ensures { IfOk result (λ s. standing_of s ≡ beginning terms.entry) }
     {
         let mut left = Vec::new(alloc);
         left.push(ByteString::new(alloc))?;
@@ -55,6 +59,7 @@ impl TalkState {
         left.push(ByteString::new(alloc))?;
         left.push(ByteString::new(alloc))?;
         Ok(TalkState {
+            terms,
             verdict: TalkVerdict::Kept,
             is_over: false,
             learned: Vec::new(alloc),
@@ -63,7 +68,6 @@ impl TalkState {
         })
     }
 
-    // Ends the talk, for this reason.
     fn end(&mut self, verdict: TalkVerdict, why: &str) -> Result<(), AllocError>
         ensures { OnOk result (standing_of self.new ≡ ends_by verdict (standing_of self.old)) }
     {
@@ -74,8 +78,7 @@ impl TalkState {
 
     // Leaves nothing but these bytes of a connection.
     fn leave(&mut self, conn: u8, bytes: Vec<u8>)
-        ensures left { self.new.left.items ≡ with_left conn bytes.items self.old.left.items }
-        ensures rest { (self.new.verdict ≡ self.old.verdict) × (self.new.is_over ≡ self.old.is_over) × (self.new.learned ≡ self.old.learned) }
+        ensures { standing_of self.new ≡ record (standing_of self.old) { left = with_left conn bytes.items (standing_of self.old).left } }
     {
         let conn = usize::from(conn);
         if conn < self.left.len() {
@@ -84,26 +87,20 @@ impl TalkState {
     }
 
     /// All that came on a connection and was not matched yet, where this came last.
-    pub fn came_on(&self, alloc: Global, conn: u8, bytes: &[u8]) -> Result<Vec<u8>, AllocError>
+    pub fn came_on(&self, conn: u8, bytes: &[u8]) -> Result<Vec<u8>, AllocError>
         ensures { IfOk result (λ came. came.items ≡ came_on (standing_of self.now) conn bytes.now) }
     {
-        let mut came = match self.left.get(usize::from(conn)) {
-            Some(left) => Vec::from_slice(alloc, left.as_slice())?,
-            None => Vec::new(alloc),
-        };
+        let mut came = Vec::new(*self.left.allocator());
+        if let Some(left) = self.left.get(usize::from(conn)) {
+            came.extend_from_slice(left.as_slice())?;
+        }
         came.extend_from_slice(bytes)?;
         Ok(came)
     }
 
     /// What a demand comes to by this, which came.
-    pub fn judgement(
-        &self,
-        terms: &JudgingTerms<'_>,
-        demand: &Demand,
-        came: &[u8],
-        timing: Timing,
-    ) -> Judgement
-        ensures { result ≡ judgement_of demand.now (observation_in terms.now (standing_of self.now).learned came.now timing) }
+    pub fn judgement(&self, demand: &Demand, came: &[u8], timing: Timing) -> Judgement
+        ensures { result ≡ judgement_of demand.now (observation_in (standing_of self.now) came.now timing) }
     {
         judge(
             demand,
@@ -112,94 +109,66 @@ impl TalkState {
                 ended: timing.end.is_over(),
                 elapsed: timing.elapsed,
                 pause: timing.pause,
-                limit: terms.limit,
+                limit: self.terms.limit,
                 learned: &self.learned,
-                cookie: terms.cookie,
+                cookie: self.terms.cookie,
             },
         )
     }
 
     // Lets what matched through, and keeps what was learned from it.
-    fn pass(
-        &mut self,
-        alloc: Global,
-        conn: u8,
-        came: &[u8],
-        passage: &Passage,
-    ) -> Result<(), AllocError>
+    fn pass(&mut self, conn: u8, came: &[u8], passage: &Passage) -> Result<(), AllocError>
         ensures { OnOk result (standing_of self.new ≡ passes conn came.now passage.now (standing_of self.old)) }
     {
         if let Some(learned) = passage.learned(conn) {
             self.learned.push(learned)?;
         }
         let count = passage.count.min(came.len());
-        self.leave(conn, Vec::from_slice(alloc, &came[count..])?);
+        let left = Vec::from_slice(*self.left.allocator(), &came[count..])?;
+        self.leave(conn, left);
         Ok(())
     }
 
-    // Takes the judgement of what came. Unless it is kept or loose the talk ends by this verdict.
-    #[tactic(auto, unfolding(crate::specs::Playing::by_judgement))]
-    fn take_judgement(
-        &mut self,
-        alloc: Global,
-        verdict: TalkVerdict,
-        conn: u8,
-        came: &[u8],
-        judgement: Judgement,
-        why: &str,
-    ) -> Result<(), AllocError>
-        ensures { OnOk result (standing_of self.new ≡ by_judgement verdict conn came.now judgement (standing_of self.old)) }
-    {
-        match judgement {
-            Judgement::Kept(passage) => self.pass(alloc, conn, came, &passage),
-            Judgement::Loose(passage) => {
-                self.verdict = TalkVerdict::Loose;
-                self.why.push_str(why)?;
-                self.pass(alloc, conn, came, &passage)
-            }
-            Judgement::Deviates(_) | Judgement::More => self.end(verdict, why),
-        }
-    }
-
-    // Has what came in a step that demands something judged.
-    #[tactic(auto, unfolding(crate::specs::Playing::by_demand))]
+    // Has what came in a step that demands something judged. Unless it is kept or loose the talk ends by this verdict.
+    #[tactic(auto, unfolding(crate::specs::Playing::by_demand, crate::specs::Playing::by_judgement))]
     fn take_demand(
         &mut self,
-        alloc: Global,
-        terms: &JudgingTerms<'_>,
         verdict: TalkVerdict,
         conn: u8,
         demand: &Demand,
         heard: &HeardBytes,
     ) -> Result<(), AllocError>
-        ensures { OnOk result (standing_of self.new ≡ by_demand terms.now verdict conn demand.now heard.now (standing_of self.old)) }
+        ensures { OnOk result (standing_of self.new ≡ by_demand verdict conn demand.now heard.now (standing_of self.old)) }
     {
-        let came = self.came_on(alloc, conn, heard.bytes.as_slice())?;
-        let judgement = self.judgement(terms, demand, &came, heard.timing);
-        let is_late = terms.limit <= heard.timing.elapsed;
-        let why = reason(
-            alloc,
-            judgement,
-            conn,
-            &came,
-            heard.timing.end.text(),
-            is_late,
-        )?;
-        self.take_judgement(alloc, verdict, conn, &came, judgement, &why)
+        let came = self.came_on(conn, heard.bytes.as_slice())?;
+        let judgement = self.judgement(demand, &came, heard.timing);
+        let is_late = self.terms.limit <= heard.timing.elapsed;
+        let alloc = *self.left.allocator();
+        let why = reason(alloc, judgement, conn, &came, heard.timing.end, is_late)?;
+        match judgement {
+            Judgement::Kept(passage) => self.pass(conn, &came, &passage),
+            Judgement::Loose(passage) => {
+                self.verdict = TalkVerdict::Loose;
+                self.why.push_str(&why)?;
+                self.pass(conn, &came, &passage)
+            }
+            Judgement::Deviates(_) | Judgement::More => self.end(verdict, &why),
+        }
     }
 
     // Notes what came in a step that tells.
-    fn tell(&mut self, alloc: Global, conn: u8, heard: &HeardBytes) -> Result<(), AllocError>
+    fn tell(&mut self, conn: u8, heard: &HeardBytes) -> Result<(), AllocError>
         ensures { OnOk result (standing_of self.new ≡ record (standing_of self.old) {
           verdict = verdict.Noted;
           left = with_left conn [] (standing_of self.old).left;
         }) }
     {
-        let came = self.came_on(alloc, conn, heard.bytes.as_slice())?;
+        let came = self.came_on(conn, heard.bytes.as_slice())?;
         if !self.why.is_empty() {
             self.why.push_str("; ")?;
         }
-        let told = description(alloc, conn, &came, heard.timing.end.text(), true)?;
+        let alloc = *self.left.allocator();
+        let told = description(alloc, conn, &came, heard.timing.end, true)?;
         self.why.push_str(&told)?;
         self.leave(conn, Vec::new(alloc));
         self.verdict = TalkVerdict::Noted;
@@ -208,43 +177,31 @@ impl TalkState {
 
     // Takes what came in a step.
     #[tactic(auto, unfolding(crate::specs::Playing::after_hearing))]
-    fn take_heard(
-        &mut self,
-        alloc: Global,
-        terms: &JudgingTerms<'_>,
-        step: &TalkStep,
-        heard: &HeardBytes,
-    ) -> Result<(), AllocError>
-        ensures { OnOk result (standing_of self.new ≡ after_hearing terms.now step.now.conn step.now.action heard.now (standing_of self.old)) }
+    fn take_heard(&mut self, step: &TalkStep, heard: &HeardBytes) -> Result<(), AllocError>
+        ensures { OnOk result (standing_of self.new ≡ after_hearing step.now.conn step.now.action heard.now (standing_of self.old)) }
     {
-        let conn = step.conn;
         match &step.action {
             Action::Hear(demand) => {
-                self.take_demand(alloc, terms, TalkVerdict::Blocked, conn, demand, heard)
+                self.take_demand(TalkVerdict::Blocked, step.conn, demand, heard)
             }
             Action::Want(demand) => {
-                self.take_demand(alloc, terms, TalkVerdict::Deviates, conn, demand, heard)
+                self.take_demand(TalkVerdict::Deviates, step.conn, demand, heard)
             }
-            Action::Tell(_) => self.tell(alloc, conn, heard),
+            Action::Tell(_) => self.tell(step.conn, heard),
             _ => self.end(TalkVerdict::Blocked, NOT_MADE),
         }
     }
 
     // Takes what was said in a step.
     #[tactic(auto, unfolding(crate::specs::Playing::after_saying))]
-    fn take_said(
-        &mut self,
-        alloc: Global,
-        terms: &JudgingTerms<'_>,
-        step: &TalkStep,
-        said: &[u8],
-    ) -> Result<(), AllocError>
-        ensures { OnOk result (standing_of self.new ≡ after_saying terms.now step.now.conn step.now.action said.now (standing_of self.old)) }
+    fn take_said(&mut self, step: &TalkStep, said: &[u8]) -> Result<(), AllocError>
+        ensures { OnOk result (standing_of self.new ≡ after_saying step.now.conn step.now.action said.now (standing_of self.old)) }
     {
         let Action::Say(saying) = &step.action else {
             return self.end(TalkVerdict::Blocked, NOT_MADE);
         };
-        let due = bytes_to_say(alloc, saying, step.conn, &self.learned, terms.cookie)?;
+        let alloc = *self.left.allocator();
+        let due = bytes_to_say(alloc, saying, step.conn, &self.learned, self.terms.cookie)?;
         if is_due(due.as_ref(), said) {
             Ok(())
         } else {
@@ -254,7 +211,7 @@ impl TalkState {
 
     // Takes that a step was made.
     #[tactic(auto, unfolding(crate::specs::Playing::after_making))]
-    fn take_made(&mut self, alloc: Global, step: &TalkStep) -> Result<(), AllocError>
+    fn take_made(&mut self, step: &TalkStep) -> Result<(), AllocError>
         ensures { OnOk result (standing_of self.new ≡ after_making step.now.conn step.now.action (standing_of self.old)) }
     {
         match &step.action {
@@ -263,52 +220,30 @@ impl TalkState {
             }
             Action::Half | Action::Close | Action::Reset | Action::Wait(_) => Ok(()),
             _ => {
+                let alloc = *self.left.allocator();
                 self.leave(step.conn, Vec::new(alloc));
                 Ok(())
             }
         }
     }
 
-    // Takes what was seen in a step of a talk that is not over.
-    #[tactic(auto, unfolding(crate::specs::Playing::after))]
-    fn go_on(
-        &mut self,
-        alloc: Global,
-        terms: &JudgingTerms<'_>,
-        step: &TalkStep,
-        seen: &StepFact,
-    ) -> Result<(), AllocError>
-        ensures { OnOk result (standing_of self.new ≡ after terms.now step.now seen.now (standing_of self.old)) }
-    {
-        match seen {
-            StepFact::Made => self.take_made(alloc, step),
-            StepFact::Said(said, _) => self.take_said(alloc, terms, step, said.as_slice()),
-            StepFact::Heard(heard) => self.take_heard(alloc, terms, step, heard),
-            StepFact::Came => self.end(TalkVerdict::Deviates, "the node connects"),
-            StepFact::Refused => self.end(TalkVerdict::Blocked, "no connection was taken"),
-            StepFact::Unsaid => self.end(
-                TalkVerdict::Skipped,
-                "the message has no more bytes than that",
-            ),
-            StepFact::Stopped(obstacle) => self.end(obstacle.verdict(), obstacle.why),
-        }
-    }
-
-    /// Takes what was seen in a step.
-    #[tactic(auto, unfolding(crate::specs::Playing::next))]
-    pub fn take(
-        &mut self,
-        alloc: Global,
-        terms: &JudgingTerms<'_>,
-        step: &TalkStep,
-        seen: &StepFact,
-    ) -> Result<(), AllocError>
-        ensures { OnOk result (standing_of self.new ≡ next terms.now step.now seen.now (standing_of self.old)) }
+    /// Takes what was seen in a step, unless the talk is over.
+    #[tactic(auto, unfolding(crate::specs::Playing::next, crate::specs::Playing::after))]
+    pub fn take(&mut self, step: &TalkStep, seen: &StepFact) -> Result<(), AllocError>
+        ensures { OnOk result (standing_of self.new ≡ next step.now seen.now (standing_of self.old)) }
     {
         if self.is_over {
-            Ok(())
-        } else {
-            self.go_on(alloc, terms, step, seen)
+            return Ok(());
+        }
+        match seen {
+            StepFact::Made => self.take_made(step),
+            StepFact::Said(said, _) => self.take_said(step, said.as_slice()),
+            StepFact::Heard(heard) => self.take_heard(step, heard),
+            StepFact::Came => self.end(TalkVerdict::Deviates, "the node connects"),
+            StepFact::Refused => self.end(TalkVerdict::Blocked, "no connection was taken"),
+            StepFact::Unsaid => self.end(TalkVerdict::Skipped, UNSAID),
+            StepFact::Untried(why) => self.end(TalkVerdict::Skipped, why),
+            StepFact::Failed(why) => self.end(TalkVerdict::Blocked, why),
         }
     }
 
@@ -324,7 +259,6 @@ impl TalkState {
     }
 }
 
-// Whether these bytes are what is due.
 fn is_due(due: Option<&Vec<u8>>, said: &[u8]) -> bool
     ensures { result ≡ is_due (option_map (λ bytes. bytes.now.items) due.entry) said.now }
 {
@@ -340,7 +274,7 @@ fn reason(
     judgement: Judgement,
     conn: u8,
     came: &[u8],
-    end: &'static str,
+    end: PeerEnd,
     is_late: bool,
 ) -> Result<String, AllocError> {
     let word = match judgement {
@@ -348,8 +282,8 @@ fn reason(
         Judgement::Loose(_) => "loose",
         Judgement::Kept(_) | Judgement::More => "",
     };
-    let came = description(alloc, conn, came, end, is_late)?;
-    format!(in alloc; "{word}: {came}")
+    let told = description(alloc, conn, came, end, is_late)?;
+    format!(in alloc; "{word}: {told}")
 }
 
 // What came, and what became of the connection, in words. That it stays open is said only where that was seen: at the end of a wait.
@@ -357,17 +291,16 @@ fn description(
     alloc: Global,
     conn: u8,
     came: &[u8],
-    end: &'static str,
+    end: PeerEnd,
     is_late: bool,
 ) -> Result<String, AllocError> {
     let letter = letter_of(conn);
     let hex = digits_of(alloc, came)?;
     let came = if hex.is_empty() { "nothing" } else { "" };
-    if !end.is_empty() {
-        format!(in alloc; "{letter}: {came}{hex}, {end}")
-    } else if is_late {
-        format!(in alloc; "{letter}: {came}{hex}, stays open")
-    } else {
-        format!(in alloc; "{letter}: {came}{hex}")
-    }
+    let end = match end {
+        PeerEnd::Open if is_late => "stays open",
+        other => other.text(),
+    };
+    let comma = if end.is_empty() { "" } else { ", " };
+    format!(in alloc; "{letter}: {came}{hex}{comma}{end}")
 }

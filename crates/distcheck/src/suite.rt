@@ -28,19 +28,8 @@ const INSTALLED: &str = "/usr/share/distcheck";
 const ENDING: &str = ".rows";
 
 // The refusal of a folder or a file that could not be read.
-fn unread(alloc: Global, path: &str) -> Fault {
-    match escape(alloc, path.as_bytes()) {
-        Ok(name) => Fault::RowsUnread(name),
-        Err(AllocError) => Fault::NoMemory,
-    }
-}
-
-// The refusal of a bad line of this file.
-fn bad_line(alloc: Global, name: &str, error: RowError) -> Fault {
-    match format!(in alloc; "{name}: {error}") {
-        Ok(sentence) if !matches!(error, RowError::NoMemory) => Fault::BadWord(sentence),
-        _ => Fault::NoMemory,
-    }
+fn unread(alloc: Global, path: &str) -> Result<Fault, AllocError> {
+    Ok(Fault::RowsUnread(escape(alloc, path.as_bytes())?))
 }
 
 // The folder that has the folder of a file.
@@ -61,7 +50,7 @@ fn folder_of(rt: &HostRuntime, order: &CheckOrder<'_>) -> Result<String, Fault> 
     };
     match prefix_of(program.path_text()) {
         Some(prefix) => Ok(format!(in alloc; "{prefix}/{BESIDE}")?),
-        None => Err(unread(alloc, BESIDE)),
+        None => Err(unread(alloc, BESIDE)?),
     }
 }
 
@@ -88,7 +77,6 @@ fn read_text(rt: &HostRuntime, path: &str) -> io::Result<String> {
     }
 }
 
-// Reads a file of rows.
 fn read_file(
     rt: &HostRuntime,
     folder: &str,
@@ -98,26 +86,16 @@ fn read_file(
     let alloc = rt.alloc();
     let path = format!(in alloc; "{folder}/{name}")?;
     let Ok(text) = read_text(rt, &path) else {
-        return Err(unread(alloc, &path));
+        return Err(unread(alloc, &path)?);
     };
     match read_section(alloc, text.as_bytes(), names) {
         Ok(section) => Ok(SuiteFile { text, section }),
-        Err(error) => Err(bad_line(alloc, &escape(alloc, path.as_bytes())?, error)),
+        Err(RowError::NoMemory) => Err(Fault::NoMemory),
+        Err(error) => {
+            let name = escape(alloc, path.as_bytes())?;
+            Err(Fault::BadWord(format!(in alloc; "{name}: {error}")?))
+        }
     }
-}
-
-// Reads these files of a folder.
-fn read_files(
-    rt: &HostRuntime,
-    folder: &str,
-    files: &[String],
-    names: &SuiteNames<'_>,
-) -> Result<Vec<SuiteFile>, Fault> {
-    let mut suite = Vec::new(rt.alloc());
-    for file in files {
-        suite.push(read_file(rt, folder, file, names)?)?;
-    }
-    Ok(suite)
 }
 
 /// All files of rows of the folder, in the order of their names. There is at least one.
@@ -126,9 +104,14 @@ pub fn read_suite(
     order: &CheckOrder<'_>,
     names: &SuiteNames<'_>,
 ) -> Result<Vec<SuiteFile>, Fault> {
+    let alloc = rt.alloc();
     let folder = folder_of(rt, order)?;
-    match names_in(rt, &folder) {
-        Ok(files) if !files.is_empty() => read_files(rt, &folder, &files, names),
-        _ => Err(unread(rt.alloc(), &folder)),
+    let mut suite = Vec::new(alloc);
+    for file in &names_in(rt, &folder).unwrap_or(Vec::new(alloc)) {
+        suite.push(read_file(rt, &folder, file, names)?)?;
     }
+    if suite.is_empty() {
+        return Err(unread(alloc, &folder)?);
+    }
+    Ok(suite)
 }

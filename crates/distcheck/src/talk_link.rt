@@ -1,7 +1,7 @@
 //! A connection of a talk: what is read from it, and what is written on it. Each wait has a limit.
 
-ghost use Rattle.std.specs.Prelude.{◌≡◌, IfOk};
-ghost use Rattle.distcheck.specs.Seeing.{HearsMore};
+ghost use Rattle.std.specs.Prelude.{◌≡◌, IfOk, OnOk};
+ghost use Rattle.distcheck.specs.Seeing.{HearsMore, EndsAt};
 
 use crate::seen::PeerEnd;
 use dist_stream::{Heard, Limited, SocketStream, Stream};
@@ -13,6 +13,9 @@ use std::time::Duration;
 
 /// How many seconds a connect may take. Our own choice.
 const CONNECT: u64 = 5;
+
+/// How many milliseconds one read waits, before what came is judged again: silence is judged by time alone.
+pub const WAIT: u64 = 50;
 
 /// How many seconds one write waits, and how many are made, so that no more than five seconds are spent on a peer that reads nothing.
 const WRITE: u64 = 1;
@@ -27,39 +30,53 @@ const PIECE: usize = 4096;
 
 /// A connection of a talk.
 #[derive(Drop)]
-pub struct TalkLink {
+pub struct TalkLink<S> {
     /// Which of the talk's connections it is: 0 for a, 1 for b and so on.
     pub conn: u8,
     /// What became of the peer's side.
     pub end: PeerEnd,
     // How many bytes are read at most from now on.
     room: usize,
-    stream: SocketStream,
+    /// What is read, and written on.
+    pub stream: S,
 }
 
-// One read: what came is appended. Returns what became of the peer's side.
-fn read_more<S: Stream>(stream: &mut S, bytes: &mut Vec<u8>) -> Result<PeerEnd, AllocError>
-    ensures { IfOk result (HearsMore (S.meaning stream.old) (S.meaning stream.new) bytes.old.items bytes.new.items) }
-{
-    let mut room = [0u8; PIECE];
-    match stream.read(&mut room) {
-        Heard::Bytes(0) => Ok(PeerEnd::Closed),
-        Heard::Bytes(count) => {
-            bytes.extend_from_slice(&room[..count])?;
-            Ok(PeerEnd::Open)
-        }
-        Heard::Quiet => Ok(PeerEnd::Open),
-        Heard::Failed => Ok(PeerEnd::Reset),
+/// One of the system.
+pub type SocketLink = TalkLink<SocketStream>;
+
+impl<S: Stream> TalkLink<S> {
+    /// Whether more may come.
+    pub fn is_open(&self) -> bool {
+        self.room != 0 && !self.end.is_over()
+    }
+
+    /// Waits for bytes or an end, as long as one read does, and appends what came.
+    pub fn listen(&mut self, bytes: &mut Vec<u8>) -> Result<(), AllocError>
+        ensures came { OnOk result (HearsMore (S.meaning self.old.stream) (S.meaning self.new.stream) bytes.old.items bytes.new.items) }
+        ensures ended { OnOk result (EndsAt self.new.end (S.meaning self.new.stream)) }
+    {
+        let mut room = [0u8; PIECE];
+        self.end = match self.stream.read(&mut room) {
+            Heard::Bytes(0) => PeerEnd::Closed,
+            Heard::Bytes(count) => {
+                self.room = self.room.saturating_sub(count);
+                bytes.extend_from_slice(&room[..count])?;
+                PeerEnd::Open
+            }
+            Heard::Quiet => PeerEnd::Open,
+            Heard::Failed => PeerEnd::Reset,
+        };
+        Ok(())
     }
 }
 
-impl TalkLink {
+impl TalkLink<SocketStream> {
     /// Connects to this address, within five seconds. An error is the system's.
     pub fn open<R: Net<Listener = TcpListener, Stream = TcpStream>>(
         rt: &R,
         conn: u8,
         address: &SocketAddr,
-    ) -> io::Result<TalkLink>
+    ) -> io::Result<SocketLink>
         ensures { IfOk result (λ link. link.conn ≡ conn) }
     {
         let socket = TcpStream::connect_timeout(rt, address, Duration::from_secs(CONNECT))?;
@@ -67,32 +84,20 @@ impl TalkLink {
     }
 
     /// The connection that this socket has. An error is the system's.
-    pub fn over(conn: u8, socket: TcpStream) -> io::Result<TalkLink>
+    pub fn over(conn: u8, socket: TcpStream) -> io::Result<SocketLink>
         ensures { IfOk result (λ link. link.conn ≡ conn) }
     {
         let _ = socket.set_nodelay(true);
         let stream = SocketStream::with_turn(socket, Duration::from_secs(WRITE))?;
+        let _ = stream
+            .get_ref()
+            .set_read_timeout(Some(Duration::from_millis(WAIT)));
         Ok(TalkLink {
             conn,
             end: PeerEnd::Open,
             room: MOST,
             stream,
         })
-    }
-
-    /// Whether more may come.
-    pub fn is_open(&self) -> bool {
-        self.room != 0 && !self.end.is_over()
-    }
-
-    /// Waits for bytes or an end, for this time at most, and appends what came.
-    pub fn listen(&mut self, limit: Duration, bytes: &mut Vec<u8>) -> Result<(), AllocError> {
-        let before = bytes.len();
-        let _ = self.stream.get_ref().set_read_timeout(Some(limit));
-        self.end = read_more(&mut self.stream, bytes)?;
-        let count = bytes.len().saturating_sub(before);
-        self.room = self.room.saturating_sub(count);
-        Ok(())
     }
 
     /// Writes these bytes. Returns whether all were taken.

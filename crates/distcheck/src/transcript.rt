@@ -59,7 +59,7 @@ fn line_of<'a>(step: &TalkStep, played: &'a PlayedStep) -> Option<TranscriptLine
         StepFact::Said(bytes, _) => (false, bytes.as_slice(), ""),
         StepFact::Heard(heard) => (true, heard.bytes.as_slice(), heard.timing.end.text()),
         StepFact::Came => (true, nothing, "connects"),
-        StepFact::Refused | StepFact::Unsaid | StepFact::Stopped(_) => return None,
+        _ => return None,
     };
     Some(TranscriptLine {
         at: played.at,

@@ -1,12 +1,12 @@
 //! A talk, and what became of it in each of its tries.
 
 ghost use Rattle.std.specs.Prelude.{◌≡◌, IfOk};
-ghost use Rattle.distcheck.specs.Trying.{verdict_of_two, verdict_alone, tries_verdict, try_verdict, verdicts_of};
+ghost use Rattle.distcheck.specs.Trying.{told_verdicts, verdict_of_two, verdict_alone, tries_verdict, try_verdict, verdicts_of};
 ghost use Rattle.distcheck.specs.Deciding.{counts_first};
 
 use crate::queue::QueuedTalk;
 use crate::seen::{PlayedStep, StepFact};
-use dist_conformance::TalkVerdict;
+use dist_conformance::{TalkStep, TalkVerdict};
 use std::alloc::{AllocError, Global};
 
 /// One try of a talk.
@@ -14,6 +14,8 @@ use std::alloc::{AllocError, Global};
 pub struct TalkTry {
     /// What was seen in its steps, as far as they were made.
     pub played: Vec<PlayedStep>,
+    /// The verdict.
+    pub verdict: TalkVerdict,
     /// In words, what came and is not what was wanted, or why the talk was not tried.
     pub why: String,
     /// How many milliseconds it took.
@@ -21,24 +23,22 @@ pub struct TalkTry {
 }
 
 impl TalkTry {
-    // What was seen last.
-    fn last(&self) -> Option<&StepFact> {
-        self.played.last().map(|played| &played.seen)
-    }
-
     /// Whether nobody listened where it connects.
     pub fn is_refused(&self) -> bool {
-        matches!(self.last(), Some(StepFact::Refused))
+        matches!(self.played.last(), Some(last) if matches!(last.seen, StepFact::Refused))
     }
 
     /// Whether the bytes of a step could not be said.
     pub fn is_unsaid(&self) -> bool {
-        matches!(self.last(), Some(StepFact::Unsaid))
+        matches!(self.played.last(), Some(last) if matches!(last.seen, StepFact::Unsaid))
     }
 
-    /// Whether the peer let hear of itself.
+    /// Whether the peer let hear of itself: by a byte, or by an end.
     pub fn is_heard(&self) -> bool {
-        self.played.iter().any(|played| played.is_heard())
+        self.played.iter().any(|step| match &step.seen {
+            StepFact::Heard(heard) => !heard.bytes.is_empty() || heard.timing.end.is_over(),
+            _ => false,
+        })
     }
 }
 
@@ -46,13 +46,11 @@ impl TalkTry {
 #[derive(Drop)]
 pub struct PlayedTalk<'a> {
     /// The talk.
-    pub talk: QueuedTalk<'a>,
+    pub queued: QueuedTalk<'a>,
     /// Its tries, in order.
     pub tries: Vec<TalkTry>,
-    /// The verdict of each.
-    pub verdicts: Vec<TalkVerdict>,
-    // Each is the judgement of what was seen in that try.
-    pub ghost judged: { verdicts.items ≡ verdicts_of talk tries.items },
+    // The verdict of each is the judgement of what was seen in it.
+    pub ghost judged: { told_verdicts tries.items ≡ verdicts_of queued tries.items },
 }
 
 // Whether the first of two tries counts: what deviates is not blocked by a second try, which may meet what the first left behind.
@@ -69,20 +67,20 @@ fn counts_first(first: TalkVerdict, second: TalkVerdict) -> bool
 }
 
 // The verdict of one try, or of two.
-fn verdict_of_two(verdicts: &[TalkVerdict]) -> TalkVerdict
-    ensures { result ≡ verdict_of_two verdicts.now }
+fn verdict_of_two(tries: &[TalkTry]) -> TalkVerdict
+    ensures { result ≡ verdict_of_two (told_verdicts tries.now) }
 {
-    match verdicts {
+    match tries {
         [] => TalkVerdict::Skipped,
-        [first] => *first,
-        [first, second, ..] if counts_first(*first, *second) => *first,
-        [_, second, ..] => *second,
+        [first] => first.verdict,
+        [first, second, ..] if counts_first(first.verdict, second.verdict) => first.verdict,
+        [_, second, ..] => second.verdict,
     }
 }
 
-// The verdict of a talk that deviates beside others: these are those of its tries alone.
-fn verdict_alone(alone: &[TalkVerdict]) -> TalkVerdict
-    ensures { result ≡ verdict_alone (verdict_of_two alone.now) }
+// The verdict of a talk that deviates beside others: these are its tries alone.
+fn verdict_alone(alone: &[TalkTry]) -> TalkVerdict
+    ensures { result ≡ verdict_alone (verdict_of_two (told_verdicts alone.now)) }
 {
     match verdict_of_two(alone) {
         TalkVerdict::Deviates => TalkVerdict::Deviates,
@@ -90,92 +88,80 @@ fn verdict_alone(alone: &[TalkVerdict]) -> TalkVerdict
     }
 }
 
-// The verdict of a talk, by those of its tries.
-fn tries_verdict(verdicts: &[TalkVerdict]) -> TalkVerdict
-    ensures { result ≡ tries_verdict verdicts.now }
+fn tries_verdict(tries: &[TalkTry]) -> TalkVerdict
+    ensures { result ≡ tries_verdict (told_verdicts tries.now) }
 {
-    match verdicts {
+    match tries {
         [_, _, alone @ ..] if !alone.is_empty() => verdict_alone(alone),
-        _ => verdict_of_two(verdicts),
+        _ => verdict_of_two(tries),
     }
 }
 
 impl<'a> PlayedTalk<'a> {
     /// A talk without a try.
-    pub fn new(alloc: Global, talk: &QueuedTalk<'a>) -> PlayedTalk<'a>
-        ensures { result.talk ≡ talk.now }
+    pub fn new(alloc: Global, queued: &QueuedTalk<'a>) -> PlayedTalk<'a>
+        ensures { result.queued ≡ queued.now }
     {
         PlayedTalk {
-            talk: *talk,
+            queued: *queued,
             tries: Vec::new(alloc),
-            verdicts: Vec::new(alloc),
         }
     }
 
-    /// The talk with one more try, of this verdict.
-    pub fn with(mut self, one: TalkTry, verdict: TalkVerdict) -> Result<PlayedTalk<'a>, AllocError>
-        // `play` returned both.
-        requires { verdict ≡ try_verdict self.talk one.played.items }
-        ensures { IfOk result (λ it. it.talk ≡ self.entry.talk) }
+    /// The talk with one more try.
+    pub fn with(mut self, one: TalkTry) -> Result<PlayedTalk<'a>, AllocError>
+        // `play` says so of what it returns.
+        requires { one.verdict ≡ try_verdict self.queued one.played.items }
+        ensures { IfOk result (λ it. it.queued ≡ self.entry.queued) }
     {
-        let PlayedTalk {
-            talk,
-            mut tries,
-            mut verdicts,
-        } = self;
+        let PlayedTalk { queued, mut tries } = self;
         tries.push(one)?;
-        verdicts.push(verdict)?;
-        Ok(PlayedTalk {
-            talk,
-            tries,
-            verdicts,
-        })
+        Ok(PlayedTalk { queued, tries })
     }
 
     /// The verdict of the talk.
     pub fn verdict(&self) -> TalkVerdict
-        ensures { result ≡ tries_verdict self.now.verdicts.items }
+        ensures { result ≡ tries_verdict (verdicts_of self.now.queued self.now.tries.items) }
     {
-        tries_verdict(&self.verdicts)
+        tries_verdict(&self.tries)
     }
 
     /// The verdict of its last try.
     pub fn last_verdict(&self) -> TalkVerdict {
-        self.verdicts
+        self.tries
             .last()
-            .copied()
-            .unwrap_or(TalkVerdict::Skipped)
-    }
-
-    /// Whether it deviates, but alone it does not.
-    pub fn is_loose_alone(&self) -> bool {
-        self.verdicts.len() > 2 && self.verdict() == TalkVerdict::Loose
+            .map_or(TalkVerdict::Skipped, |one| one.verdict)
     }
 
     /// In words, what came in this try.
-    pub fn arrival_text(&self, alloc: Global, one: &TalkTry) -> Result<String, AllocError> {
-        if self.is_loose_alone() {
-            format!(in alloc; "only beside other talks: {}", one.why)
+    pub fn arrival_text(&self, one: &TalkTry) -> Result<String, AllocError> {
+        if self.tries.len() > 2 && self.verdict() == TalkVerdict::Loose {
+            format!(in *one.why.allocator(); "only beside other talks: {}", one.why)
         } else {
             one.why.clone()
         }
     }
 
-    /// The step that decided: the last that was made in the try that is shown, as the row has it.
-    pub fn demand_text(&self) -> &'a [u8] {
-        let made = self.telling_try().map_or(0, |one| one.played.len());
-        match self.talk.steps.get(made.saturating_sub(1)) {
+    /// Its steps.
+    pub fn steps(&self) -> &'a [TalkStep] {
+        let talk = self.queued.talk;
+        talk.steps.as_slice()
+    }
+
+    /// The step that decided: the last that was made in this try, as the row has it.
+    pub fn demand_text(&self, one: &TalkTry) -> &'a [u8] {
+        match self.steps().get(one.played.len().saturating_sub(1)) {
             Some(step) => step.text.as_slice(),
             None => &[],
         }
     }
 
     /// The try that is shown: the last that deviates, where one counts that does, and else the last.
-    pub fn telling_try(&self) -> Option<&TalkTry> {
+    pub fn shown_try(&self) -> Option<&TalkTry> {
         let counts = matches!(self.verdict(), TalkVerdict::Deviates | TalkVerdict::Loose);
-        let deviates = |verdict: &TalkVerdict| *verdict == TalkVerdict::Deviates;
-        match self.verdicts.iter().rposition(deviates) {
-            Some(at) if counts => self.tries.get(at),
+        let deviates = |one: &&TalkTry| one.verdict == TalkVerdict::Deviates;
+        match self.tries.iter().rfind(deviates) {
+            Some(one) if counts => Some(one),
             _ => self.tries.last(),
         }
     }

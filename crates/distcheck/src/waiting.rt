@@ -1,16 +1,18 @@
 //! Waits: until what came is decided, and between pieces of what is written.
 
+ghost use Rattle.std.specs.Prelude.{[], IfOk};
+ghost use Rattle.distcheck.specs.Seeing.{HearsMore, EndsAt};
+
 use crate::fault::Fault;
 use crate::seen::{HeardBytes, Timing};
-use crate::standing::{JudgingTerms, TalkState};
-use crate::talk_link::TalkLink;
-use dist_conformance::{Demand, Judgement, Saying};
+use crate::standing::TalkState;
+use crate::talk_link::{SocketLink, TalkLink, WAIT};
+use dist_conformance::{Action, Judgement, Saying, TalkStep};
 use dist_names::ByteString;
+use dist_stream::Stream;
+use std::alloc::AllocError;
 use std::thread::sleep;
 use std::time::{Duration, Instant};
-
-/// How many milliseconds one wait for bytes lasts, before what came is judged again: silence is judged by time alone.
-const WAIT: u64 = 50;
 
 /// How many milliseconds ago this was.
 pub fn milliseconds_since(rt: &HostRuntime, since: Instant) -> Result<u32, Fault> {
@@ -28,49 +30,36 @@ pub fn now(rt: &HostRuntime) -> Result<Instant, Fault> {
     }
 }
 
-// Waits for bytes or an end, and appends what came. Returns whether bytes came.
-fn listen_once(rt: &HostRuntime, link: &mut TalkLink, came: &mut Vec<u8>) -> Result<bool, Fault> {
-    let before = came.len();
-    let wait = Duration::from_millis(WAIT);
-    if link.is_open() {
-        link.listen(wait, came)?;
-    } else {
-        sleep(rt, wait);
-    }
-    Ok(before < came.len())
-}
-
-/// What is listened for.
-#[derive(Clone, Copy)]
-pub enum WaitGoal<'s, 'c, 'd> {
-    /// The judgement of a demand: it came, or cannot come any more.
-    Judgement(&'s TalkState, JudgingTerms<'c>, &'d Demand),
-    /// The end of so many milliseconds, or of the connection.
-    Time(u32),
-}
-
-impl WaitGoal<'_, '_, '_> {
-    // Whether it is there, by what came until then.
-    fn is_there(&self, came: &[u8], timing: Timing) -> bool {
-        match self {
-            WaitGoal::Judgement(state, terms, demand) => !matches!(
-                state.judgement(terms, demand, came, timing),
-                Judgement::More
-            ),
-            WaitGoal::Time(time) => timing.end.is_over() || *time <= timing.elapsed,
+// Whether a step that listens is over: by the judgement of what it demands, or by time alone where it tells.
+fn is_over(
+    state: &TalkState<'_>,
+    step: &TalkStep,
+    bytes: &[u8],
+    timing: Timing,
+) -> Result<bool, AllocError> {
+    match &step.action {
+        Action::Hear(demand) | Action::Want(demand) => {
+            let came = state.came_on(step.conn, bytes)?;
+            Ok(!matches!(state.judgement(demand, &came, timing), Judgement::More))
         }
+        Action::Tell(time) => Ok(timing.end.is_over() || *time <= timing.elapsed),
+        _ => Ok(true),
     }
 }
 
-/// Listens on a connection, of which this came before, until that is there which is awaited. Returns what came since.
-pub fn listen_until(
+/// Listens on the connection of a step, until that is over. Returns what came: what was read from its stream, whatever that is.
+#[tactic(auto, using(crate::proofs::Hearing::hears_none, crate::proofs::Hearing::hears_on))]
+pub fn listen_until_over<S: Stream>(
     rt: &HostRuntime,
-    link: &mut TalkLink,
-    mut came: Vec<u8>,
-    awaited: &WaitGoal<'_, '_, '_>,
-) -> Result<HeardBytes, Fault> {
+    link: &mut TalkLink<S>,
+    state: &TalkState<'_>,
+    step: &TalkStep,
+) -> Result<HeardBytes, Fault>
+    ensures came { IfOk result (λ heard. HearsMore (S.meaning link.old.stream) (S.meaning link.new.stream) [] heard.bytes) }
+    ensures ended { IfOk result (λ heard. EndsAt link.old.end (S.meaning link.old.stream) → EndsAt heard.timing.end (S.meaning link.new.stream)) }
+{
     let start = now(rt)?;
-    let before = came.len();
+    let mut bytes = Vec::new(rt.alloc());
     let mut last = 0;
     for _ in 0..u64::MAX {
         let elapsed = milliseconds_since(rt, start)?;
@@ -79,11 +68,17 @@ pub fn listen_until(
             elapsed,
             pause: elapsed.saturating_sub(last),
         };
-        if awaited.is_there(&came, timing) {
-            let bytes = ByteString::from_slice(rt.alloc(), came.get(before..).unwrap_or(&[]))?;
+        if is_over(state, step, &bytes, timing)? {
+            let bytes = ByteString::from_vec(bytes);
             return Ok(HeardBytes { bytes, timing });
         }
-        if listen_once(rt, link, &mut came)? {
+        let before = bytes.len();
+        if link.is_open() {
+            link.listen(&mut bytes)?;
+        } else {
+            sleep(rt, Duration::from_millis(WAIT));
+        }
+        if before < bytes.len() {
             last = milliseconds_since(rt, start)?;
         }
     }
@@ -94,17 +89,20 @@ pub fn listen_until(
 const APART: u32 = 2;
 
 /// Writes these bytes, in pieces of this many at most, with this pause between them. Returns whether all were taken.
-pub fn write_pieces(rt: &HostRuntime, link: &mut TalkLink, bytes: &[u8], saying: &Saying) -> bool {
+pub fn write_pieces(
+    rt: &HostRuntime,
+    link: &mut SocketLink,
+    bytes: &[u8],
+    saying: &Saying,
+) -> bool {
     if saying.pieces == 0 {
         return link.write(bytes);
     }
     let pause = Duration::from_millis(u64::from(saying.pause.max(APART)));
-    let mut is_first = true;
-    for piece in bytes.chunks(saying.pieces as usize) {
-        if !is_first {
+    for (place, piece) in bytes.chunks(saying.pieces as usize).enumerate() {
+        if place != 0 {
             sleep(rt, pause);
         }
-        is_first = false;
         if !link.write(piece) {
             return false;
         }

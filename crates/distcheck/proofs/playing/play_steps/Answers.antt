@@ -5,9 +5,9 @@ use Rattle.distcheck.proofs.playing.play_steps.Goals as goal
 
 pub loop-step-preserved : goal.loop-step-preserved
 loop-step-preserved c =
-    let within : length c.loop-step.played.items < length c.args.talk.now.steps.now = omega (arith, c.loop-step.invariant.many, c.loop-step-test.true) in
+    let within : length c.loop-step.played.items < length c.args.steps.now = omega (arith, c.loop-step.invariant.many, c.loop-step-test.true) in
     record {
-      stands = rw c.in_ok-push.ensures.items (sym (one_more c.args.talk.now.terms _ c.args.talk.now.steps.now c.loop-step.played.items _ c.step-item.result within
+      stands = rw c.in_ok-push.ensures.items (sym (one_more _ c.args.steps.now c.loop-step.played.items _ c.step-item.result within
           ∙ rw (c.loop-step.invariant.many, ← c.step-item.is, ← c.loop-step.invariant.stands) (sym c.in_ok-take.ensures)));
       many = rw c.in_ok-push.ensures.items (grind (arith, c.loop-step.invariant.many));
     }

@@ -5,6 +5,6 @@ use Rattle.distcheck.proofs.playing.play_steps.Given as goal
 
 abbrev pub invariant-loop-step : goal.invariant-loop-step
 invariant-loop-step l = record {
-  stands : standing_of l.state ≡ standing_after l.talk.terms (standing_of l.initial.state) l.talk.steps.now l.played.items;
+  stands : standing_of l.state ≡ standing_after (standing_of l.initial.state) l.steps l.played.items;
   many : length l.played.items ≡ l.step-index;
 }
