@@ -1,18 +1,30 @@
 """The links of pages: those that lead nowhere, and where each leads once its page is packed.
 
-usage: python3 bin/lib/links.py FOLDER PAGES     FOLDER is a package before it is packed. A link of a page in it leads to the package's own
-                                                 file afterwards. If the package doesn't have the file, the link's text stays, with a word
-                                                 on where the file is; a picture is left out. PAGES has a line for each package: its name
-                                                 and its files.
+usage: python3 bin/lib/links.py FOLDER PAGES
+
+FOLDER is a package before it is packed. A link of a page in it leads to the package's own file afterwards. If the package doesn't have the
+file, the link's text stays, with a word on where the file is; a picture is left out. PAGES has a line for each package: its name and files.
 """
 import html
 import os
+import pathlib
 import re
 import sys
 
 ROOT = os.path.dirname(os.path.dirname(os.path.dirname(os.path.realpath(__file__))))
 # A block or a word of code, which has no links; a link, or a picture.
 CODE_OR_LINK = re.compile(r"(?ms:^```\w*\n.*?^```$)|(?P<picture>!?)\[(?P<text>(?:`[^`\n]*`|[^\[\]`])*)\]\((?P<target>[^)\s]+)\)|`[^`\n]*`")
+
+
+class Faults:
+    """Reports what a script finds, a line for each fault, and goes on."""
+
+    def __init__(self, script):
+        self.script, self.count = script, 0
+
+    def __call__(self, text):
+        self.count += 1
+        print(f"{self.script}: {text}", file=sys.stderr, flush=True)
 
 
 def text_of(file):
@@ -41,7 +53,7 @@ def dead_links(page):
         path, _, anchor = html.unescape(target).partition("#")
         if re.match(r"\w+:", target):
             continue
-        file = os.path.normpath(f"{os.path.dirname(page)}/{path}") if path else page
+        file = os.path.normpath(os.path.join(os.path.dirname(page), path)) if path else page
         if not os.path.exists(file):
             yield f"links to {path}, which is not there"
         elif anchor and anchor not in anchors(file):
@@ -74,14 +86,13 @@ def packed_link(link, source, place, packed, packages):
 def turn_links(folder, pages):
     packages = {file: package for package, *files in map(str.split, reversed(pages.splitlines())) for file in files}
     packed = {}
-    for at, _, files in os.walk(folder):
-        for place in (os.path.relpath(f"{at}/{it}", folder) for it in sorted(files)):
-            packed.setdefault(source_of(place), []).append(place)
+    for file in sorted(it for it in pathlib.Path(folder).rglob("*") if it.is_file()):
+        place = str(file.relative_to(folder))
+        packed.setdefault(source_of(place), []).append(place)
     packed.pop(None, None)
-    for source, place in ((source, it) for source, places in packed.items() for it in places if it.endswith(".md")):
-        text = CODE_OR_LINK.sub(lambda link: packed_link(link, source, place, packed, packages), text_of(f"{folder}/{place}"))
-        with open(f"{folder}/{place}", "w", encoding="utf-8") as it:
-            it.write(text)
+    for source, place in [(source, it) for source, places in packed.items() for it in places if it.endswith(".md")]:
+        page = pathlib.Path(folder, place)
+        page.write_text(CODE_OR_LINK.sub(lambda link: packed_link(link, source, place, packed, packages), text_of(page)), encoding="utf-8")
 
 
 if __name__ == "__main__":

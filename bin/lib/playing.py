@@ -179,6 +179,30 @@ def come_up(it, name, cookie, flags, pause=0):
     return None if hear() == b"a" + digest(cookie, 5) else "another digest"
 
 
+class Node(Peer):
+    """A node that accepts, as OTP 25 does (ERTS User's Guide, Distribution Handshake), registered at a port mapper. It stays until its
+    peer leaves; one that has its cookie gets these bytes behind the handshake. A node may give itself another name than its own."""
+
+    CHALLENGE = 99
+
+    def __init__(self, mapper, name, cookie, seconds, behind=b"", says=None, flags=0xD07DF7FBD, creation=1795494263):
+        self.cookie, self.behind, self.says, self.flags, self.creation = cookie.encode(), behind, (says or name).encode(), flags, creation
+        super().__init__(self.talk, seconds)
+        self.mapper = come(mapper, seconds)
+        self.mapper.sendall(frame(b"x" + struct.pack(">H", self.port) + fields(name.split("@")[0].encode())[2:]))
+        if self.mapper.recv(2) not in (b"v\0", b"x\0"):
+            raise ConnectionError(f"the port mapper does not register {name}")
+
+    def talk(self, it):
+        read_frame(it)
+        it.sendall(frame(b"sok"))
+        it.sendall(frame(struct.pack(">cQIIH", b"N", self.flags, self.CHALLENGE, self.creation, len(self.says)) + self.says))
+        reply = read_frame(it)
+        if reply[5:21] == digest(self.cookie, self.CHALLENGE):
+            it.sendall(frame(b"a" + digest(self.cookie, struct.unpack(">I", reply[1:5])[0])) + self.behind)
+            read_all(it, is_reset_end=True)
+
+
 # Programs
 
 
