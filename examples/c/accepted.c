@@ -1,3 +1,4 @@
+/* SPDX-License-Identifier: Apache-2.0 */
 /* A handshake without sockets: the bytes of examples/accepted_handshake.script, given one by one. It prints what `distnode
  * enact` prints of that script, and exits with the number of the first check that fails, or 0. */
 #include <distnode.h>

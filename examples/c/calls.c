@@ -1,3 +1,4 @@
+/* SPDX-License-Identifier: Apache-2.0 */
 /* What calls answer beside the handshake of accepted.c: a digest, the port mapper's messages, a node that is set up and dials,
  * nodes that come to their limits, words, a registry that forgets a connection; the handshake of accepted.c without lengths,
  * first refused and then admitted; the statuses that are said and heard; who makes room for whom; cookies that change. It exits

@@ -1,3 +1,4 @@
+/* SPDX-License-Identifier: Apache-2.0 */
 /* A hidden node in C: it registers with the port mapper, accepts and dials, and keeps its connections by ticks.
  *
  * usage: join [--cookie FILE] NAME TICK SECONDS [PEER]

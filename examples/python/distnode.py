@@ -1,3 +1,4 @@
+# SPDX-License-Identifier: Apache-2.0
 """The handshake of Erlang's distribution protocol, by ctypes over libdistnode: a class for a node, one for the registry of a
 port mapper (EPMD), and functions for its messages. There are no sockets in here: join.py and mapper.py are whole programs.
 

@@ -1,3 +1,4 @@
+# SPDX-License-Identifier: Apache-2.0
 """A port mapper in Python, in place of `epmd`: nodes register with it, look each other up, and are listed.
 
 usage: mapper.py [--port N]

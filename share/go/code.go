@@ -1,3 +1,5 @@
+// SPDX-License-Identifier: Apache-2.0
+
 package distnode
 
 // #include <distnode.h>

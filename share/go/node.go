@@ -1,3 +1,5 @@
+// SPDX-License-Identifier: Apache-2.0
+
 // Package distnode is the handshake of Erlang's distribution protocol over libdistnode, whose steps are proved to be those of its
 // definition: a node, the registry of a port mapper, and the port mapper's messages.
 //

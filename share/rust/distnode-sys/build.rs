@@ -1,3 +1,4 @@
+// SPDX-License-Identifier: Apache-2.0
 //! Finds libdistnode: in the folder that DISTNODE_LIB names, else by pkg-config. With DISTNODE_STATIC its archive is linked.
 
 use std::env;

@@ -1,3 +1,5 @@
+// SPDX-License-Identifier: Apache-2.0
+
 // Command join is a hidden node in Go: it registers with the port mapper, dials one node, accepts others, and keeps its links
 // by ticks.
 //
@@ -26,6 +28,7 @@ import (
 
 const (
 	hiddenFlags = 0x403070f94      // as an Erlang node of OTP 25 announces them, but for DFLAG_PUBLISHED
+	mandatory25 = 0x1070f94        // those that OTP 25 requires of a peer
 	tick        = 15 * time.Second // a quarter of the peer's net_ticktime
 	patience    = 8 * time.Second  // of a connect, of an answer and of a message of the handshake
 	mostOpen    = 512              // ends that are open at one time: a process has 1,024 descriptors by custom
@@ -369,7 +372,7 @@ func run(name, peer string, most time.Duration) error {
 	if err != nil {
 		return err
 	}
-	setup := distnode.Setup{Flags: hiddenFlags, Creation: creation, MostOpenEnds: mostOpen}
+	setup := distnode.Setup{Flags: hiddenFlags, Required: mandatory25, Creation: creation, MostOpenEnds: mostOpen}
 	node, err := distnode.NewNode([]byte(name), secret, setup)
 	if err != nil {
 		return err

@@ -1,3 +1,4 @@
+// SPDX-License-Identifier: Apache-2.0
 //! The calls of libdistnode as its header distnode.h has them, which also says what each does, what a caller owes, and which errors
 //! there are in which order. The crate `distnode` keeps what a caller owes.
 

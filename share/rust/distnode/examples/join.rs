@@ -1,3 +1,4 @@
+// SPDX-License-Identifier: Apache-2.0
 //! A hidden node in Rust: it registers with the port mapper, dials one node, accepts others, and keeps its links by ticks.
 //!
 //! usage: join NAME PEER SECONDS
@@ -21,6 +22,8 @@ use std::{env, fs, thread};
 
 /// As an Erlang node of OTP 25 announces them, but for `DFLAG_PUBLISHED`.
 const HIDDEN_FLAGS: u64 = 0x4_0307_0f94;
+/// Those that OTP 25 requires of a peer.
+const MANDATORY_25: u64 = 0x107_0f94;
 /// A quarter of the peer's net_ticktime.
 const TICK: Duration = Duration::from_secs(15);
 /// How long a connect, an answer or a message of the handshake is waited for.
@@ -340,6 +343,7 @@ fn main() -> Outcome<()> {
         &cookie()?,
         &Setup {
             flags: HIDDEN_FLAGS,
+            required: MANDATORY_25,
             creation,
             most_open_ends: MOST_OPEN,
             ..Setup::default()

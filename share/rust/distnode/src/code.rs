@@ -1,3 +1,4 @@
+// SPDX-License-Identifier: Apache-2.0
 //! What a call refuses, and why an end is closed.
 
 use distnode_sys as sys;

@@ -1,3 +1,4 @@
+// SPDX-License-Identifier: Apache-2.0
 //! The messages to the port mapper (ERTS User's Guide, Distribution Protocol, EPMD Protocol).
 
 use crate::code::{copied, done, Error};

@@ -1,3 +1,4 @@
+// SPDX-License-Identifier: Apache-2.0
 //! A node: its setup, its steps, and who is up.
 
 use crate::code::{copied, done, Error, Refused, Why};

@@ -1,3 +1,4 @@
+// SPDX-License-Identifier: Apache-2.0
 //! What a port mapper knows and answers, for a caller that takes its place.
 
 use crate::code::{copied, done, Error};

@@ -1,3 +1,4 @@
+// SPDX-License-Identifier: Apache-2.0
 //! How ends and peers stand, and the statuses of the handshake.
 
 use crate::code::Why;
