@@ -9,8 +9,8 @@ use Rattle.dist_script.specs.declared.events.EventWord.TheVariants as kind
 -- the first word of each kind of line
 abbrev pub event_kinds : List (List ℕ × EventWord)
 event_kinds =
-    (codes "incoming", kind.Incoming) ∷ (codes "dial", kind.Dial) ∷ (codes "opened", kind.Opened) ∷ (codes "bytes", kind.Bytes) ∷
-    (codes "lost", kind.Lost) ∷ (codes "tick", kind.Tick) ∷ []
+    (codes "bytes", kind.Bytes) ∷ (codes "tick", kind.Tick) ∷ (codes "incoming", kind.Incoming) ∷ (codes "lost", kind.Lost) ∷
+    (codes "dial", kind.Dial) ∷ (codes "opened", kind.Opened) ∷ []
 
 -- what the words behind the first say
 abbrev pub event_in : EventWord → List (List ℕ) → Read ScriptLine

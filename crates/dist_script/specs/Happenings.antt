@@ -10,9 +10,9 @@ use Rattle.dist_script.specs.declared.happenings.HappeningWord.TheVariants as ki
 -- the first word of each kind of line
 abbrev pub happening_kinds : List (List ℕ × HappeningWord)
 happening_kinds =
-    (codes "begin", kind.Begin) ∷ (codes "begin_as", kind.BeginAs) ∷ (codes "halt", kind.Halt) ∷ (codes "dial", kind.Dial) ∷
-    (codes "reach", kind.Reach) ∷ (codes "opened", kind.Opened) ∷ (codes "accept", kind.Accept) ∷ (codes "deliver", kind.Deliver) ∷
-    (codes "take", kind.Take) ∷ (codes "lose", kind.Lose) ∷ (codes "tick", kind.Tick) ∷ (codes "cookie", kind.Cookie) ∷
+    (codes "take", kind.Take) ∷ (codes "deliver", kind.Deliver) ∷ (codes "tick", kind.Tick) ∷ (codes "lose", kind.Lose) ∷
+    (codes "dial", kind.Dial) ∷ (codes "reach", kind.Reach) ∷ (codes "opened", kind.Opened) ∷ (codes "accept", kind.Accept) ∷
+    (codes "begin", kind.Begin) ∷ (codes "halt", kind.Halt) ∷ (codes "begin_as", kind.BeginAs) ∷ (codes "cookie", kind.Cookie) ∷
     (codes "no_cookie", kind.NoCookie) ∷ (codes "usual_cookie", kind.UsualCookie) ∷ []
 
 -- what the words say behind the first and the next one, which is a node, or the connection that is accepted

@@ -26,12 +26,12 @@ enum EventWord {
 
 // The first word of each kind of line.
 const KINDS: [(&str, EventWord); 6] = [
+    ("bytes", EventWord::Bytes),
+    ("tick", EventWord::Tick),
     ("incoming", EventWord::Incoming),
+    ("lost", EventWord::Lost),
     ("dial", EventWord::Dial),
     ("opened", EventWord::Opened),
-    ("bytes", EventWord::Bytes),
-    ("lost", EventWord::Lost),
-    ("tick", EventWord::Tick),
 ];
 
 // What is given, in the words behind the first.

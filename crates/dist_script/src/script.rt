@@ -10,7 +10,7 @@ use crate::events::line_of;
 use crate::fault::ScriptFault;
 use crate::happenings::happening_of;
 use crate::node_line::setup_of;
-use crate::words::{LineFault, Words, first_part, is_skipped};
+use crate::words::{LineFault, Words, first_line, is_skipped};
 use dist_core::{Event, Setup};
 use dist_names::ByteString;
 use dist_peers::EndId;
@@ -158,7 +158,7 @@ fn draft_of(alloc: Global, text: &[u8]) -> Result<Draft, ScriptFault>
     let mut number = 0usize;
     let mut rest = Some(text);
     while let Some(text) = rest {
-        let (line, behind) = first_part(text, b'\n');
+        let (line, behind) = first_line(text);
         number += 1;
         draft.take_line(alloc, line, number)?;
         rest = behind;

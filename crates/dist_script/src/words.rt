@@ -1,8 +1,10 @@
 //! The lines of a text, and the words of a line.
 
 ghost use Rattle.std.specs.Prelude.{◌≡◌, ◌↔◌, ◌≤◌, ℕ, List, [], ◌∷◌, length, option_copied, IsTrue, MatchOption, MatchResult, MatchBool};
+ghost use Rattle.std.specs.List.{position};
+ghost use Rattle.memchr.specs.Find.{is_byte};
 ghost use Rattle.dist_script.specs.declared.words.LineFault.TheVariants.{NoMemory};
-ghost use Rattle.dist_script.specs.Words.{words_of, parts_of, parts_in, bytes_left, is_skipped};
+ghost use Rattle.dist_script.specs.Words.{words_of, lines_of, parts_in, bytes_left, is_skipped};
 
 use memchr::memchr;
 use std::alloc::{AllocError, AllocFailed};
@@ -43,15 +45,22 @@ pub fn is_skipped(line: &[u8]) -> bool
     }
 }
 
-/// What stands before the first of these bytes in a text, and what stands behind it, where there is one.
-pub fn first_part(text: &[u8], byte: u8) -> (&[u8], Option<&[u8]>)
-    ensures parts { parts_of byte text.now ≡ result.0.now ∷ parts_in byte (option_copied result.1) }
+/// The first line of a text, and what stands behind its line feed, where it has one.
+pub fn first_line(text: &[u8]) -> (&[u8], Option<&[u8]>)
+    ensures parts { lines_of text.now ≡ result.0.now ∷ parts_in 10 (option_copied result.1) }
     ensures fewer { bytes_left (option_copied result.1) ≤ length text.now }
 {
-    match memchr(byte, text) {
+    match memchr(b'\n', text) {
         Some(place) => (&text[..place], Some(&text[place + 1..])),
         None => (text, None),
     }
+}
+
+// Where the first space of a line stands. Most words are short, so their bytes are looked at one by one.
+fn first_space(line: &[u8]) -> Option<usize>
+    ensures { result ≡ position (is_byte 32) line.now }
+{
+    line.iter().position(|byte| *byte == b' ')
 }
 
 /// What is still to be read of a line: words with one space between. Two spaces have a word of no bytes between them,
@@ -79,13 +88,16 @@ impl<'a> Words<'a> {
     }
 
     /// Takes the next word, or returns `None` where no word is left.
+    #[tactic(auto, using(crate::proofs::Split::at_space, crate::proofs::Split::no_space))]
     pub fn next(&mut self) -> Option<&'a [u8]>
         ensures { MatchOption result ((self.old ≡ []) × (self.new ≡ [])) (λ word. self.old ≡ word.now ∷ self.new) }
     {
         let line = self.rest.take()?;
-        let (word, rest) = first_part(line, b' ');
-        self.rest = rest;
-        Some(word)
+        let Some(place) = first_space(line) else {
+            return Some(line);
+        };
+        self.rest = Some(&line[place + 1..]);
+        Some(&line[..place])
     }
 
     /// Takes the next word, which the form of the line wants. Without one the line is bad.
@@ -99,14 +111,21 @@ impl<'a> Words<'a> {
     }
 
     /// Takes the next word where it is this one, and returns whether it was.
+    #[tactic(auto, using(crate::proofs::Split::other_start))]
+    #[inline(always)]
     pub fn skip(&mut self, wanted: &[u8]) -> bool
         ensures { MatchBool result (self.old ≡ wanted.now ∷ self.new) ((self.new ≡ self.old) × ((rest : List (List ℕ)) → self.old ≡ wanted.now ∷ rest → ⊥)) }
     {
-        let rest = self.rest;
+        let Some(line) = self.rest else {
+            return false;
+        };
+        if !line.starts_with(wanted) {
+            return false;
+        }
         if self.next() == Some(wanted) {
             return true;
         }
-        self.rest = rest;
+        self.rest = Some(line);
         false
     }
 
