@@ -81,6 +81,12 @@ pub record Stays (c e : CapturedConnection) : Type 0 where
   pub ends : SameEnds c e
   pub tells : (b : Sent) → Tells c b → Tells e b
 
+-- It is the same connection, of which other things may be known or forgotten.
+pub record SameConnection (c e : CapturedConnection) : Type 0 where
+  pub ends : SameEnds c e
+  pub at_mapper : e.is_at_mapper ≡ c.is_at_mapper
+  pub reported : e.is_reported ≡ c.is_reported
+
 -- AN ATTEMPT WAS JUDGED: its verdict is that on what the connection carries, which says the same as before.
 pub record Judges (t : Terms) (c e : CapturedConnection) : Type 0 where
   pub stays : Stays c e

@@ -1,6 +1,8 @@
 //! What an attempt to connect came to.
 
-ghost use Rattle.std.specs.Prelude.{◌≡◌};
+ghost use Rattle.std.specs.Prelude.{◌≡◌, ℕ, IfSome, IsTrue};
+ghost use Rattle.dist_talk.specs.declared.handshake.Handshake.{Handshake};
+ghost use Rattle.distping_capture.specs.Endings.{IsConcluded, IsFirstEnd, IsOverdue, Shows, ShowsEnd, ShowsFault, last_said};
 ghost use Rattle.distping_capture.specs.{Attempts.verdict_on, Connections.Stays};
 
 use crate::connection::{CapturedConnection, PATIENCE};
@@ -29,7 +31,9 @@ fn begins_with_name(said: &[SentMessage]) -> bool {
 }
 
 // When the latest message of these was there, or this time if there is none.
-fn latest_of(said: &[SentMessage], began: u64) -> u64 {
+fn latest_of(said: &[SentMessage], began: u64) -> u64
+    ensures { result ≡ last_said began said.now }
+{
     match said.last() {
         Some(sent) => sent.at,
         None => began,
@@ -47,7 +51,9 @@ impl CapturedConnection {
     }
 
     // What it means that a side ended so.
-    fn meaning_of(&self, side: Side, end: FlowEnd) -> HowEnded {
+    fn meaning_of(&self, side: Side, end: FlowEnd) -> HowEnded
+        ensures { (h : Handshake) (now : ℕ) → IsFirstEnd self.now side end → Shows self.now h now side result }
+    {
         if self.flow(other_side(side)).is_unread_by(end) {
             HowEnded::Unread
         } else if end.is_reset {
@@ -58,7 +64,9 @@ impl CapturedConnection {
     }
 
     // Whether the side whose turn it was in a handshake said nothing for too long, until its end or this time.
-    fn is_overdue(&self, handshake: &Handshake, now: u64) -> bool {
+    fn is_overdue(&self, handshake: &Handshake, now: u64) -> bool
+        ensures { IsTrue result → IsOverdue self.now handshake.now now }
+    {
         let dialler = latest_of(&handshake.dialler, self.began);
         let latest = dialler.max(latest_of(&handshake.acceptor, self.began));
         let end = match self.first_end() {
@@ -69,7 +77,9 @@ impl CapturedConnection {
     }
 
     // How a handshake ended where this side's turn was. An accepting side that closes late was there, and so not silent.
-    fn ending_at(&self, handshake: &Handshake, side: Side, now: u64) -> Option<HandshakeEnd> {
+    fn ending_at(&self, handshake: &Handshake, side: Side, now: u64) -> Option<HandshakeEnd>
+        ensures { ShowsEnd self.now handshake.now now result }
+    {
         let bytes = self.flow(side).bytes();
         if let NextBody::Front(front) = next_body(side, bytes) {
             let how = HowEnded::Foreign(front);
@@ -88,7 +98,9 @@ impl CapturedConnection {
 
     /// Notes in its handshake what the capture lacks, and how it ended, as it stands at this time, unless that was noted.
     pub fn conclude(&mut self, terms: &Terms<'_>, now: u64)
-        ensures { Stays self.old self.new }
+        ensures ending { IsConcluded terms.now self.old now self.old.content self.new.content }
+        ensures stays { Stays self.old self.new }
+        ensures rest { self.new ≡ record self.old { content = self.new.content } }
     {
         let Traffic::Handshake(handshake) = &self.content else {
             return;
@@ -108,7 +120,9 @@ impl CapturedConnection {
     }
 
     /// Notes that TLS was dialled where a plain node listens: it took the connection, said nothing, and no byte of it is missing.
-    pub fn conclude_tls(&mut self, alloc: Global, now: u64) {
+    pub fn conclude_tls(&mut self, alloc: Global, now: u64)
+        ensures { self.new ≡ record self.old { content = self.new.content } }
+    {
         let is_left = self.first_end().is_some() || now.saturating_sub(self.began) >= PATIENCE;
         if is_left && !self.flow(Side::Acceptor).has_spoken && !self.lacks_bytes(Side::Acceptor) {
             let mut handshake = Handshake::new(alloc);
@@ -118,7 +132,9 @@ impl CapturedConnection {
     }
 
     // Why a port mapper gave no answer, at this time.
-    fn answer_fault(&self, now: u64) -> Option<LookupError> {
+    fn answer_fault(&self, now: u64) -> Option<LookupError>
+        ensures { IfSome result (ShowsFault self.now now) }
+    {
         match self.first_end() {
             _ if self.lacks_bytes(Side::Acceptor) || self.lacks_bytes(Side::Dialler) => None,
             Some((Side::Acceptor, end)) if end.is_reset => Some(LookupError::ReadFailed),
@@ -130,13 +146,23 @@ impl CapturedConnection {
     }
 
     /// Notes that a port mapper gave no answer to a registration or a lookup.
-    pub fn conclude_mapper(&mut self, now: u64) {
+    pub fn conclude_mapper(&mut self, now: u64)
+        ensures { self.new ≡ record self.old { content = self.new.content } }
+    {
         let fault = self.answer_fault(now);
         if let Traffic::Mapper(talk) = &mut self.content
             && talk.request.is_some()
             && !talk.is_done()
         {
             talk.fault = fault;
+        }
+    }
+
+    /// Whether a port mapper refused what it was asked, or gave no answer for a cause that is known.
+    pub fn has_mapper_fault(&self) -> bool {
+        match &self.content {
+            Traffic::Mapper(talk) => talk.verdict().is_some(),
+            _ => false,
         }
     }
 

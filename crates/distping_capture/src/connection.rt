@@ -1,8 +1,9 @@
 //! One connection of TCP, as far as a capture shows it.
 
-ghost use Rattle.std.specs.Prelude.{◌≡◌, ℕ, List, IsTrue, OnOk};
+ghost use Rattle.std.specs.Prelude.{◌≡◌, ℕ, List, IfNone, IfSome, IsTrue, OnOk};
+ghost use Rattle.distping_capture.specs.Endings.{IsFirstEnd, NeitherEnded, WasNeverMade};
 ghost use Rattle.distping_capture.specs.Connections.{Finds, Follows, Gathers, GoesOn, Holds, IsFrom, IsLeft, Keeps};
-ghost use Rattle.distping_capture.specs.Connections.{SameEnds, Sent, Stays, Still, Tells, nothing_sent};
+ghost use Rattle.distping_capture.specs.Connections.{SameEnds, Sent, Stays, Still, Tells, flow_of, nothing_sent};
 ghost use Rattle.distping_capture.specs.Flows.{Brings, SameBytes};
 
 use crate::flow::{Flow, FlowEnd};
@@ -116,7 +117,9 @@ impl CapturedConnection {
     }
 
     /// What a side sends.
-    pub fn flow(&self, side: Side) -> &Flow {
+    pub fn flow(&self, side: Side) -> &Flow
+        ensures { result.now ≡ flow_of side self.now }
+    {
         match side {
             Side::Dialler => &self.from_dialler,
             Side::Acceptor => &self.from_acceptor,
@@ -175,7 +178,10 @@ impl CapturedConnection {
 
     /// The first end that is known: by whom, and how. The side that acknowledges the close of the other one ended after it, in whatever
     /// order the capture has the two.
-    pub fn first_end(&self) -> Option<(Side, FlowEnd)> {
+    pub fn first_end(&self) -> Option<(Side, FlowEnd)>
+        ensures some { IfSome result (λ first. IsFirstEnd self.now first.0 first.1) }
+        ensures none { IfNone result (NeitherEnded self.now) }
+    {
         let (dialler, acceptor) = (
             self.from_dialler.known_end(),
             self.from_acceptor.known_end(),
@@ -222,7 +228,9 @@ impl CapturedConnection {
 
     /// Why it was never made: its first segment was answered by a reset, or by nothing until this time. `None` if it was made, or if
     /// that is not in the capture.
-    pub fn connect_fault(&self, now: u64) -> Option<Unreached> {
+    pub fn connect_fault(&self, now: u64) -> Option<Unreached>
+        ensures { IfSome result (WasNeverMade self.now now) }
+    {
         if self.is_made || self.opening.is_none() {
             return None;
         }
@@ -294,15 +302,17 @@ impl CapturedConnection {
 
     /// Reads no more of it.
     pub fn stop_reading(&mut self)
-        ensures stays { Stays self.old self.new }
-        ensures content { self.new.content ≡ self.old.content }
+        ensures { self.new ≡ record self.old { from_dialler = self.new.from_dialler; from_acceptor = self.new.from_acceptor } }
     {
         self.from_dialler.stop_reading();
         self.from_acceptor.stop_reading();
     }
 
     /// Forgets what was said on it.
-    pub fn forget(&mut self) {
+    pub fn forget(&mut self)
+        ensures verdict { self.new.verdict ≡ self.old.verdict }
+        ensures reported { self.new.is_reported ≡ self.old.is_reported }
+    {
         self.stop_reading();
         self.content = Traffic::Other;
         self.said = 0;

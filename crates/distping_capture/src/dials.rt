@@ -1,7 +1,7 @@
 //! Attempts as they are remembered: which crossed, which are in doubt, and what they came to, counted.
 
-ghost use Rattle.std.specs.Prelude.{◌≡◌, ◌↔◌, IsTrue};
-ghost use Rattle.distping_capture.specs.Crossings.{Crosses, GoesBack, MayBe, gives_way, is_made, leeway, must_win};
+ghost use Rattle.std.specs.Prelude.{◌≡◌, ◌↔◌, IsTrue, OnOk};
+ghost use Rattle.distping_capture.specs.Crossings.{Crosses, GivesWay, GoesBack, MayBe, Meets, gives_way, is_made, leeway, lost_to, must_win};
 
 use crate::nodes::{MOST, NodesSeen};
 use dist_capture::Endpoint;
@@ -115,8 +115,8 @@ impl PastDial {
             && self.dialler.address == loser.acceptor.address
     }
 
-    /// Whether this dial came up and crossed that one, which gave way to it and to none before.
-    pub fn has_crossed(&self, loser: &PastDial) -> bool
+    // Whether this dial came up and crossed that one, which gave way to it and to none before.
+    fn has_crossed(&self, loser: &PastDial) -> bool
         ensures { IsTrue result ↔ Crosses self.now loser.now }
     {
         is_made(self.verdict)
@@ -127,8 +127,10 @@ impl PastDial {
             && loser.exit != 0
     }
 
-    /// Prints and notes that this dial won over that one, and whether it had to.
-    pub fn win(&self, lines: LineSink<'_>, loser: &mut PastDial) -> Result<(), Fault> {
+    // Prints and notes that this dial won over that one, and whether it had to.
+    fn win(&self, lines: LineSink<'_>, loser: &mut PastDial) -> Result<(), Fault>
+        ensures { OnOk result (loser.new ≡ lost_to self.now loser.old) }
+    {
         loser.other = ByteString::from_slice(lines.alloc, self.name.as_slice())?;
         loser.exit = 0;
         let text = if self.must_win(loser) {
@@ -143,6 +145,31 @@ impl PastDial {
             Name(loser.name.as_slice()),
             Text(text),
         ])
+    }
+
+    // Prints if this dial and an earlier one crossed, and notes which of the two gave way.
+    #[tactic(auto, using(crate::proofs::Meeting::one_way))]
+    fn meet(&mut self, lines: LineSink<'_>, earlier: &mut PastDial) -> Result<(), Fault>
+        ensures earlier { OnOk result (GivesWay self.old earlier.old earlier.new) }
+        ensures itself { OnOk result (GivesWay earlier.old self.old self.new) }
+    {
+        if self.has_crossed(earlier) {
+            return self.win(lines, earlier);
+        }
+        if earlier.has_crossed(self) {
+            return earlier.win(lines, self);
+        }
+        Ok(())
+    }
+
+    /// Prints which of the earlier dials this one crossed, and notes which of each two gave way.
+    pub fn meet_all(&mut self, lines: LineSink<'_>, earlier: &mut [PastDial]) -> Result<(), Fault>
+        ensures { OnOk result (Meets self.old earlier.old self.new earlier.new) }
+    {
+        for it in earlier.iter_mut() {
+            self.meet(lines, it)?;
+        }
+        Ok(())
     }
 
     // The host of the other side, if its name has none.

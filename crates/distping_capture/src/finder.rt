@@ -1,6 +1,8 @@
 //! All connections of a capture.
 
-ghost use Rattle.std.specs.Prelude.{◌≤◌, vec_len};
+ghost use Rattle.std.specs.Prelude.{◌≡◌, ◌<◌, ◌≤◌, [], IfOk, remove, OnOk, vec_len};
+ghost use Rattle.dist_talk.specs.declared.terms.Terms.{Terms};
+ghost use Rattle.distping_capture.specs.Exits.{Counts, EndsWith, GoesOnCounting};
 
 use crate::connection::{CapturedConnection, ends_of};
 use crate::left_out::PacketsLeftOut;
@@ -33,7 +35,9 @@ pub struct Finder<'x> {
 
 impl<'x> Finder<'x> {
     /// A finder that has seen nothing.
-    pub fn new(lines: LineSink<'x>, terms: Terms<'x>, mapper_port: u16) -> Finder<'x> {
+    pub fn new(lines: LineSink<'x>, terms: Terms<'x>, mapper_port: u16) -> Finder<'x>
+        ensures { Counts terms.entry result.register }
+    {
         Finder {
             register: Register::new(lines, terms),
             mapper_port,
@@ -44,7 +48,9 @@ impl<'x> Finder<'x> {
     }
 
     // The connection that is to be forgotten first: of those that ended the oldest, else the one that was quiet for longest.
-    fn oldest(&self) -> usize {
+    fn oldest(&self) -> usize
+        ensures { 0 < vec_len self.now.connections → result < vec_len self.now.connections }
+    {
         let (mut place, mut least) = (0, (true, u64::MAX));
         for (at, connection) in self.connections.iter().enumerate() {
             let rank = (!connection.is_reported, connection.latest);
@@ -69,23 +75,38 @@ impl<'x> Finder<'x> {
     }
 
     // Forgets the connection at this place, and prints what there is to say of it.
-    fn give_up(&mut self, place: usize) -> Result<(), Fault> {
-        if place < self.connections.len() {
-            let mut given_up = self.connections.remove(place);
-            self.kept = self.kept.saturating_sub(given_up.kept_bytes());
-            self.register.end(&mut *given_up)?;
+    fn give_up(&mut self, place: usize) -> Result<(), Fault>
+        ensures counting { OnOk result (GoesOnCounting self.old.register self.new.register) }
+        ensures given_up { place < vec_len self.old.connections → self.new.connections.items ≡ remove self.old.connections.items place }
+    {
+        if place >= self.connections.len() {
+            return Ok(());
         }
-        Ok(())
+        let mut given_up = self.connections.remove(place);
+        self.kept = self.kept.saturating_sub(given_up.kept_bytes());
+        self.register.end(&mut *given_up)
     }
 
     // The same to have room for another one.
-    fn forget(&mut self, place: usize) -> Result<(), Fault> {
+    fn forget(&mut self, place: usize) -> Result<(), Fault>
+        ensures { OnOk result (GoesOnCounting self.old.register self.new.register) }
+    {
         let is_open = self
             .connections
             .get(place)
             .is_some_and(|it| !it.is_reported);
         self.forgotten = self.forgotten.saturating_add(u64::from(is_open));
         self.give_up(place)
+    }
+
+    // Forgets a connection if there is no room for another one.
+    fn make_room(&mut self) -> Result<(), Fault>
+        ensures { OnOk result (GoesOnCounting self.old.register self.new.register) }
+    {
+        if self.connections.len() < MOST_CONNECTIONS {
+            return Ok(());
+        }
+        self.forget(self.oldest())
     }
 
     // Where a connection between these ends is, or would be.
@@ -96,16 +117,16 @@ impl<'x> Finder<'x> {
     }
 
     // Where the connection of a segment is. If there is none, it is made.
-    fn place_for(&mut self, segment: &Segment) -> Result<usize, Fault> {
+    fn place_for(&mut self, segment: &Segment) -> Result<usize, Fault>
+        ensures { OnOk result (GoesOnCounting self.old.register self.new.register) }
+    {
         let ends = ends_of(segment);
         let place = self.place_of(ends);
         match self.connections.get(place) {
             Some(connection) if connection.ends == ends => return Ok(place),
             _ => {}
         }
-        if self.connections.len() >= MOST_CONNECTIONS {
-            self.forget(self.oldest())?;
-        }
+        self.make_room()?;
         let alloc = self.register.lines.alloc;
         let made = Box::new(alloc, CapturedConnection::new(segment, self.mapper_port))?;
         let place = self.place_of(ends);
@@ -114,19 +135,15 @@ impl<'x> Finder<'x> {
     }
 
     // Takes a segment of the connection at this place.
-    fn hand_on(&mut self, place: usize, segment: &Segment) -> Result<(), Fault> {
+    fn hand_on(&mut self, place: usize, segment: &Segment) -> Result<(), Fault>
+        ensures { OnOk result (GoesOnCounting self.old.register self.new.register) }
+    {
         let Some(connection) = self.connections.get_mut(place) else {
             return Ok(());
         };
         let connection = &mut **connection;
         let before = connection.kept_bytes();
-        if connection.is_before(segment) {
-            // What came behind its latest segment is not in the capture.
-            self.register.time = connection.latest;
-            self.register.end(connection)?;
-            self.register.time = segment.time;
-            *connection = CapturedConnection::new(segment, self.mapper_port);
-        }
+        self.register.renew(connection, segment, self.mapper_port)?;
         self.register.take(connection, segment)?;
         let others = self.kept.saturating_sub(before);
         self.kept = others.saturating_add(connection.kept_bytes());
@@ -134,19 +151,24 @@ impl<'x> Finder<'x> {
     }
 
     /// Takes the next segment of the capture.
-    pub fn take(&mut self, segment: &Segment) -> Result<(), Fault> {
-        self.register.time = segment.time;
+    pub fn take(&mut self, segment: &Segment) -> Result<(), Fault>
+        ensures { OnOk result (GoesOnCounting self.old.register self.new.register) }
+    {
+        self.register.note_time(segment.time);
         let place = self.place_for(segment)?;
         self.hand_on(place, segment)?;
         if self.kept > MOST_KEPT {
-            self.forget(self.largest())?;
+            return self.forget(self.largest());
         }
         Ok(())
     }
 
     /// Prints what is open, the longest quiet first.
-    pub fn give_up_all(&mut self) -> Result<(), Fault> {
-        for _ in 0..self.connections.len() {
+    pub fn give_up_all(&mut self) -> Result<(), Fault>
+        ensures counting { OnOk result (GoesOnCounting self.old.register self.new.register) }
+        ensures none { OnOk result (self.new.connections.items ≡ []) }
+    {
+        'open: while !self.connections.is_empty() {
             self.give_up(self.oldest())?;
         }
         Ok(())
@@ -154,7 +176,9 @@ impl<'x> Finder<'x> {
 
     /// Ends the capture, of which so many packets gave no segment: prints what is open, then the summary by pair, and what was left out.
     /// Returns the exit status: the first that is not 0 of the attempts.
-    pub fn finish(&mut self, counts: SkippedCounts, is_cut_off: bool) -> Result<u8, Fault> {
+    pub fn finish(&mut self, counts: SkippedCounts, is_cut_off: bool) -> Result<u8, Fault>
+        ensures { IfOk result (λ status. (t : Terms) → Counts t self.old.register → EndsWith t status) }
+    {
         self.give_up_all()?;
         self.register.finish(&PacketsLeftOut {
             counts,

@@ -1,6 +1,7 @@
 //! What one side of a connection sends, by its sequence numbers (RFC 9293, 3.4: they are compared modulo 2^32).
 
-ghost use Rattle.std.specs.Prelude.{◌≡◌, ℕ, List, None, OnOk, true};
+ghost use Rattle.std.specs.Prelude.{◌≡◌, ℕ, List, None, OnOk, Some, true};
+ghost use Rattle.distping_capture.specs.Endings.{awaited_of, end_before, is_ahead, is_known_ahead, is_unread};
 ghost use Rattle.distping_capture.specs.Flows.{Begins, Brings, Delivers, SameBytes, bytes_of, gathered, number_of_first, without_first};
 
 use dist_capture::{Segment, SegmentStream};
@@ -54,7 +55,9 @@ pub struct Flow {
 }
 
 /// Whether a sequence number is behind another one.
-pub fn is_ahead(number: u32, other: u32) -> bool {
+pub fn is_ahead(number: u32, other: u32) -> bool
+    ensures { result ≡ is_ahead number other }
+{
     let ahead = number.wrapping_sub(other);
     ahead != 0 && ahead < 0x8000_0000
 }
@@ -149,7 +152,9 @@ impl Flow {
     }
 
     /// The number of the next byte that is missing or to come; once it is not read any more, the one behind all that were sent.
-    pub fn next(&self) -> Option<u32> {
+    pub fn next(&self) -> Option<u32>
+        ensures { result ≡ awaited_of self.now }
+    {
         match &self.stream {
             Some(stream) => Some(stream.next_number()),
             None => self.sent,
@@ -273,12 +278,16 @@ impl Flow {
         self.window
     }
 
-    fn is_behind_gap(&self, end: FlowEnd) -> bool {
+    fn is_behind_gap(&self, end: FlowEnd) -> bool
+        ensures { result ≡ is_known_ahead (Some end.number) (awaited_of self.now) }
+    {
         self.next().is_some_and(|next| is_ahead(end.number, next))
     }
 
     /// How it ended, if no byte before that is missing.
-    pub fn known_end(&self) -> Option<FlowEnd> {
+    pub fn known_end(&self) -> Option<FlowEnd>
+        ensures { result ≡ end_before self.now.end (awaited_of self.now) }
+    {
         match self.end {
             Some(end) if !self.is_behind_gap(end) => Some(end),
             _ => None,
@@ -286,7 +295,9 @@ impl Flow {
     }
 
     /// Whether the other side, which ended so, had not received all bytes of this one that are in the capture.
-    pub fn is_unread_by(&self, end: FlowEnd) -> bool {
+    pub fn is_unread_by(&self, end: FlowEnd) -> bool
+        ensures { result ≡ is_unread self.now end }
+    {
         match (self.next(), end.received) {
             (Some(next), Some(received)) => is_ahead(next, received),
             _ => false,

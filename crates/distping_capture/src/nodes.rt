@@ -292,6 +292,16 @@ impl NodesSeen {
         Ok(())
     }
 
+    /// The name of the node where an attempt went, by what it said there, which is remembered; empty if it is not known.
+    pub fn acceptor_name(
+        &mut self,
+        place: Endpoint,
+        said: &[u8],
+    ) -> Result<ByteString, AllocError> {
+        self.note(place, said)?;
+        ByteString::from_slice(self.alloc, self.listener(place).unwrap_or(said))
+    }
+
     /// Notes that a port mapper gave a node's port on this connection, to a lookup of this name. Of the lookups by one host at another one
     /// the latest counts.
     pub fn note_found(

@@ -1,5 +1,8 @@
 //! Reads a capture, and prints what it shows.
 
+ghost use Rattle.std.specs.Prelude.{IfOk, OnOk};
+ghost use Rattle.distping_capture.specs.Exits.{EndsWith, GoesOnCounting, terms_of};
+
 use crate::finder::Finder;
 use dist_capture::{Capture, CaptureFault};
 use dist_secret::Cookie;
@@ -14,8 +17,10 @@ use std::io::{ErrorKind, Read};
 const PIECE: usize = 65_536;
 
 // Takes the segments that are whole in what was read.
-fn take_segments(capture: &mut Capture, finder: &mut Finder<'_>) -> Result<(), Fault> {
-    for _ in 0..u64::MAX {
+fn take_segments(capture: &mut Capture, finder: &mut Finder<'_>) -> Result<(), Fault>
+    ensures { OnOk result (GoesOnCounting finder.old.register finder.new.register) }
+{
+    'segments: for _ in 0..u64::MAX {
         match capture.next() {
             Ok(Some(segment)) => finder.take(&segment)?,
             Ok(None) => return Ok(()),
@@ -32,10 +37,12 @@ fn take_all<F: Read + Drop>(
     file: F,
     capture: &mut Capture,
     finder: &mut Finder<'_>,
-) -> Result<(), Fault> {
+) -> Result<(), Fault>
+    ensures { OnOk result (GoesOnCounting finder.old.register finder.new.register) }
+{
     let mut file = file;
     let mut room = vec![in alloc; 0u8; PIECE]?;
-    for _ in 0..u64::MAX {
+    'pieces: for _ in 0..u64::MAX {
         let count = match file.read(&mut room) {
             Ok(count) => count,
             Err(error) if error.kind() == ErrorKind::Interrupted => continue,
@@ -73,7 +80,9 @@ fn take_path(
     path: &str,
     capture: &mut Capture,
     finder: &mut Finder<'_>,
-) -> Result<(), Fault> {
+) -> Result<(), Fault>
+    ensures { OnOk result (GoesOnCounting finder.old.register finder.new.register) }
+{
     if path == "-" {
         take_all(rt.alloc(), rt.stdin(), capture, finder)
     } else {
@@ -88,7 +97,9 @@ pub fn read_capture(
     path: &str,
     choices: &Choices<'_>,
     cookie: Option<&Cookie>,
-) -> Result<u8, Fault> {
+) -> Result<u8, Fault>
+    ensures { IfOk result (λ status. EndsWith (terms_of cookie.entry) status) }
+{
     let lines = LineSink::on_screen(rt, choices.json);
     let terms = Terms {
         viewpoint: Viewpoint::Capture,

@@ -1,8 +1,10 @@
 //! What is printed of connections, and what several of them show together: how often which pair of nodes came to what, restarts, names
 //! that two hosts use, dials that cross, lookups that lead elsewhere, and what leaves a wrong cookie in doubt.
 
-ghost use Rattle.std.specs.Prelude.{◌≡◌, IfOk, OnOk};
-ghost use Rattle.distping_capture.specs.{Connections.Judges, Exits.exit_of, Exits.first_exit};
+ghost use Rattle.std.specs.Prelude.{◌≡◌, ◌++◌, [], ◌∷◌, ◌==◌, IfOk, List, OnOk, true, if◌then◌else◌};
+ghost use Rattle.distping_capture.specs.{Attempts.verdict_on, Connections.Judges, Connections.SameConnection, declared.dials.PastDial.PastDial};
+ghost use Rattle.dist_talk.specs.{Words.status_of, declared.terms.Terms.Terms};
+ghost use Rattle.distping_capture.specs.Exits.{Adds, Counts, GoesOnCounting, Notes, NotesOnce, SameAttempts, StandsFor, exit_of, first_exit};
 
 use crate::connection::CapturedConnection;
 use crate::dials::{PastDial, add, by_pairs};
@@ -42,8 +44,8 @@ pub struct Register<'x> {
     pub lines: LineSink<'x>,
     // What handshakes are judged by.
     terms: Terms<'x>,
-    /// The time of the latest segment.
-    pub time: u64,
+    // The time of the latest segment.
+    time: u64,
     nodes: NodesSeen,
     // The hosts that sent a segment, in order.
     hosts: Vec<IpAddr>,
@@ -71,7 +73,9 @@ fn first_exit(dials: &[PastDial]) -> u8
 
 impl<'x> Register<'x> {
     /// Nothing is remembered.
-    pub fn new(lines: LineSink<'x>, terms: Terms<'x>) -> Register<'x> {
+    pub fn new(lines: LineSink<'x>, terms: Terms<'x>) -> Register<'x>
+        ensures { Counts terms.entry result }
+    {
         let alloc = lines.alloc;
         Register {
             lines,
@@ -88,7 +92,12 @@ impl<'x> Register<'x> {
     }
 
     // Counts what a dial came to. The first status that is not 0 counts.
-    fn settle(&mut self, dial: PastDial) -> Result<(), AllocError> {
+    fn settle(&mut self, dial: PastDial) -> Result<(), AllocError>
+        ensures { OnOk result (self.new ≡ record self.old {
+          status = if self.old.status == 0 then dial.exit else self.old.status;
+          counted = self.new.counted;
+        }) }
+    {
         if self.status == 0 {
             self.status = dial.exit;
         }
@@ -98,41 +107,45 @@ impl<'x> Register<'x> {
         Ok(())
     }
 
+    // Counts the oldest attempt, if there are more than are remembered.
+    fn settle_oldest(&mut self) -> Result<(), AllocError>
+        ensures terms { OnOk result (self.new.terms ≡ self.old.terms) }
+        ensures stands { OnOk result ((attempts : List PastDial) → StandsFor self.old attempts → StandsFor self.new attempts) }
+    {
+        if self.dials.len() <= MOST_DIALS {
+            return Ok(());
+        }
+        let oldest = self.dials.remove(0);
+        self.settle(oldest)
+    }
+
     // Remembers an attempt behind those that are remembered.
-    fn push_dial(&mut self, dial: PastDial) -> Result<(), AllocError> {
+    fn push_dial(&mut self, dial: PastDial) -> Result<(), AllocError>
+        ensures terms { OnOk result (self.new.terms ≡ self.old.terms) }
+        ensures stands { OnOk result ((earlier : List PastDial) → self.old.status ≡ first_exit earlier
+            → StandsFor self.new (earlier ++ (self.old.dials.items ++ dial ∷ []))) }
+    {
+        self.has_found = true;
         self.dials.push(dial)?;
-        if self.dials.len() > MOST_DIALS {
-            let oldest = self.dials.remove(0);
-            self.settle(oldest)?;
-        }
-        Ok(())
+        self.settle_oldest()
     }
 
-    // Remembers a dial, and prints what it shows together with earlier ones.
-    fn take_dial(&mut self, dial: PastDial) -> Result<(), Fault> {
-        let (lines, mut dial) = (self.lines, dial);
-        for it in &mut self.dials {
-            if dial.has_crossed(it) {
-                dial.win(lines, it)?;
-            } else if it.has_crossed(&dial) {
-                it.win(lines, &mut dial)?;
-            }
+    // Prints if an attempt ended when the registration of its node did.
+    fn put_stopped(&self, dial: &PastDial) -> Result<(), Fault> {
+        match self.unregistered {
+            Some((port, at)) if dial.ended_with(port, at) => self.lines.put(&[Text(STOPPED)]),
+            _ => Ok(()),
         }
-        if let Some((port, at)) = self.unregistered
-            && dial.ended_with(port, at)
-        {
-            lines.put(&[Text(STOPPED)])?;
-        }
+    }
+
+    // Remembers an attempt, and prints what it shows together with earlier ones.
+    fn add_attempt(&mut self, dial: PastDial) -> Result<(), Fault>
+        ensures { OnOk result (Adds dial self.old self.new) }
+    {
+        let mut dial = dial;
+        dial.meet_all(self.lines, &mut self.dials)?;
+        self.put_stopped(&dial)?;
         Ok(self.push_dial(dial)?)
-    }
-
-    // The name of the node where an attempt went, which is remembered; empty if it is not known.
-    fn acceptor_name(&mut self, place: Endpoint, said: &[u8]) -> Result<ByteString, AllocError> {
-        self.nodes.note(place, said)?;
-        match self.nodes.listener(place) {
-            Some(name) => ByteString::from_slice(self.lines.alloc, name),
-            None => ByteString::from_slice(self.lines.alloc, said),
-        }
     }
 
     // An attempt that came to this verdict, between nodes of these names.
@@ -142,7 +155,10 @@ impl<'x> Register<'x> {
         verdict: HandshakeVerdict,
         name: ByteString,
         other: ByteString,
-    ) -> PastDial {
+    ) -> PastDial
+        ensures verdict { result.verdict ≡ verdict }
+        ensures exit { result.exit ≡ status_of verdict }
+    {
         PastDial {
             name,
             other,
@@ -157,26 +173,30 @@ impl<'x> Register<'x> {
         }
     }
 
-    // Remembers an attempt, and prints what it shows together with earlier ones.
+    // Remembers an attempt to reach a node, and prints what it shows together with earlier ones.
     fn note_attempt(
         &mut self,
         connection: &CapturedConnection,
         verdict: HandshakeVerdict,
-    ) -> Result<(), Fault> {
+    ) -> Result<(), Fault>
+        ensures { OnOk result (Notes verdict self.old self.new) }
+    {
         let lines = self.lines;
         self.nodes.note_sides(lines, connection)?;
-        let other = self.acceptor_name(connection.acceptor, connection.name_of(Side::Acceptor))?;
+        let said = connection.name_of(Side::Acceptor);
+        let other = self.nodes.acceptor_name(connection.acceptor, said)?;
         self.nodes.put_lookup(lines, connection, other.as_slice())?;
         let name = ByteString::from_slice(lines.alloc, connection.name_of(Side::Dialler))?;
         let dial = self.dial_of(connection, verdict, name, other);
-        self.take_dial(dial)
+        self.add_attempt(dial)
     }
 
     // Prints an attempt that came up, or whose connection ended, and remembers it.
     fn put_attempt(&mut self, connection: &mut CapturedConnection) -> Result<(), Fault>
-        ensures { OnOk result (Judges self.old.terms connection.old connection.new) }
+        ensures connection { SameConnection connection.old connection.new }
+        ensures judges { OnOk result (Judges self.old.terms connection.old connection.new
+            × Notes (verdict_on self.old.terms connection.new.is_at_mapper connection.new.content) self.old self.new) }
     {
-        self.has_found = true;
         connection.conclude(&self.terms, self.time);
         connection.stop_reading();
         let verdict = put_attempt(self.lines, connection, &self.terms)?;
@@ -185,11 +205,21 @@ impl<'x> Register<'x> {
         self.note_attempt(connection, verdict)
     }
 
-    // Prints what there is to say of an attempt at the end of its connection.
-    fn end_attempt(&mut self, connection: &mut CapturedConnection) -> Result<(), Fault> {
-        if connection.verdict.is_none() {
-            self.put_attempt(connection)?;
+    // The same, unless it was printed.
+    fn put_attempt_once(&mut self, connection: &mut CapturedConnection) -> Result<(), Fault>
+        ensures connection { SameConnection connection.old connection.new }
+        ensures once { OnOk result (NotesOnce connection.old.verdict connection.new.verdict self.old self.new) }
+    {
+        if connection.verdict.is_some() {
+            return Ok(());
         }
+        self.put_attempt(connection)
+    }
+
+    // Prints how a connection ended, if it came up; and the object of it.
+    fn put_attempt_end(&mut self, connection: &CapturedConnection) -> Result<(), Fault>
+        ensures { OnOk result (SameAttempts self.old self.new) }
+    {
         if let Some(up_at) = connection.up_since() {
             put_end(self.lines, connection, up_at, self.time)?;
             self.nodes.note_end(self.lines, connection)?;
@@ -201,33 +231,56 @@ impl<'x> Register<'x> {
         Ok(())
     }
 
-    // Prints the verdict on what a port mapper answered, or did not, if it is one.
-    fn put_mapper_verdict(&mut self, connection: &CapturedConnection) -> Result<(), Fault> {
+    // Prints what there is to say of an attempt at the end of its connection.
+    fn end_attempt(&mut self, connection: &mut CapturedConnection) -> Result<(), Fault>
+        ensures connection { SameConnection connection.old connection.new }
+        ensures once { OnOk result (NotesOnce connection.old.verdict connection.new.verdict self.old self.new) }
+    {
+        self.put_attempt_once(connection)?;
+        self.put_attempt_end(connection)
+    }
+
+    // Prints the verdict on what a port mapper answered, or did not.
+    fn put_mapper_verdict(
+        &self,
+        connection: &CapturedConnection,
+        verdict: HandshakeVerdict,
+    ) -> Result<(), Fault> {
         let Traffic::Mapper(talk) = &connection.content else {
             return Ok(());
         };
-        if talk.verdict().is_none() {
+        if !self.lines.quiet {
+            return put_verdict(self.lines, verdict, true);
+        }
+        let request = talk.request.as_ref();
+        let object = mapper_object(self.lines.alloc, connection, request, &self.terms);
+        self.lines.write_made(object)
+    }
+
+    // Judges what a port mapper answered, or did not, if anything is wrong with it and it was not judged: prints that, and remembers it.
+    fn judge_mapper(&mut self, connection: &mut CapturedConnection) -> Result<(), Fault>
+        ensures connection { connection.new ≡ record connection.old { verdict = connection.new.verdict } }
+        ensures once { OnOk result (NotesOnce connection.old.verdict connection.new.verdict self.old self.new) }
+    {
+        if connection.verdict.is_some() || !connection.has_mapper_fault() {
             return Ok(());
         }
         let verdict = connection.verdict_by(&self.terms);
-        if self.lines.quiet {
-            let request = talk.request.as_ref();
-            let object = mapper_object(self.lines.alloc, connection, request, &self.terms);
-            self.lines.write_made(object)?;
-        } else {
-            put_verdict(self.lines, verdict, true)?;
-        }
+        self.put_mapper_verdict(connection, verdict)?;
+        connection.verdict = Some(verdict);
         let alloc = self.lines.alloc;
         let (name, other) = (ByteString::new(alloc), ByteString::new(alloc));
         let dial = PastDial {
             is_dial: false,
             ..self.dial_of(connection, verdict, name, other)
         };
-        Ok(self.push_dial(dial)?)
+        self.add_attempt(dial)
     }
 
-    // Prints what a port mapper answered, and remembers it.
-    fn take_answer(&mut self, connection: &CapturedConnection) -> Result<(), Fault> {
+    // Prints what a port mapper answered, and remembers what node it found.
+    fn put_found(&mut self, connection: &CapturedConnection) -> Result<(), Fault>
+        ensures { OnOk result (SameAttempts self.old self.new) }
+    {
         let Traffic::Mapper(talk) = &connection.content else {
             return Ok(());
         };
@@ -239,27 +292,52 @@ impl<'x> Register<'x> {
         ) {
             self.nodes.note_found(connection, name.as_slice(), info)?;
         }
-        self.put_mapper_verdict(connection)
+        Ok(())
     }
 
-    // Prints how a conversation with a port mapper ended, and if that says something of an attempt before.
-    fn end_mapper(&mut self, connection: &mut CapturedConnection) -> Result<(), Fault> {
-        connection.conclude_mapper(self.time);
+    // Prints what a port mapper answered, and the verdict on it.
+    fn take_answer(&mut self, connection: &mut CapturedConnection) -> Result<(), Fault>
+        ensures connection { connection.new ≡ record connection.old { verdict = connection.new.verdict } }
+        ensures once { OnOk result (NotesOnce connection.old.verdict connection.new.verdict self.old self.new) }
+    {
+        self.put_found(connection)?;
+        self.judge_mapper(connection)
+    }
+
+    // Prints how a conversation with a port mapper ended.
+    fn put_talk_end(&mut self, connection: &CapturedConnection) -> Result<(), Fault>
+        ensures { OnOk result (SameAttempts self.old self.new) }
+    {
         let Traffic::Mapper(talk) = &connection.content else {
             return Ok(());
         };
         self.has_found = self.has_found || talk.request.is_some();
-        put_mapper_end(self.lines, connection, talk)?;
-        if talk.answer.is_none() {
-            self.put_mapper_verdict(connection)?;
-        }
-        if let Some((port, at)) = connection.lost_registration() {
-            self.unregistered = Some((port, at));
-            if self.dials.iter().any(|it| it.ended_with(port, at)) {
-                self.lines.put(&[Text(STOPPED)])?;
-            }
+        put_mapper_end(self.lines, connection, talk)
+    }
+
+    // Remembers that the registration of a node ended, if one did, and prints if that says something of an attempt before.
+    fn note_unregistered(&mut self, connection: &CapturedConnection) -> Result<(), Fault>
+        ensures { OnOk result (SameAttempts self.old self.new) }
+    {
+        let Some((port, at)) = connection.lost_registration() else {
+            return Ok(());
+        };
+        self.unregistered = Some((port, at));
+        if self.dials.iter().any(|it| it.ended_with(port, at)) {
+            return self.lines.put(&[Text(STOPPED)]);
         }
         Ok(())
+    }
+
+    // Prints what there is to say of a conversation with a port mapper at its end.
+    fn end_mapper(&mut self, connection: &mut CapturedConnection) -> Result<(), Fault>
+        ensures connection { SameConnection connection.old connection.new }
+        ensures once { OnOk result (NotesOnce connection.old.verdict connection.new.verdict self.old self.new) }
+    {
+        connection.conclude_mapper(self.time);
+        self.put_talk_end(connection)?;
+        self.judge_mapper(connection)?;
+        self.note_unregistered(connection)
     }
 
     // Why a connection was never made, if that is known: of the other host a segment was seen, or it is the port mapper's port of a node.
@@ -274,11 +352,17 @@ impl<'x> Register<'x> {
         is_known.then_some(unreached)
     }
 
-    // Notes what is known of a connection only at its end: that it was never made, that TLS was dialled where a plain node listens, or that
-    // what was said to a node is missing.
-    fn conclude_content(&self, connection: &mut CapturedConnection) {
+    // Notes what is known of a connection without a verdict only at its end: that it was never made, that TLS was dialled where a plain
+    // node listens, or that what was said to a node is missing.
+    fn conclude_content(&self, connection: &mut CapturedConnection)
+        ensures connection { connection.new ≡ record connection.old { content = connection.new.content } }
+    {
+        if connection.verdict.is_some() {
+            return;
+        }
         if let Some(unreached) = self.connect_fault(connection) {
             connection.content = Traffic::Unreached(unreached);
+            return;
         }
         if self.nodes.listener(connection.acceptor).is_none() {
             return;
@@ -301,7 +385,10 @@ impl<'x> Register<'x> {
     }
 
     /// Prints what there is to say of a connection at its end, once. What was said on it is then forgotten.
-    pub fn end(&mut self, connection: &mut CapturedConnection) -> Result<(), Fault> {
+    pub fn end(&mut self, connection: &mut CapturedConnection) -> Result<(), Fault>
+        ensures reported { OnOk result (connection.new.is_reported ≡ true) }
+        ensures once { OnOk result (NotesOnce connection.old.verdict connection.new.verdict self.old self.new) }
+    {
         if mem::replace(&mut connection.is_reported, true) {
             return Ok(());
         }
@@ -316,12 +403,67 @@ impl<'x> Register<'x> {
         Ok(())
     }
 
-    // Notes that this host sent a segment.
-    fn note_host(&mut self, host: IpAddr) -> Result<(), AllocError> {
-        if let Err(at) = self.hosts.binary_search(&host)
+    /// Notes the time of the latest segment.
+    pub fn note_time(&mut self, time: u64)
+        ensures { GoesOnCounting self.old self.new }
+    {
+        self.time = time;
+    }
+
+    /// Ends a connection if this segment begins another one between the same two ports, which takes its place. What came behind its latest
+    /// segment is not in the capture.
+    pub fn renew(
+        &mut self,
+        connection: &mut CapturedConnection,
+        segment: &Segment,
+        mapper_port: u16,
+    ) -> Result<(), Fault>
+        ensures { OnOk result (GoesOnCounting self.old self.new) }
+    {
+        if !connection.is_before(segment) {
+            return Ok(());
+        }
+        self.note_time(connection.latest);
+        self.end(connection)?;
+        self.note_time(segment.time);
+        *connection = CapturedConnection::new(segment, mapper_port);
+        Ok(())
+    }
+
+    // Notes which host sent this segment, if it is the first of its side.
+    fn note_host(
+        &mut self,
+        connection: &CapturedConnection,
+        segment: &Segment,
+    ) -> Result<(), AllocError>
+        ensures { OnOk result (SameAttempts self.old self.new) }
+    {
+        let host = segment.from.address;
+        if connection.flow(connection.side_of(segment)).is_unseen()
+            && let Err(at) = self.hosts.binary_search(&host)
             && self.hosts.len() < MOST_HOSTS
         {
             self.hosts.insert(at, host)?;
+        }
+        Ok(())
+    }
+
+    // Reads a segment of a connection, and prints what a port mapper answered by it.
+    fn read(&mut self, connection: &mut CapturedConnection, segment: &Segment) -> Result<(), Fault>
+        ensures { OnOk result (GoesOnCounting self.old self.new) }
+    {
+        if connection.take(self.lines.alloc, segment)? {
+            return self.take_answer(connection);
+        }
+        Ok(())
+    }
+
+    // Prints an attempt that came up.
+    fn put_settled(&mut self, connection: &mut CapturedConnection) -> Result<(), Fault>
+        ensures { OnOk result (GoesOnCounting self.old self.new) }
+    {
+        if connection.is_settled() {
+            return self.put_attempt_once(connection);
         }
         Ok(())
     }
@@ -331,19 +473,15 @@ impl<'x> Register<'x> {
         &mut self,
         connection: &mut CapturedConnection,
         segment: &Segment,
-    ) -> Result<(), Fault> {
+    ) -> Result<(), Fault>
+        ensures { OnOk result (GoesOnCounting self.old self.new) }
+    {
         if connection.is_reported {
             return Ok(());
         }
-        if connection.flow(connection.side_of(segment)).is_unseen() {
-            self.note_host(segment.from.address)?;
-        }
-        if connection.take(self.lines.alloc, segment)? {
-            self.take_answer(connection)?;
-        }
-        if connection.verdict.is_none() && connection.is_settled() {
-            self.put_attempt(connection)?;
-        }
+        self.note_host(connection, segment)?;
+        self.read(connection, segment)?;
+        self.put_settled(connection)?;
         if connection.is_over() || matches!(&connection.content, Traffic::Other) {
             return self.end(connection);
         }
@@ -368,7 +506,7 @@ impl<'x> Register<'x> {
     // The exit status: the first that is not 0 of the attempts, those apart that another dial crossed, and of the port mappers' answers; or that
     // nothing was found.
     fn exit_status(&self) -> u8
-        ensures { result ≡ exit_of self.now }
+        ensures { (attempts : List PastDial) → StandsFor self.now attempts → result ≡ exit_of self.now.has_found attempts }
     {
         if !self.has_found {
             return HandshakeVerdict::NothingFound.status();
@@ -395,7 +533,8 @@ impl<'x> Register<'x> {
 
     /// Prints the summary, and what was left out, and returns the exit status.
     pub fn finish(&mut self, left_out: &PacketsLeftOut) -> Result<u8, Fault>
-        ensures { IfOk result (λ status. status ≡ exit_of self.old) }
+        ensures { IfOk result (λ status. (attempts : List PastDial) → StandsFor self.old attempts
+            → status ≡ exit_of self.old.has_found attempts) }
     {
         let status = self.exit_status();
         for dial in mem::replace(&mut self.dials, Vec::new(self.lines.alloc)) {

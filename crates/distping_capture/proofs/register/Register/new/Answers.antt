@@ -1,0 +1,6 @@
+use Rattle.std.proofs.Common.{refl}
+use Rattle.distping_capture.proofs.Counting.{begins}
+use Rattle.distping_capture.proofs.register.Register.new.Goals as goal
+
+pub returns : goal.returns
+returns c = begins c.args.terms _ refl c.new-3.ensures.items refl
