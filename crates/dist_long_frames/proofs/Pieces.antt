@@ -8,7 +8,7 @@ use Rattle.dist_stream.specs.Stream.{Reads, StreamState, Writes, heard_count, is
 use Rattle.dist_stream.specs.declared.stream.{Heard.Heard, Took.Took}
 use Rattle.dist_stream.specs.declared.stream.Heard.TheVariants as heard
 use Rattle.dist_stream.specs.declared.stream.Took.TheVariants as took
-use Rattle.dist_long_frames.specs.Shortened.{after, body_place, is_shared, is_too_long, place_after, room_at, shared_before, shortened}
+use Rattle.dist_long_frames.specs.Shortened.{after, frame_end, front_place, is_last_tag, is_shared, is_too_long, place_after, rest_place, room_at, shared_before, shortened}
 use Rattle.dist_long_frames.specs.State.{long_state}
 use Rattle.dist_long_frames.specs.declared.place.Place.{Place}
 use Rattle.dist_long_frames.specs.declared.place.Place.TheVariants as place
@@ -23,8 +23,11 @@ no h = absurd (not_true h)
 pub some-test : (n : ℕ) → 0 < n → (n == 0) ≡ false
 some-test n h = grind arith
 
-pub body-at : (n : ℕ) → 0 < n → body_place n ≡ place.Body n
-body-at n h = ap (λ b. cond b place.First (place.Body n)) (some-test n h)
+pub rest-at : (n : ℕ) (last : Bool) → 0 < n → rest_place n last ≡ place.Body n last
+rest-at n last h = ap (λ b. cond b (frame_end last) (place.Body n last)) (some-test n h)
+
+pub front-at : (n : ℕ) → 0 < n → front_place n ≡ place.Tag n
+front-at n h = ap (λ b. cond b place.First (place.Tag n)) (some-test n h)
 
 -- ---- bytes
 
@@ -42,18 +45,33 @@ pub place-append : (p : Place) (xs ys : List ℕ) → place_after p (xs ++ ys) �
 place-append p [] ys = refl
 place-append p (byte ∷ rest) ys = place-append (after p byte) rest ys
 
-body-fine : (n : ℕ) → is_too_long (body_place n) ≡ false
-body-fine zero = refl
-body-fine (suc n) = ap is_too_long (body-at (suc n) (omega arith))
+rest-fine : (n : ℕ) (last : Bool) → is_too_long (rest_place n last) ≡ false
+rest-fine zero true = refl
+rest-fine zero false = refl
+rest-fine (suc n) last = ap is_too_long (rest-at (suc n) last (omega arith))
+
+front-fine : (n : ℕ) → is_too_long (front_place n) ≡ false
+front-fine zero = refl
+front-fine (suc n) = ap is_too_long (front-at (suc n) (omega arith))
 
 -- bytes of a body are kept
-body-kept : (n : ℕ) (xs : List ℕ) → length xs ≤ n → (shortened (body_place n) xs ≡ xs) × (is_too_long (place_after (body_place n) xs) ≡ false)
-body-kept n [] h = (refl, body-fine n)
-body-kept zero (x ∷ xs) h = absurd (omega arith)
-body-kept (suc n) (x ∷ xs) h =
-    let at = body-at (suc n) (omega arith) in
-    let r = body-kept (suc n - 1) xs (omega arith) in
+body-kept : (n : ℕ) (last : Bool) (xs : List ℕ) → length xs ≤ n
+    → (shortened (rest_place n last) xs ≡ xs) × (is_too_long (place_after (rest_place n last) xs) ≡ false)
+body-kept n last [] h = (refl, rest-fine n last)
+body-kept zero last (x ∷ xs) h = absurd (omega arith)
+body-kept (suc n) last (x ∷ xs) h =
+    let at = rest-at (suc n) last (omega arith) in
+    let r = body-kept (suc n - 1) last xs (omega arith) in
     (ap (λ p. shortened p (x ∷ xs)) at ∙ ap (λ (l : List ℕ). x ∷ l) r.0, ap (λ p. is_too_long (place_after p (x ∷ xs))) at ∙ r.1)
+
+-- what comes behind the last frame is kept
+pub beyond-kept : (xs : List ℕ) → shortened place.Beyond xs ≡ xs
+beyond-kept [] = refl
+beyond-kept (x ∷ xs) = ap (λ (l : List ℕ). x ∷ l) (beyond-kept xs)
+
+beyond-fine : (xs : List ℕ) → is_too_long (place_after place.Beyond xs) ≡ false
+beyond-fine [] = refl
+beyond-fine (x ∷ xs) = beyond-fine xs
 
 -- a piece that is shared is kept
 pub shared-kept : (p : Place) (xs : List ℕ) → is_shared p ≡ true → length xs ≤ room_at p → (shortened p xs ≡ xs) × (is_too_long (place_after p xs) ≡ false)
@@ -61,16 +79,20 @@ shared-kept place.Third [] shared h = (refl, refl)
 shared-kept place.Third (x ∷ []) shared h = (refl, refl)
 shared-kept place.Third (x ∷ y ∷ xs) shared h = absurd (omega arith)
 shared-kept (place.Fourth high) [] shared h = (refl, refl)
-shared-kept (place.Fourth high) (x ∷ []) shared h = (refl, body-fine (from_be_bytes w16 (high ∷ x ∷ [])))
+shared-kept (place.Fourth high) (x ∷ []) shared h = (refl, front-fine (from_be_bytes w16 (high ∷ x ∷ [])))
 shared-kept (place.Fourth high) (x ∷ y ∷ xs) shared h = absurd (omega arith)
-shared-kept (place.Body zero) [] shared h = (refl, refl)
-shared-kept (place.Body zero) (x ∷ []) shared h = (refl, body-fine (zero - 1))
-shared-kept (place.Body zero) (x ∷ y ∷ xs) shared h = absurd (omega arith)
-shared-kept (place.Body (suc n)) xs shared h =
-    let at = body-at (suc n) (omega arith) in
-    let room : room_at (place.Body (suc n)) ≡ suc n = ap (λ b. cond b 1 (suc n)) (some-test (suc n) (omega arith)) in
-    let r = body-kept (suc n) xs (subst (λ (m : ℕ). length xs ≤ m) room h) in
+shared-kept (place.Tag n) [] shared h = (refl, refl)
+shared-kept (place.Tag n) (x ∷ []) shared h = (refl, rest-fine (n - 1) (is_last_tag x))
+shared-kept (place.Tag n) (x ∷ y ∷ xs) shared h = absurd (omega arith)
+shared-kept (place.Body zero last) [] shared h = (refl, refl)
+shared-kept (place.Body zero last) (x ∷ []) shared h = (refl, rest-fine (zero - 1) last)
+shared-kept (place.Body zero last) (x ∷ y ∷ xs) shared h = absurd (omega arith)
+shared-kept (place.Body (suc n) last) xs shared h =
+    let at = rest-at (suc n) last (omega arith) in
+    let room : room_at (place.Body (suc n) last) ≡ suc n = ap (λ b. cond b 1 (suc n)) (some-test (suc n) (omega arith)) in
+    let r = body-kept (suc n) last xs (subst (λ (m : ℕ). length xs ≤ m) room h) in
     (ap (λ p. shortened p xs) (sym at) ∙ r.0, ap (λ p. is_too_long (place_after p xs)) (sym at) ∙ r.1)
+shared-kept place.Beyond xs shared h = (beyond-kept xs, beyond-fine xs)
 shared-kept place.First xs shared h = no shared
 shared-kept place.Second xs shared h = no shared
 shared-kept place.TooLong xs shared h = no shared
@@ -87,12 +109,16 @@ unshared-dropped place.Second xs shared h = one-dropped place.Second xs shared h
 unshared-dropped place.TooLong xs shared h = one-dropped place.TooLong xs shared h
 unshared-dropped place.Third xs shared h = no (sym shared)
 unshared-dropped (place.Fourth high) xs shared h = no (sym shared)
-unshared-dropped (place.Body n) xs shared h = no (sym shared)
+unshared-dropped (place.Tag n) xs shared h = no (sym shared)
+unshared-dropped (place.Body n last) xs shared h = no (sym shared)
+unshared-dropped place.Beyond xs shared h = no (sym shared)
 
 shared-fine : (p : Place) → is_shared p ≡ true → is_too_long p ≡ false
 shared-fine place.Third h = refl
 shared-fine (place.Fourth high) h = refl
-shared-fine (place.Body n) h = refl
+shared-fine (place.Tag n) h = refl
+shared-fine (place.Body n last) h = refl
+shared-fine place.Beyond h = refl
 shared-fine place.First h = refl
 shared-fine place.Second h = refl
 shared-fine place.TooLong h = no h
@@ -154,7 +180,9 @@ was-fine place.First xs h = refl
 was-fine place.Second xs h = refl
 was-fine place.Third xs h = refl
 was-fine (place.Fourth high) xs h = refl
-was-fine (place.Body n) xs h = refl
+was-fine (place.Tag n) xs h = refl
+was-fine (place.Body n last) xs h = refl
+was-fine place.Beyond xs h = refl
 was-fine place.TooLong xs h = no (sym h ∙ stays-too-long xs)
 
 -- a read of a part of a length that short frames lack

@@ -13,7 +13,8 @@ use dist_stream::{Heard, Stream, Took};
 /// A stream that carries frames with lengths of 4 bytes, read and written as one of frames with lengths of 2.
 ///
 /// Each call makes one call of the stream below. It is quiet if that read or wrote a part of a length that short frames lack. A length
-/// above 65,535 is a failed read; what comes behind it is not read as frames, and fails as well.
+/// above 65,535 is a failed read; what comes behind it is not read as frames, and fails as well. What comes behind the last frame of the
+/// handshake, in each direction, is read and written as it is.
 #[derive(Drop)]
 pub struct LongFrames<S: Stream> {
     stream: S,

@@ -2,3 +2,4 @@ pub mod Hearing
 pub mod Lanes
 pub mod Order
 pub mod Steps
+pub mod Words

@@ -6,3 +6,4 @@ pub mod Playing
 pub mod Rows
 pub mod Seeing
 pub mod Trying
+pub mod Wanted

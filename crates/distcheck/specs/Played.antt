@@ -3,7 +3,8 @@ use Rattle.std.specs.Prelude.{ℕ, Bool, if◌then◌else◌, List, map}
 use Rattle.std.specs.List.{list_any}
 use Rattle.dist_conformance.specs.declared.verdicts.{RowResult.RowResult, TalkVerdict.TalkVerdict}
 use Rattle.dist_conformance.specs.Verdicts.{is_counted}
-use Rattle.distcheck.specs.{Trying.tries_verdict, Trying.verdicts_of, declared.queue.QueuedTalk.QueuedTalk, declared.tries.PlayedTalk.PlayedTalk}
+use Rattle.distcheck.specs.Trying.{tries_verdict, verdicts_of, was_refused}
+use Rattle.distcheck.specs.declared.{queue.QueuedTalk.QueuedTalk, tries.PlayedTalk.PlayedTalk}
 
 -- THE VERDICT OF A TALK: the judgement of what was said and heard in its tries
 abbrev pub played_verdict : PlayedTalk → TalkVerdict
@@ -12,6 +13,10 @@ played_verdict p = tries_verdict (verdicts_of p.queued p.tries.items)
 -- the talks that were played
 abbrev pub talks_of : List PlayedTalk → List QueuedTalk
 talks_of ps = map (λ (p : PlayedTalk). p.queued) ps
+
+-- nobody listened where it connects, in one of its tries: the node or the port mapper was gone
+abbrev pub met_nobody : PlayedTalk → Bool
+met_nobody p = list_any was_refused p.tries.items
 
 -- the level of a talk's row, and its verdict
 abbrev pub result_of : PlayedTalk → RowResult

@@ -1,8 +1,9 @@
 -- THE VERDICT OF A TALK, by those of its tries.
-use Rattle.std.specs.Prelude.{if◌then◌else◌, List, [], ◌∷◌, map}
+use Rattle.std.specs.List.{list_any}
+use Rattle.std.specs.Prelude.{Bool, if◌then◌else◌, List, [], ◌∷◌, map}
 use Rattle.dist_conformance.specs.declared.verdicts.TalkVerdict.{TalkVerdict}
 use Rattle.dist_conformance.specs.declared.verdicts.TalkVerdict.TheVariants as verdict
-use Rattle.distcheck.specs.{Deciding.counts_first, Deciding.verdict_by_level, Playing.outcome_of}
+use Rattle.distcheck.specs.{Deciding.counts_first, Deciding.verdict_by_level, Playing.outcome_of, Seeing.is_refusal}
 use Rattle.distcheck.specs.declared.{queue.QueuedTalk.QueuedTalk, seen.PlayedStep.PlayedStep, tries.TalkTry.TalkTry}
 
 -- the verdict of one try, by what was seen in its steps
@@ -12,6 +13,10 @@ try_verdict talk played = verdict_by_level talk.level (outcome_of talk.terms tal
 -- that of each try
 abbrev pub verdicts_of : QueuedTalk → List TalkTry → List TalkVerdict
 verdicts_of talk tries = map (λ (t : TalkTry). try_verdict talk t.played.items) tries
+
+-- nobody listened in one of its steps
+abbrev pub was_refused : TalkTry → Bool
+was_refused t = list_any (λ (p : PlayedStep). is_refusal p.seen) t.played.items
 
 -- those that tries have with them
 abbrev pub told_verdicts : List TalkTry → List TalkVerdict

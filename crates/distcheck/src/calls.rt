@@ -83,10 +83,10 @@ impl OwnPort {
 
     // Says this where orders are taken, in place of the order before. Returns whether that is taken.
     fn order(&mut self, rt: &HostRuntime, orders: &SocketAddr, line: &[u8]) -> bool {
-        let Ok(mut link) = TalkLink::open(rt, 0, orders) else {
+        let Ok(mut link) = TalkLink::open(rt, 0, orders, false) else {
             return false;
         };
-        let is_taken = link.write(line);
+        let is_taken = link.write(rt, line);
         self.order = Some(link);
         is_taken
     }
@@ -124,6 +124,6 @@ impl OwnPort {
         }];
         let _ = libc::net::poll(&mut waits, i32::try_from(limit).unwrap_or(i32::MAX));
         let (socket, _) = self.listener.accept().ok()?;
-        TalkLink::over(conn, socket).ok()
+        TalkLink::over(conn, socket, false).ok()
     }
 }

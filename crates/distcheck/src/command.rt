@@ -29,6 +29,8 @@ pub struct CheckOrder<'a> {
     pub node: Option<&'a str>,
     /// The node's port, if its port mapper is not asked.
     pub port: Option<u16>,
+    /// The host and the port of the tunnel of TLS to the node, if it is dialled through one.
+    pub tunnel: Option<(&'a str, u16)>,
     /// The port at which the node's port mapper is asked.
     pub mapper_port: u16,
     /// The host and the port of the port mapper that is checked.
@@ -80,9 +82,10 @@ const SWITCHES: [&str; 7] = [
 ];
 
 // The options that take a value.
-const VALUES: [&str; 10] = [
+const VALUES: [&str; 11] = [
     "epmd-port",
     "port",
+    "tls-through",
     "mapper",
     "make-it-dial",
     "start",
@@ -159,6 +162,21 @@ fn tag_in<'a>(alloc: Global, matches: &ArgMatches<'a>) -> Result<&'a str, Fault>
     Err(Fault::BadWord(with_word(alloc, front, tag)?))
 }
 
+impl CheckOrder<'_> {
+    // What is missing, or contradicts the rest.
+    fn fault(&self) -> Option<Fault> {
+        let is_checked = self.node.is_some() || self.mapper.is_some();
+        let has_way = self.port.is_some() || self.make_it_dial.is_some() || self.start.is_some();
+        if !is_checked && !self.list && self.explain.is_none() {
+            Some(Fault::NothingNamed)
+        } else if self.tunnel.is_some() && (self.node.is_none() || has_way) {
+            Some(Fault::TunnelAlone)
+        } else {
+            None
+        }
+    }
+}
+
 fn order_in<'a>(
     alloc: Global,
     words: &'a [String],
@@ -169,6 +187,7 @@ fn order_in<'a>(
         words,
         node: node_in(alloc, matches)?,
         port: number_in(alloc, matches, "port")?,
+        tunnel: place_in(alloc, matches, "tls-through")?,
         mapper_port: number_in(alloc, matches, "epmd-port")?.unwrap_or(usual_port),
         mapper: place_in(alloc, matches, "mapper")?,
         make_it_dial: place_in(alloc, matches, "make-it-dial")?,
@@ -187,11 +206,9 @@ fn order_in<'a>(
         list: matches.get_flag("list"),
         explain: matches.get_str("explain"),
     };
-    let is_checked = order.node.is_some() || order.mapper.is_some();
-    if is_checked || order.list || order.explain.is_some() {
-        Ok(order)
-    } else {
-        Err(Fault::NothingNamed)
+    match order.fault() {
+        Some(fault) => Err(fault),
+        None => Ok(order),
     }
 }
 

@@ -16,6 +16,8 @@ pub const NOT_THERE: u8 = 3;
 pub enum Fault {
     /// Neither a node nor a port mapper is named.
     NothingNamed,
+    /// `--tls-through` is given without a node, or with `--port`, `--make-it-dial` or `--start`.
+    TunnelAlone,
     /// A word of the command line, ERL_EPMD_PORT, or a line of a file of rows is bad: the sentence about it, safe to print.
     BadWord(String),
     /// The folder of the rows, or a file in it, could not be read: its name, safe to print.
@@ -61,6 +63,8 @@ impl Fault {
         match self {
             Fault::NothingNamed =>
                 "bad command line: no NODE and no --mapper is named (distcheck --help)",
+            Fault::TunnelAlone =>
+                "bad command line: --tls-through goes with a NODE, and not with --port, --make-it-dial or --start",
             Fault::BadWord(sentence) => sentence.as_str(),
             Fault::NoRow => "no row is asked for",
             Fault::NoDescriptors => "NoDescriptors",

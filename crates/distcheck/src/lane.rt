@@ -9,9 +9,9 @@ use crate::tries::PlayedTalk;
 
 /// What a lane comes to.
 #[derive(Drop)]
-pub struct LaneReply<'a> {
+pub struct LaneReply<'q, 'a> {
     /// The talks.
-    pub lane: &'a [QueuedTalk<'a>],
+    pub lane: &'q [QueuedTalk<'a>],
     /// What became of each, or the fault that stopped them.
     pub played: Result<Vec<PlayedTalk<'a>>, Fault>,
     // All its talks were played, in their order.

@@ -5,8 +5,9 @@
 //! several talks at once, and prints.
 #![tactic(auto)]
 
-ghost use Rattle.std.specs.Prelude.{◌≡◌, IfOk};
-ghost use Rattle.distcheck.specs.Played.{exit_of};
+ghost use Rattle.std.specs.Prelude.{◌≡◌, length, IfOk, OnOk};
+ghost use Rattle.std.specs.List.{find};
+ghost use Rattle.distcheck.specs.{Played.exit_of, Played.met_nobody, Played.talks_of, Wanted.all_as_wanted, Wanted.rows_with_partner, Wanted.wanted_talks};
 
 mod calls;
 mod command;
@@ -26,9 +27,11 @@ mod seen;
 mod standing;
 mod suite;
 mod talk_link;
+mod talk_stream;
 mod transcript;
 mod tries;
 mod waiting;
+mod wanted;
 
 use command::{CheckOrder, CheckTask, task_of};
 use dist_conformance::SuiteNames;
@@ -40,21 +43,20 @@ use fault::{Fault, NOT_THERE};
 use objects::objects_of;
 use output::print;
 use playing::Setting;
-use queue::queue_of;
 use reaching::{find_call, find_node, find_place};
 use report::report_of;
-use results::{exit_of, rows_of};
+use results::{exit_of, gone_in, rows_of};
 use running::{PlayedSuite, run_talks};
 use std::fmt::Write;
 use std::process::ExitCode;
 use suite::{SuiteFile, read_suite};
-use tries::PlayedTalk;
+use wanted::wanted_talks;
 
 /// The help.
 const HELP: &str =
-    "usage: distcheck NODE [--cookie FILE] [--cookie-unsafe] [--epmd-port N] [--port N] [--mapper HOST:PORT]
-                 [--make-it-dial HOST:PORT] [--start HOST:PORT] [--guide N] [--quick] [--harsh] [--strict] [--serial]
-                 [--only ID,..] [--tag WORD] [--rows FOLDER] [--json]
+    "usage: distcheck NODE [--cookie FILE] [--cookie-unsafe] [--epmd-port N] [--port N] [--tls-through HOST:PORT]
+                 [--mapper HOST:PORT] [--make-it-dial HOST:PORT] [--start HOST:PORT] [--guide N] [--quick] [--harsh] [--strict]
+                 [--serial] [--only ID,..] [--tag WORD] [--rows FOLDER] [--json]
        distcheck --mapper HOST:PORT [the same]
        distcheck --list | --explain ID [--rows FOLDER]
        distcheck --help | --version
@@ -68,6 +70,7 @@ protocol allows and what it forbids, and reports each row whose answer is not wh
   --cookie-unsafe          take a cookie's file that others than its owner can read
   --epmd-port N            the port of the node's port mapper (ERL_EPMD_PORT, else 4369)
   --port N                 the node's port: the port mapper is not asked
+  --tls-through HOST:PORT  the tunnel of TLS to the node, which is open there for many connections: the port mapper is not asked
   --mapper HOST:PORT       the port mapper to check; names are registered there, and garbage is sent
   --make-it-dial HOST:PORT who makes the node dial; rows of its dials are played too, under names that are registered at its port mapper
   --start HOST:PORT        who starts the node, with a port mapper that is ours; rows of what it says there are played too
@@ -166,18 +169,31 @@ fn check<R: Resolving + Sync>(
     let setting = Setting {
         rt,
         node,
+        is_tunnelled: order.tunnel.is_some(),
         mapper: find_place(rt, resolver, order.mapper, "the port mapper")?,
         call: find_call(rt, resolver, order, node)?,
         start: find_place(rt, resolver, order.start, no_start)?,
         cookie: &cookie,
     };
-    let queue = queue_of(suite, order, &setting)?;
-    if queue.count == 0 {
+    put_report(rt, order, &play_wanted(resolver, order, &setting, suite)?)
+}
+
+// Plays the talks that are wanted.
+fn play_wanted<'a, R: Resolving + Sync>(
+    resolver: &R,
+    order: &CheckOrder<'_>,
+    setting: &Setting<'a>,
+    suite: &'a [SuiteFile],
+) -> Result<PlayedSuite<'a>, Fault>
+    ensures talks { IfOk result (λ played. all_as_wanted (talks_of played.talks.items) ≡ wanted_talks order.now setting.now suite.now) }
+    ensures rows { IfOk result (λ played. played.rows ≡ length (rows_with_partner setting.now suite.now)) }
+{
+    let wanted = wanted_talks(suite, order, setting)?;
+    if wanted.talks.is_empty() {
         return Err(Fault::NoRow);
     }
-    put_heading(&setting, order, queue.count)?;
-    let played = run_talks(resolver, &setting, &queue, order.serial)?;
-    put_report(rt, order, &played)
+    put_heading(setting, order, wanted.talks.len())?;
+    run_talks(resolver, setting, &wanted, order.serial)
 }
 
 // Prints how many talks are played with whom, unless objects are printed.
@@ -187,7 +203,12 @@ fn put_heading(setting: &Setting<'_>, order: &CheckOrder<'_>, talks: usize) -> R
     }
     let mut text = format!(in setting.rt.alloc(); "distcheck 0.2.0: {talks} talks")?;
     if let Some(place) = &setting.node {
-        write!(text, "; node at {place}")?;
+        let over = if setting.is_tunnelled {
+            " over TLS"
+        } else {
+            ""
+        };
+        write!(text, "; node{over} at {place}")?;
     }
     if let Some(place) = &setting.mapper {
         write!(text, "; port mapper at {place}")?;
@@ -199,23 +220,14 @@ fn put_heading(setting: &Setting<'_>, order: &CheckOrder<'_>, talks: usize) -> R
     print(setting.rt, &text)
 }
 
-// The first talk that met that nobody listens any more, if one did: its id.
-fn gone_in<'a>(talks: &'a [PlayedTalk<'a>]) -> Option<&'a [u8]> {
-    for played in talks {
-        if played.tries.iter().any(|one| one.is_refused()) {
-            return Some(played.queued.talk.id.as_slice());
-        }
-    }
-    None
-}
-
 // Prints what became of all talks, and returns the exit status. Where nobody listens any more, that is a fault.
 fn put_report<'a>(
     rt: &HostRuntime,
     order: &CheckOrder<'_>,
     suite: &'a PlayedSuite<'a>,
 ) -> Result<u8, Fault>
-    ensures { IfOk result (λ exit. exit ≡ exit_of order.now.strict suite.now.talks.items) }
+    ensures exit { IfOk result (λ exit. exit ≡ exit_of order.now.strict suite.now.talks.items) }
+    ensures there { OnOk result (find met_nobody suite.now.talks.items ≡ None) }
 {
     let alloc = rt.alloc();
     let gone = gone_in(&suite.talks);

@@ -1,10 +1,9 @@
 //! The report for programs: a JSON object on a line for each talk, and one for all.
 
-use crate::results::{PlayedRow, VERDICTS, count_in};
+use crate::results::{PlayedRow, VERDICTS, count_in, count_left_out};
 use crate::running::PlayedSuite;
 use crate::transcript::{TranscriptLine, digits_of, lines_of};
 use crate::tries::{PlayedTalk, TalkTry};
-use dist_conformance::TalkVerdict;
 use dist_names::escape;
 use json::Writer;
 use std::alloc::{AllocError, Global};
@@ -114,10 +113,7 @@ fn summary_of(
     for verdict in &VERDICTS {
         object.put_number(verdict.name(), count_in(rows, *verdict))?;
     }
-    let played = rows
-        .len()
-        .saturating_sub(count_in(rows, TalkVerdict::Skipped));
-    object.put_number("not_played", suite.rows.saturating_sub(played))?;
+    object.put_number("not_played", count_left_out(rows, suite.rows))?;
     object.out.key("one_at_a_time")?;
     object.out.boolean(suite.is_one_at_a_time)?;
     object.put_number("exit", usize::from(exit))?;

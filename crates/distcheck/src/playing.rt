@@ -41,6 +41,8 @@ pub struct Setting<'a> {
     pub rt: &'a HostRuntime,
     /// The node's address, if a node is checked.
     pub node: Option<SocketAddr>,
+    /// Whether that is a tunnel of TLS to it.
+    pub is_tunnelled: bool,
     /// The port mapper's address, if one is checked.
     pub mapper: Option<SocketAddr>,
     /// How the node is made to dial, if it is.
@@ -49,6 +51,13 @@ pub struct Setting<'a> {
     pub start: Option<SocketAddr>,
     /// The cookie.
     pub cookie: &'a Cookie,
+}
+
+impl Setting<'_> {
+    /// How long after the first try of a talk the second begins. A tunnel takes a while to end a connection.
+    pub fn breath(&self) -> Duration {
+        Duration::from_millis(if self.is_tunnelled { 2000 } else { 400 })
+    }
 }
 
 // The connections of a talk that is being played, and where it makes them.
@@ -76,13 +85,18 @@ impl<'a> TalkPlay<'a> {
         }
     }
 
-    fn connect(&mut self, conn: u8, address: Option<SocketAddr>) -> Result<StepFact, Fault> {
+    fn connect(
+        &mut self,
+        conn: u8,
+        address: Option<SocketAddr>,
+        is_tunnelled: bool,
+    ) -> Result<StepFact, Fault> {
         let Some(address) = address else {
             return Ok(StepFact::Untried("nobody to connect to"));
         };
         let mut seen = StepFact::Made;
         for _ in 0..CONNECTS {
-            match TalkLink::open(self.setting.rt, conn, &address) {
+            match TalkLink::open(self.setting.rt, conn, &address, is_tunnelled) {
                 Ok(link) => {
                     self.links.push(link)?;
                     return Ok(StepFact::Made);
@@ -207,8 +221,8 @@ impl<'a> TalkPlay<'a> {
     fn make(&mut self, state: &TalkState<'_>, step: &TalkStep) -> Result<StepFact, Fault> {
         let limit = state.terms.limit;
         match &step.action {
-            Action::Dial => self.connect(step.conn, self.node_place()),
-            Action::Ask => self.connect(step.conn, self.setting.mapper),
+            Action::Dial => self.connect(step.conn, self.node_place(), self.setting.is_tunnelled),
+            Action::Ask => self.connect(step.conn, self.setting.mapper, false),
             Action::Call(none, info) => match self.order_dial(info)? {
                 Some(seen) => Ok(seen),
                 None => self.take(step.conn, none.unwrap_or(limit), none.is_none()),

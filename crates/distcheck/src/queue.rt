@@ -1,15 +1,13 @@
-//! Which talks are played, and beside which others.
+//! Beside which others talks are played, and why one is not.
 
-ghost use Rattle.std.specs.Prelude.{◌≡◌};
-ghost use Rattle.distcheck.specs.Deciding.{level_by};
+ghost use Rattle.std.specs.Prelude.{◌≡◌, ◌∷◌, [], IfOk, IsPermutation, OnOk};
+ghost use Rattle.distcheck.specs.Lanes.{all_in, lanes_of, queued_talks};
 
 use crate::command::CheckOrder;
-use crate::playing::Setting;
 use crate::progress::SectionTally;
 use crate::standing::JudgingTerms;
 use crate::suite::SuiteFile;
-use dist_conformance::{Action, Demand, Level, Pattern, RowTalk, SectionKind, SuiteRow, TalkStep};
-use dist_names::number_in;
+use dist_conformance::{Action, Demand, Level, Pattern, RowTalk, SuiteRow, TalkStep};
 use std::alloc::{AllocError, Global};
 
 /// How many talks are played at once, beside those that mostly wait. Our own choice: a node that serves many peers serves these too.
@@ -49,16 +47,15 @@ pub struct TalkQueue<'a> {
     pub lanes: Vec<Vec<QueuedTalk<'a>>>,
     /// After all others, one after the other: each changes what others see.
     pub alone: Vec<QueuedTalk<'a>>,
-    /// How many talks there are.
-    pub count: usize,
-    /// How many rows there are for what is checked, those among them that are not asked for.
-    pub rows: usize,
     /// How many talks of each section are not played yet.
     pub tally: SectionTally<'a>,
 }
 
 impl<'a> TalkQueue<'a> {
-    fn new(alloc: Global) -> Result<TalkQueue<'a>, AllocError> {
+    // A queue of no talk.
+    fn new(alloc: Global) -> Result<TalkQueue<'a>, AllocError>
+        ensures { IfOk result (λ queue. queued_talks queue ≡ []) }
+    {
         let mut lanes = Vec::new(alloc);
         for _ in 0..AT_ONCE {
             lanes.push(Vec::new(alloc))?;
@@ -67,64 +64,49 @@ impl<'a> TalkQueue<'a> {
             first: Vec::new(alloc),
             lanes,
             alone: Vec::new(alloc),
-            count: 0,
-            rows: 0,
             tally: SectionTally::new(alloc),
         })
     }
 
-    // Adds a talk beside others: to a lane, or to one of its own.
-    fn push_beside(&mut self, alloc: Global, queued: QueuedTalk<'a>) -> Result<(), AllocError> {
-        let at = self.count % AT_ONCE;
-        if time_of(queued.talk.steps.as_slice()) < LONG
-            && queued.terms.limit <= USUAL
-            && let Some(lane) = self.lanes.get_mut(at)
-        {
-            return Ok(lane.push(queued)?);
-        }
-        Ok(self.lanes.push(vec![in alloc; queued]?)?)
-    }
-
-    fn push(&mut self, alloc: Global, queued: QueuedTalk<'a>) -> Result<(), AllocError> {
+    fn push(&mut self, alloc: Global, queued: QueuedTalk<'a>) -> Result<(), AllocError>
+        ensures { OnOk result (IsPermutation (queued.entry ∷ queued_talks self.old) (queued_talks self.new)) }
+    {
         self.tally.add(&queued.file.section)?;
         if queued.row.marks.first {
-            self.first.push(queued)?;
-        } else if queued.row.marks.alone {
-            self.alone.push(queued)?;
-        } else {
-            self.push_beside(alloc, queued)?;
+            return Ok(self.first.push(queued)?);
         }
-        self.count = self.count.saturating_add(1);
-        Ok(())
+        if queued.row.marks.alone {
+            return Ok(self.alone.push(queued)?);
+        }
+        push_beside(alloc, &mut self.lanes, queued)
     }
+}
 
-    // Adds the talks of a row that are asked for.
-    fn push_row(
-        &mut self,
-        setting: &Setting<'a>,
-        file: &'a SuiteFile,
-        row: &'a SuiteRow,
-        order: &CheckOrder<'_>,
-    ) -> Result<(), AllocError> {
-        self.rows = self.rows.saturating_add(1);
-        for talk in row.talks.as_slice() {
-            let queued = QueuedTalk {
-                place: self.count,
-                file,
-                row,
-                talk,
-                level: level_by(u32::from(order.guide), row.marks.since, row.level),
-                terms: JudgingTerms {
-                    limit: row.marks.limit,
-                    cookie: setting.cookie,
-                },
-                skipped: reason_to_skip(row, talk, order),
-            };
-            if is_wanted(order, &queued) {
-                self.push(setting.rt.alloc(), queued)?;
-            }
-        }
-        Ok(())
+// Adds a talk in a lane of its own.
+fn push_lane<'a>(
+    alloc: Global,
+    lanes: &mut Vec<Vec<QueuedTalk<'a>>>,
+    queued: QueuedTalk<'a>,
+) -> Result<(), AllocError>
+    ensures { OnOk result (IsPermutation (queued.entry ∷ all_in (lanes_of lanes.old.items)) (all_in (lanes_of lanes.new.items))) }
+{
+    Ok(lanes.push(vec![in alloc; queued]?)?)
+}
+
+// Adds a talk beside others: to a lane, or to one of its own.
+fn push_beside<'a>(
+    alloc: Global,
+    lanes: &mut Vec<Vec<QueuedTalk<'a>>>,
+    queued: QueuedTalk<'a>,
+) -> Result<(), AllocError>
+    ensures { OnOk result (IsPermutation (queued.entry ∷ all_in (lanes_of lanes.old.items)) (all_in (lanes_of lanes.new.items))) }
+{
+    if is_long(&queued) {
+        return push_lane(alloc, lanes, queued);
+    }
+    match lanes.get_mut(queued.place % AT_ONCE) {
+        Some(lane) => Ok(lane.push(queued)?),
+        None => push_lane(alloc, lanes, queued),
     }
 }
 
@@ -155,6 +137,11 @@ fn time_of(steps: &[TalkStep]) -> u32 {
     sum
 }
 
+// Whether a talk waits, or may wait, so long that no other is to wait behind it.
+fn is_long(queued: &QueuedTalk<'_>) -> bool {
+    time_of(queued.talk.steps.as_slice()) >= LONG || queued.row.marks.limit > USUAL
+}
+
 // Why nobody has the node dial this name, if nobody does. Names of talks begin with `0c`, `zz` or `ZZ`, so that they sort before or behind
 // the node's.
 fn reason_to_not_call(name: &[u8], order: &CheckOrder<'_>) -> Option<&'static str> {
@@ -179,10 +166,30 @@ fn reason_in_step(step: &TalkStep, order: &CheckOrder<'_>) -> Option<&'static st
     }
 }
 
-// Why a talk is not played, if it is not.
-fn reason_to_skip(row: &SuiteRow, talk: &RowTalk, order: &CheckOrder<'_>) -> Option<&'static str> {
+// Why a step is not made through a tunnel of TLS, if it is not.
+fn reason_in_tunnel(step: &TalkStep) -> Option<&'static str> {
+    match &step.action {
+        Action::Call(..) | Action::Start => Some("over TLS the node is not made to dial"),
+        Action::Half | Action::Reset => Some("a tunnel of TLS passes on no half and no reset"),
+        _ => None,
+    }
+}
+
+/// Why a talk is not played, if it is not.
+pub fn reason_to_skip(
+    row: &SuiteRow,
+    talk: &RowTalk,
+    order: &CheckOrder<'_>,
+    is_tunnelled: bool,
+) -> Option<&'static str> {
     let steps = talk.steps.as_slice();
-    let reason = steps.iter().find_map(|step| reason_in_step(step, order));
+    let reason = steps.iter().find_map(|step| {
+        if is_tunnelled {
+            reason_in_tunnel(step)
+        } else {
+            reason_in_step(step, order)
+        }
+    });
     if reason.is_some() {
         reason
     } else if row.marks.harsh && !order.harsh {
@@ -194,48 +201,13 @@ fn reason_to_skip(row: &SuiteRow, talk: &RowTalk, order: &CheckOrder<'_>) -> Opt
     }
 }
 
-// Whether a talk is one of those that are asked for: by the number of its section, the id of its row, or its own.
-fn is_wanted(order: &CheckOrder<'_>, queued: &QueuedTalk<'_>) -> bool {
-    let Some(words) = order.only else {
-        return true;
-    };
-    let number = u64::from(queued.file.section.number);
-    for word in words.split(',') {
-        let word = word.as_bytes();
-        if word == queued.row.id.as_slice()
-            || word == queued.talk.id.as_slice()
-            || number_in(word, 10) == Some(number)
-        {
-            return true;
-        }
-    }
-    false
-}
-
-// The level of a row that is demanded since this release, by the guide of another.
-fn level_by(guide: u32, since: u32, level: Level) -> Level
-    ensures { result ≡ level_by guide since level }
+/// The talks, by when they are played.
+pub fn queue_of<'a>(alloc: Global, talks: &[QueuedTalk<'a>]) -> Result<TalkQueue<'a>, AllocError>
+    ensures { IfOk result (λ queue. IsPermutation talks.now (queued_talks queue)) }
 {
-    if since <= guide { level } else { Level::May }
-}
-
-/// The talks that may be played, in the order of their rows: those that there is somebody to play with.
-pub fn queue_of<'a>(
-    suite: &'a [SuiteFile],
-    order: &CheckOrder<'_>,
-    setting: &Setting<'a>,
-) -> Result<TalkQueue<'a>, AllocError> {
-    let mut queue = TalkQueue::new(setting.rt.alloc())?;
-    for file in suite {
-        let partner = match file.section.kind {
-            SectionKind::Node => setting.node,
-            SectionKind::Mapper => setting.mapper,
-        };
-        if partner.is_some() {
-            for row in file.section.rows.as_slice() {
-                queue.push_row(setting, file, row, order)?;
-            }
-        }
+    let mut queue = TalkQueue::new(alloc)?;
+    for queued in talks {
+        queue.push(alloc, *queued)?;
     }
     Ok(queue)
 }

@@ -70,7 +70,8 @@ fn host_of(node: &str) -> &str {
     node.split_once('@').map_or("", |(_, host)| host)
 }
 
-/// Where the node listens, if one is checked: at the first address of its host at which it is found. The fault is that of the last address.
+/// Where the node listens, if one is checked: where the tunnel to it does, or at the first address of its host at which it is found. The fault
+/// is that of the last address.
 pub fn find_node<R: Resolving>(
     rt: &HostRuntime,
     resolver: &R,
@@ -79,6 +80,9 @@ pub fn find_node<R: Resolving>(
     let Some(node) = order.node else {
         return Ok(None);
     };
+    if order.tunnel.is_some() {
+        return find_place(rt, resolver, order.tunnel, "the tunnel (--tls-through)");
+    }
     let mut fault = Fault::ConnectFailed("the node");
     for address in &addresses_of(rt, resolver, host_of(node))? {
         match place_at(rt, order, node, address) {

@@ -2,7 +2,7 @@
 
 use crate::command::{CheckOrder, command_of};
 use crate::explaining::push_text;
-use crate::results::{PlayedRow, VERDICTS, count_in};
+use crate::results::{PlayedRow, VERDICTS, conform, count_in, count_left_out};
 use crate::running::PlayedSuite;
 use crate::transcript::{TranscriptLine, digits_of, lines_of};
 use crate::tries::TalkTry;
@@ -160,17 +160,12 @@ impl Report<'_> {
         self.text.push_str("\n")
     }
 
-    // Adds how many of all rows were played, and how many of them were blocked, where the status is 0.
+    // Adds how many of all rows were decided, not played and blocked, where the status is 0 and they do not conform.
     fn put_extent(&mut self, rows: &[PlayedRow<'_>], all: usize) -> Result<(), AllocError> {
         let blocked = count_in(rows, TalkVerdict::Blocked);
-        let skipped = count_in(rows, TalkVerdict::Skipped);
-        let played = rows.len().saturating_sub(skipped);
-        let decided = played.saturating_sub(blocked);
-        let left_out = all.saturating_sub(played);
+        let left_out = count_left_out(rows, all);
+        let decided = all.saturating_sub(left_out).saturating_sub(blocked);
         let deviates = count_in(rows, TalkVerdict::Deviates) != 0;
-        if left_out == 0 && blocked == 0 && !deviates {
-            return self.text.push_str("Conforms.\n");
-        }
         let below = if deviates { " that counts" } else { "" };
         write!(
             self.text,
@@ -184,6 +179,23 @@ impl Report<'_> {
         }
         self.text.push_str("; deviates below that:")?;
         self.put_ids(rows, false)
+    }
+
+    // Adds what the rows come to, by the exit status.
+    fn put_outcome(
+        &mut self,
+        rows: &[PlayedRow<'_>],
+        all: usize,
+        exit: u8,
+    ) -> Result<(), AllocError> {
+        if exit != 0 {
+            self.text.push_str("Does not conform:")?;
+            self.put_ids(rows, true)
+        } else if conform(rows, all) {
+            self.text.push_str("Conforms.\n")
+        } else {
+            self.put_extent(rows, all)
+        }
     }
 }
 
@@ -209,11 +221,6 @@ pub fn report_of(
     let results: Vec<RowResult> = rows.iter().map(|row| row.result).collect(alloc)?;
     report.put_levels(&results)?;
     report.put_counts(rows)?;
-    if exit == 0 {
-        report.put_extent(rows, suite.rows)?;
-    } else {
-        report.text.push_str("Does not conform:")?;
-        report.put_ids(rows, true)?;
-    }
+    report.put_outcome(rows, suite.rows, exit)?;
     Ok(report.text)
 }

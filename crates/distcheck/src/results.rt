@@ -1,7 +1,9 @@
 //! What became of each row, and of all of them.
 
-ghost use Rattle.std.specs.Prelude.{◌≡◌, length, filter, map, IfOk, All};
-ghost use Rattle.distcheck.specs.{Played.played_verdict, Played.result_of, Played.exit_of, Rows.has_verdict, Rows.IsRow};
+ghost use Rattle.std.specs.Prelude.{◌≡◌, map, option_copied, option_map, IfOk, All};
+ghost use Rattle.std.specs.List.{find, flat_map};
+ghost use Rattle.distcheck.specs.Played.{exit_of, met_nobody, played_verdict, result_of};
+ghost use Rattle.distcheck.specs.Rows.{conform, count_in, count_left_out, IsRow};
 
 use crate::tries::PlayedTalk;
 use dist_conformance::{RowResult, Section, TalkVerdict, status, worst};
@@ -77,11 +79,36 @@ fn row_of<'a>(
 
 /// How many of these rows have this verdict.
 pub fn count_in(rows: &[PlayedRow<'_>], verdict: TalkVerdict) -> usize
-    ensures { result ≡ length (filter (has_verdict verdict) rows.now) }
+    ensures { result ≡ count_in rows.now verdict }
 {
     rows.iter()
         .filter(|row| row.result.verdict == verdict)
         .count()
+}
+
+/// How many of so many rows were not played.
+pub fn count_left_out(rows: &[PlayedRow<'_>], all: usize) -> usize
+    ensures { result ≡ count_left_out all rows.now }
+{
+    let skipped = count_in(rows, TalkVerdict::Skipped);
+    all.saturating_sub(rows.len().saturating_sub(skipped))
+}
+
+/// Whether all of so many rows were played, none is blocked, and none deviates.
+pub fn conform(rows: &[PlayedRow<'_>], all: usize) -> bool
+    ensures { result ≡ conform all rows.now }
+{
+    count_left_out(rows, all) == 0
+        && count_in(rows, TalkVerdict::Blocked) == 0
+        && count_in(rows, TalkVerdict::Deviates) == 0
+}
+
+/// The id of the first of these talks that met that nobody listens any more, if one did.
+pub fn gone_in<'a>(played: &'a [PlayedTalk<'a>]) -> Option<&'a [u8]>
+    ensures { option_copied result ≡ option_map (λ talk. talk.queued.talk.now.id) (find met_nobody played.now) }
+{
+    let gone = played.iter().find(|talk| talk.is_refused())?;
+    Some(gone.queued.talk.id.as_slice())
 }
 
 /// The rows of these talks, in their order.
@@ -89,6 +116,7 @@ pub fn rows_of<'a>(
     alloc: Global,
     played: &'a [PlayedTalk<'a>],
 ) -> Result<Vec<PlayedRow<'a>>, AllocError>
+    ensures talks { IfOk result (λ rows. flat_map (λ row. row.talks.now) rows.items ≡ played.now) }
     ensures rows { IfOk result (λ rows. All IsRow rows.items) }
 {
     let mut rows = Vec::new(alloc);

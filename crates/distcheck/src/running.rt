@@ -1,21 +1,18 @@
 //! Plays all talks: those that are played first, then the others beside one another, then those that are played alone; and at the end
 //! once more alone what deviates.
 
-ghost use Rattle.std.specs.Prelude.{◌≡◌, ◌++◌, IfOk, OnOk, IsPermutation};
+ghost use Rattle.std.specs.Prelude.{◌≡◌, ◌<◌, ◌++◌, vec_len, IfOk, OnOk};
 ghost use Rattle.distcheck.specs.{Lanes.all_in, Lanes.lane_at, Lanes.lanes_in, Lanes.lanes_of, Lanes.queued_talks, Played.talks_of, Trying.try_verdict};
 
 use crate::fault::Fault;
 use crate::lane::LaneReply;
 use crate::playing::{Setting, leave_out, play};
-use crate::queue::{QueuedTalk, TalkQueue};
+use crate::queue::{QueuedTalk, TalkQueue, queue_of};
 use crate::tries::{PlayedTalk, TalkTry};
+use crate::wanted::WantedTalks;
 use dist_conformance::{Level, SectionKind, TalkVerdict};
 use std::sync::atomic::{AtomicBool, AtomicUsize, Ordering};
 use std::thread::{Threads, map_indices, sleep};
-use std::time::Duration;
-
-/// How many milliseconds after the first try the second begins.
-const BREATH: u64 = 400;
 
 /// How many talks have to hear nothing, until it is believed that nothing ever comes; fewer, where one is played at a time. Our own choice.
 const SILENT: usize = 12;
@@ -60,9 +57,11 @@ impl PartnerTally {
 #[derive(Drop)]
 struct TalkCrew<'a> {
     setting: Setting<'a>,
-    queue: &'a TalkQueue<'a>,
+    queue: TalkQueue<'a>,
     // Whether one talk is played at a time.
     is_serial: bool,
+    // Whether a talk that is played first is not kept, so that the others are played one after the other.
+    is_held_up: bool,
     // Whether nobody listens any more.
     is_gone: AtomicBool,
     node: PartnerTally,
@@ -121,28 +120,34 @@ impl<'a> TalkCrew<'a> {
         }
     }
 
-    fn play_again(&self, played: PlayedTalk<'a>) -> Result<PlayedTalk<'a>, Fault>
-        ensures { IfOk result (λ it. it.queued ≡ played.entry.queued) }
+    // Plays a talk once.
+    fn play_once(&self, queued: &QueuedTalk<'a>) -> Result<TalkTry, Fault>
+        ensures { IfOk result (λ one. one.verdict ≡ try_verdict queued.now one.played.items) }
     {
-        let queued = played.queued;
-        let one = play_anew(&self.setting, &queued)?;
-        self.partner(&queued).note(&one);
+        let one = play_anew(&self.setting, queued)?;
+        self.partner(queued).note(&one);
         if one.is_refused() {
             self.is_gone.store(true, Ordering::SeqCst);
         }
+        Ok(one)
+    }
+
+    fn play_again(&self, played: PlayedTalk<'a>) -> Result<PlayedTalk<'a>, Fault>
+        ensures { IfOk result (λ it. it.queued ≡ played.entry.queued) }
+    {
+        let one = self.play_once(&played.queued)?;
         Ok(played.with(one)?)
     }
 
-    // Plays a talk twice, if a second try may come to more. As long as nothing was ever heard it does not.
-    fn play_twice(&self, played: PlayedTalk<'a>) -> Result<PlayedTalk<'a>, Fault>
+    // Plays a talk again, if a second try may come to more. As long as nothing was ever heard it does not.
+    fn play_bad_again(&self, played: PlayedTalk<'a>) -> Result<PlayedTalk<'a>, Fault>
         ensures { IfOk result (λ it. it.queued ≡ played.entry.queued) }
     {
-        let played = self.play_again(played)?;
         let is_gone = self.is_gone.load(Ordering::SeqCst);
         if is_gone || !is_bad(played.last_verdict()) || !self.partner(&played.queued).is_heard() {
             return Ok(played);
         }
-        sleep(self.setting.rt, Duration::from_millis(BREATH));
+        sleep(self.setting.rt, self.setting.breath());
         self.play_again(played)
     }
 
@@ -151,10 +156,12 @@ impl<'a> TalkCrew<'a> {
         ensures { IfOk result (λ it. it.queued ≡ queued.now) }
     {
         let alloc = self.setting.rt.alloc();
-        let played = PlayedTalk::new(alloc, queued);
         match self.reason_to_skip(queued) {
-            Some(why) => Ok(played.with(leave_out(alloc, queued, why)?)?),
-            None => self.play_twice(played),
+            Some(why) => Ok(PlayedTalk::new(alloc, queued, leave_out(alloc, queued, why)?)?),
+            None => {
+                let one = self.play_once(queued)?;
+                self.play_bad_again(PlayedTalk::new(alloc, queued, one)?)
+            }
         }
     }
 
@@ -169,14 +176,11 @@ impl<'a> TalkCrew<'a> {
         Ok(played)
     }
 
-    fn make_reply(&self, place: usize) -> LaneReply<'a>
-        ensures { result.lane.now ≡ lane_at self.now.queue.now.lanes.items place }
+    fn make_reply(&self, place: usize) -> LaneReply<'_, 'a>
+        requires { place < vec_len self.now.queue.lanes }
+        ensures { result.lane.now ≡ lane_at self.now.queue.lanes.items place }
     {
-        let queue = self.queue;
-        let lane: &'a [QueuedTalk<'a>] = match queue.lanes.get(place) {
-            Some(lane) => lane,
-            None => &[],
-        };
+        let lane = self.queue.lanes[place].as_slice();
         LaneReply {
             lane,
             played: self.play_lane(lane),
@@ -184,31 +188,30 @@ impl<'a> TalkCrew<'a> {
     }
 
     // Plays all lanes beside one another, each in a thread.
-    fn play_beside<R: Threads + Sync>(&self, threads: &R) -> Result<Vec<LaneReply<'a>>, Fault>
-        ensures { IfOk result (λ replies. lanes_in replies.items ≡ lanes_of self.now.queue.now.lanes.items) }
+    fn play_beside<R: Threads + Sync>(&self, threads: &R) -> Result<Vec<LaneReply<'_, 'a>>, Fault>
+        ensures { IfOk result (λ replies. lanes_in replies.items ≡ lanes_of self.now.queue.lanes.items) }
     {
-        let queue = self.queue;
         let replies = map_indices(
             threads,
             self.setting.rt.alloc(),
-            queue.lanes.len(),
-            &|place: usize| -> LaneReply<'_>
-                ensures { result.lane.now ≡ lane_at self.entry.now.queue.now.lanes.items place }
+            self.queue.lanes.len(),
+            &|place: usize| -> LaneReply<'_, '_>
+                requires { place < vec_len self.now.queue.lanes }
+                ensures { result.lane.now ≡ lane_at self.entry.now.queue.lanes.items place }
             { self.make_reply(place) },
         )?;
         Ok(replies)
     }
 
     // Plays all lanes: beside one another, or one after the other.
-    fn play_lanes<R: Threads + Sync>(&self, threads: &R) -> Result<Vec<LaneReply<'a>>, Fault>
-        ensures { IfOk result (λ replies. lanes_in replies.items ≡ lanes_of self.now.queue.now.lanes.items) }
+    fn play_lanes<R: Threads + Sync>(&self, threads: &R) -> Result<Vec<LaneReply<'_, 'a>>, Fault>
+        ensures { IfOk result (λ replies. lanes_in replies.items ≡ lanes_of self.now.queue.lanes.items) }
     {
         if !self.is_serial {
             return self.play_beside(threads);
         }
-        let queue: &'a TalkQueue<'a> = self.queue;
         let mut replies = Vec::new(self.setting.rt.alloc());
-        for lane in &queue.lanes {
+        for lane in &self.queue.lanes {
             let played = self.play_lane(lane);
             replies.push(LaneReply { lane, played })?;
         }
@@ -237,7 +240,8 @@ impl<'a> TalkCrew<'a> {
             played
         };
         if played.verdict() == TalkVerdict::Deviates {
-            self.play_twice(played)
+            let played = self.play_again(played)?;
+            self.play_bad_again(played)
         } else {
             Ok(played)
         }
@@ -267,7 +271,7 @@ impl<'a> TalkCrew<'a> {
 
 // Appends what lanes came to.
 fn take_replies<'a>(
-    replies: Vec<LaneReply<'a>>,
+    replies: Vec<LaneReply<'_, 'a>>,
     played: &mut Vec<PlayedTalk<'a>>,
 ) -> Result<(), Fault>
     ensures { OnOk result (talks_of played.new.items ≡ talks_of played.old.items ++ all_in (lanes_in replies.entry.items)) }
@@ -284,42 +288,43 @@ fn take_replies<'a>(
 
 impl<'a> TalkCrew<'a> {
     // Plays all talks, each once, and returns what became of them in the order in which they are queued.
-    fn play_all<R: Threads + Sync>(&mut self, threads: &R) -> Result<PlayedSuite<'a>, Fault>
-        ensures { IfOk result (λ suite. talks_of suite.talks.items ≡ queued_talks self.old.queue.now) }
+    fn play_all<R: Threads + Sync>(&mut self, threads: &R) -> Result<Vec<PlayedTalk<'a>>, Fault>
+        ensures { IfOk result (λ talks. talks_of talks.items ≡ queued_talks self.old.queue) }
     {
-        let queue: &'a TalkQueue<'a> = self.queue;
-        let mut talks = self.play_lane(&queue.first)?;
-        let is_held_up = talks.iter().any(|played| is_bad(played.verdict()));
-        self.is_serial = self.is_serial || is_held_up;
+        let mut talks = self.play_lane(&self.queue.first)?;
+        self.is_held_up = talks.iter().any(|played| is_bad(played.verdict()));
+        self.is_serial = self.is_serial || self.is_held_up;
         take_replies(self.play_lanes(threads)?, &mut talks)?;
-        talks.append(&mut self.play_lane(&queue.alone)?)?;
-        Ok(PlayedSuite {
-            talks: self.confirm_all(talks)?,
-            rows: queue.rows,
-            is_one_at_a_time: is_held_up && self.node.is_heard(),
-        })
+        talks.append(&mut self.play_lane(&self.queue.alone)?)?;
+        self.confirm_all(talks)
     }
 }
 
-/// Plays all talks, each once, and returns what became of each, in their order.
-#[tactic(auto, using(crate::proofs::Order::sorted_talks))]
+/// Plays the talks that are wanted, each once, and returns what became of each, in their order.
 pub fn run_talks<'a, R: Threads + Sync>(
     threads: &R,
     setting: &Setting<'a>,
-    queue: &'a TalkQueue<'a>,
+    wanted: &WantedTalks<'a>,
     is_serial: bool,
 ) -> Result<PlayedSuite<'a>, Fault>
-    ensures { IfOk result (λ suite. IsPermutation (queued_talks queue.now) (talks_of suite.talks.items)) }
+    ensures talks { IfOk result (λ suite. talks_of suite.talks.items ≡ wanted.now.talks.items) }
+    ensures rows { IfOk result (λ suite. suite.rows ≡ wanted.now.rows) }
 {
+    let queue = queue_of(setting.rt.alloc(), &wanted.talks)?;
     let mut crew = TalkCrew {
         setting: *setting,
         queue,
         is_serial,
+        is_held_up: false,
         is_gone: AtomicBool::new(false),
         node: PartnerTally::new(),
         mapper: PartnerTally::new(),
     };
-    let mut suite = crew.play_all(threads)?;
-    suite.talks.sort_by_key(|played| played.queued.place)?;
-    Ok(suite)
+    let mut talks = crew.play_all(threads)?;
+    talks.sort_by_key(|played| played.queued.place)?;
+    Ok(PlayedSuite {
+        talks,
+        rows: wanted.rows,
+        is_one_at_a_time: crew.is_held_up && crew.node.is_heard(),
+    })
 }

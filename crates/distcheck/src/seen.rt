@@ -1,7 +1,7 @@
 //! What is seen in the steps of a talk.
 
 ghost use Rattle.std.specs.Prelude.{◌≡◌};
-ghost use Rattle.distcheck.specs.Seeing.{end_of};
+ghost use Rattle.distcheck.specs.Seeing.{end_of, is_refusal};
 
 use dist_names::ByteString;
 
@@ -76,6 +76,15 @@ pub enum StepFact {
     Untried(&'static str),
     /// The step was not made, for this reason: the talk is blocked.
     Failed(&'static str),
+}
+
+impl StepFact {
+    /// Whether nobody listens.
+    pub fn is_refusal(&self) -> bool
+        ensures { result ≡ is_refusal self.now }
+    {
+        matches!(self, StepFact::Refused)
+    }
 }
 
 /// A step that was played.

@@ -28,7 +28,7 @@ const INSTALLED: &str = "/usr/share/distcheck";
 const ENDING: &str = ".rows";
 
 // The refusal of a folder or a file that could not be read.
-fn unread(alloc: Global, path: &str) -> Result<Fault, AllocError> {
+fn unread_fault(alloc: Global, path: &str) -> Result<Fault, AllocError> {
     Ok(Fault::RowsUnread(escape(alloc, path.as_bytes())?))
 }
 
@@ -50,7 +50,7 @@ fn folder_of(rt: &HostRuntime, order: &CheckOrder<'_>) -> Result<String, Fault> 
     };
     match prefix_of(program.path_text()) {
         Some(prefix) => Ok(format!(in alloc; "{prefix}/{BESIDE}")?),
-        None => Err(unread(alloc, BESIDE)?),
+        None => Err(unread_fault(alloc, BESIDE)?),
     }
 }
 
@@ -86,7 +86,7 @@ fn read_file(
     let alloc = rt.alloc();
     let path = format!(in alloc; "{folder}/{name}")?;
     let Ok(text) = read_text(rt, &path) else {
-        return Err(unread(alloc, &path)?);
+        return Err(unread_fault(alloc, &path)?);
     };
     match read_section(alloc, text.as_bytes(), names) {
         Ok(section) => Ok(SuiteFile { text, section }),
@@ -111,7 +111,7 @@ pub fn read_suite(
         suite.push(read_file(rt, &folder, file, names)?)?;
     }
     if suite.is_empty() {
-        return Err(unread(alloc, &folder)?);
+        return Err(unread_fault(alloc, &folder)?);
     }
     Ok(suite)
 }

@@ -4,12 +4,13 @@ ghost use Rattle.std.specs.Prelude.{◌≡◌, IfOk, OnOk};
 ghost use Rattle.distcheck.specs.Seeing.{HearsMore, EndsAt};
 
 use crate::seen::PeerEnd;
-use dist_stream::{Heard, Limited, SocketStream, Stream};
+use crate::talk_stream::{SocketTalk, TalkStream, stream_over};
+use dist_stream::{Heard, SocketStream, Stream, Took, deadline_after, time_left};
 use std::alloc::AllocError;
 use std::io;
 use std::net::{Net, SocketAddr, TcpListener, TcpStream};
 use std::os::fd::AsRawFd;
-use std::time::Duration;
+use std::time::{Clock, Duration};
 
 /// How many seconds a connect may take. Our own choice.
 const CONNECT: u64 = 5;
@@ -17,10 +18,10 @@ const CONNECT: u64 = 5;
 /// How many milliseconds one read waits, before what came is judged again: silence is judged by time alone.
 pub const WAIT: u64 = 50;
 
-/// How many seconds one write waits, and how many are made, so that no more than five seconds are spent on a peer that reads nothing.
+/// How many seconds one write waits, and all of a step, so that about five seconds are spent on a peer that reads nothing.
 const WRITE: u64 = 1;
 
-const WRITES: usize = 5;
+const WRITES: u64 = 5;
 
 // The most bytes that are read of a connection: 1 MiB. What comes beyond stays unread. Our own choice.
 const MOST: usize = 1 << 20;
@@ -41,8 +42,8 @@ pub struct TalkLink<S> {
     pub stream: S,
 }
 
-/// One of the system.
-pub type SocketLink = TalkLink<SocketStream>;
+/// One over a connection of the system.
+pub type SocketLink = TalkLink<SocketTalk>;
 
 impl<S: Stream> TalkLink<S> {
     /// Whether more may come.
@@ -68,23 +69,43 @@ impl<S: Stream> TalkLink<S> {
         };
         Ok(())
     }
+
+    /// Writes these bytes, as far as five seconds allow. Returns whether all were taken.
+    pub fn write<C: Clock>(&mut self, clock: &C, bytes: &[u8]) -> bool {
+        let Ok(until) = deadline_after(clock, Duration::from_secs(WRITES)) else {
+            return false;
+        };
+        let mut left = bytes;
+        for _ in 0..u64::MAX {
+            if left.is_empty() || time_left(clock, until).is_zero() {
+                break;
+            }
+            match self.stream.write(left) {
+                Took::Bytes(0) | Took::Failed => break,
+                Took::Bytes(count) => left = &left[count..],
+                Took::Quiet => {}
+            }
+        }
+        left.is_empty()
+    }
 }
 
-impl TalkLink<SocketStream> {
-    /// Connects to this address, within five seconds. An error is the system's.
+impl TalkLink<SocketTalk> {
+    /// Connects to this address, within five seconds: to a peer, or to a tunnel of TLS. An error is the system's.
     pub fn open<R: Net<Listener = TcpListener, Stream = TcpStream>>(
         rt: &R,
         conn: u8,
         address: &SocketAddr,
+        is_tunnelled: bool,
     ) -> io::Result<SocketLink>
         ensures { IfOk result (λ link. link.conn ≡ conn) }
     {
         let socket = TcpStream::connect_timeout(rt, address, Duration::from_secs(CONNECT))?;
-        TalkLink::over(conn, socket)
+        TalkLink::over(conn, socket, is_tunnelled)
     }
 
     /// The connection that this socket has. An error is the system's.
-    pub fn over(conn: u8, socket: TcpStream) -> io::Result<SocketLink>
+    pub fn over(conn: u8, socket: TcpStream, is_tunnelled: bool) -> io::Result<SocketLink>
         ensures { IfOk result (λ link. link.conn ≡ conn) }
     {
         let _ = socket.set_nodelay(true);
@@ -96,29 +117,24 @@ impl TalkLink<SocketStream> {
             conn,
             end: PeerEnd::Open,
             room: MOST,
-            stream,
+            stream: stream_over(stream, is_tunnelled),
         })
     }
 
-    /// Writes these bytes. Returns whether all were taken.
-    pub fn write(&mut self, bytes: &[u8]) -> bool {
-        let mut limited = Limited {
-            stream: &mut self.stream,
-            left: WRITES,
-        };
-        limited.write_all(bytes).is_ok()
-    }
-
-    /// Ends the own writing: the peer reads an end, and may still write.
+    /// Ends the own writing: the peer reads an end, and may still write. A tunnel does not pass that on: there nothing is done.
     pub fn half(&self) {
-        let _ = self.stream.shut();
+        if let TalkStream::Plain(stream) = &self.stream {
+            let _ = stream.shut();
+        }
     }
 
     /// Has the peer read an error in place of an end: Linux resets a connection that is dissolved, by a connect to an address of no family
-    /// (connect(2)).
+    /// (connect(2)). A tunnel does not pass that on: there nothing is done.
     pub fn reset(&self) {
-        let nowhere = [0u8; 128];
-        let fd = self.stream.get_ref().as_raw_fd();
-        let _ = unsafe { libc::net::connect(fd, &nowhere, 16) };
+        if let TalkStream::Plain(stream) = &self.stream {
+            let nowhere = [0u8; 128];
+            let fd = stream.get_ref().as_raw_fd();
+            let _ = unsafe { libc::net::connect(fd, &nowhere, 16) };
+        }
     }
 }

@@ -1,7 +1,8 @@
 //! A talk, and what became of it in each of its tries.
 
-ghost use Rattle.std.specs.Prelude.{◌≡◌, IfOk};
-ghost use Rattle.distcheck.specs.Trying.{told_verdicts, verdict_of_two, verdict_alone, tries_verdict, try_verdict, verdicts_of};
+ghost use Rattle.std.specs.Prelude.{◌≡◌, ◌<◌, length, IfOk};
+ghost use Rattle.std.specs.List.{list_any};
+ghost use Rattle.distcheck.specs.Trying.{told_verdicts, verdict_of_two, verdict_alone, tries_verdict, try_verdict, verdicts_of, was_refused};
 ghost use Rattle.distcheck.specs.Deciding.{counts_first};
 
 use crate::queue::QueuedTalk;
@@ -24,8 +25,10 @@ pub struct TalkTry {
 
 impl TalkTry {
     /// Whether nobody listened where it connects.
-    pub fn is_refused(&self) -> bool {
-        matches!(self.played.last(), Some(last) if matches!(last.seen, StepFact::Refused))
+    pub fn is_refused(&self) -> bool
+        ensures { result ≡ was_refused self.now }
+    {
+        self.played.iter().any(|step| step.seen.is_refusal())
     }
 
     /// Whether the bytes of a step could not be said.
@@ -49,6 +52,8 @@ pub struct PlayedTalk<'a> {
     pub queued: QueuedTalk<'a>,
     /// Its tries, in order.
     pub tries: Vec<TalkTry>,
+    // There is one at least.
+    pub ghost tried: { 0 < length tries.items },
     // The verdict of each is the judgement of what was seen in it.
     pub ghost judged: { told_verdicts tries.items ≡ verdicts_of queued tries.items },
 }
@@ -98,14 +103,20 @@ fn tries_verdict(tries: &[TalkTry]) -> TalkVerdict
 }
 
 impl<'a> PlayedTalk<'a> {
-    /// A talk without a try.
-    pub fn new(alloc: Global, queued: &QueuedTalk<'a>) -> PlayedTalk<'a>
-        ensures { result.queued ≡ queued.now }
+    /// A talk, and its first try.
+    pub fn new(
+        alloc: Global,
+        queued: &QueuedTalk<'a>,
+        first: TalkTry,
+    ) -> Result<PlayedTalk<'a>, AllocError>
+        // `play` and `leave_out` say so of what they return.
+        requires { first.verdict ≡ try_verdict queued.now first.played.items }
+        ensures { IfOk result (λ it. it.queued ≡ queued.now) }
     {
-        PlayedTalk {
+        Ok(PlayedTalk {
             queued: *queued,
-            tries: Vec::new(alloc),
-        }
+            tries: vec![in alloc; first]?,
+        })
     }
 
     /// The talk with one more try.
@@ -124,6 +135,13 @@ impl<'a> PlayedTalk<'a> {
         ensures { result ≡ tries_verdict (verdicts_of self.now.queued self.now.tries.items) }
     {
         tries_verdict(&self.tries)
+    }
+
+    /// Whether nobody listened in one of its tries.
+    pub fn is_refused(&self) -> bool
+        ensures { result ≡ list_any was_refused self.now.tries.items }
+    {
+        self.tries.iter().any(|one| one.is_refused())
     }
 
     /// The verdict of its last try.

@@ -96,14 +96,14 @@ pub fn write_pieces(
     saying: &Saying,
 ) -> bool {
     if saying.pieces == 0 {
-        return link.write(bytes);
+        return link.write(rt, bytes);
     }
     let pause = Duration::from_millis(u64::from(saying.pause.max(APART)));
     for (place, piece) in bytes.chunks(saying.pieces as usize).enumerate() {
         if place != 0 {
             sleep(rt, pause);
         }
-        if !link.write(piece) {
+        if !link.write(rt, piece) {
             return false;
         }
     }

@@ -1,6 +1,17 @@
+-- One row more.
+use Rattle.std.proofs.Common.{[], ◌∷◌, refl}
+use Rattle.std.proofs.lemmas.List.Concat.{flat_map-append}
 use Rattle.std.proofs.lemmas.List.Elements.{All-push}
 use Rattle.distcheck.specs.Rows.{IsRow}
 use Rattle.distcheck.proofs.results.rows_of.Goals as goal
 
 pub loop-talks-preserved-in_ok-push : goal.loop-talks-preserved-in_ok-push
-loop-talks-preserved-in_ok-push c = rw c.in_ok-push.ensures.items (All-push IsRow _ _ c.loop-talks.invariant c.in_ok-row_of.ensures.1)
+loop-talks-preserved-in_ok-push c = rw c.in_ok-push.ensures.items record {
+  rows = All-push IsRow _ _ c.loop-talks.invariant.rows c.in_ok-row_of.ensures.1;
+  talks = rw (
+    flat_map-append (λ row. row.talks.now) c.loop-talks.rows.items (c.in_ok-row_of.field-0 ∷ []),
+    flat_map-append (λ part. part.now) c.loop-talks.yielded (c.in-Some.talks ∷ []),
+    c.loop-talks.invariant.talks,
+    c.in_ok-row_of.ensures.0,
+  ) refl;
+}
