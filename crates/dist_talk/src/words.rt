@@ -210,7 +210,7 @@ impl HandshakeVerdict {
             HandshakeVerdict::MapperRefused
             | HandshakeVerdict::MapperUnreachable(Unreached::Refused) => {
                 "is a node running there at all? then start epmd, or look at ERL_EPMD_PORT and ERL_EPMD_ADDRESS on both hosts (--epmd-port); \
-                    a node started with -start_epmd false or -erl_epmd_port P is dialled by --port P; a firewall that rejects looks the same"
+                    a node of -erl_epmd_port P needs none, and is dialled by --port P; a firewall that rejects looks the same"
             }
             HandshakeVerdict::MapperUnreachable(Unreached::Reset) => {
                 "a firewall or a proxy on the way resets it: let TCP port 4369 (or ERL_EPMD_PORT) pass, or dial the node's port by --port"
@@ -238,7 +238,7 @@ impl HandshakeVerdict {
             HandshakeVerdict::NotRegistered => {
                 "compare with the names that are registered there; the part before the @ has to be the same letters, \
                 and the node has to run with -name or -sname; a node with another ERL_EPMD_PORT is registered at that port (--epmd-port), \
-                one with -start_epmd false or -erl_epmd_port P nowhere (--port P), \
+                one of -erl_epmd_port P that started before its port mapper nowhere (--port P), \
                 and a node of a dynamic name (-name undefined) or of -dist_listen false takes no connections: it dials; \
                 after a restart of epmd, or epmd -stop NAME, a node of OTP 23 stays unregistered: restart it; a newer one is back within seconds"
             }
