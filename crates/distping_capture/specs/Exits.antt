@@ -27,6 +27,10 @@ pub record StandsFor (r : Register) (attempts : List PastDial) : Type 0 where
   pub status : r.status ≡ first_exit earlier
   pub nothing : r.has_found ≡ false → attempts ≡ []
 
+-- the exit status by what a register remembers, and whatever it stands for
+abbrev pub exit_now : Register → ℕ
+exit_now r = if r.has_found then (if r.status == 0 then first_exit r.dials.items else r.status) else 12
+
 -- An attempt was added, and of it and of those that are remembered the ones count no more that gave way to another.
 pub record Adds (attempt : PastDial) (r s : Register) : Type 0 where
   pub terms : s.terms ≡ r.terms

@@ -4,7 +4,7 @@
 ghost use Rattle.std.specs.Prelude.{◌≡◌, ◌++◌, [], ◌∷◌, ◌==◌, IfOk, List, OnOk, true, if◌then◌else◌};
 ghost use Rattle.distping_capture.specs.{Attempts.verdict_on, Connections.Judges, Connections.SameConnection, declared.dials.PastDial.PastDial};
 ghost use Rattle.dist_talk.specs.{Words.status_of, declared.terms.Terms.Terms};
-ghost use Rattle.distping_capture.specs.Exits.{Adds, Counts, GoesOnCounting, Notes, NotesOnce, SameAttempts, StandsFor, exit_of, first_exit};
+ghost use Rattle.distping_capture.specs.Exits.{Adds, Counts, GoesOnCounting, Notes, NotesOnce, SameAttempts, StandsFor, exit_now, exit_of, first_exit};
 
 use crate::connection::CapturedConnection;
 use crate::dials::{PastDial, add, by_pairs};
@@ -506,7 +506,8 @@ impl<'x> Register<'x> {
     // The exit status: the first that is not 0 of the attempts, those apart that another dial crossed, and of the port mappers' answers; or that
     // nothing was found.
     fn exit_status(&self) -> u8
-        ensures { (attempts : List PastDial) → StandsFor self.now attempts → result ≡ exit_of self.now.has_found attempts }
+        ensures now { result ≡ exit_now self.now }
+        ensures attempts { (attempts : List PastDial) → StandsFor self.now attempts → result ≡ exit_of self.now.has_found attempts }
     {
         if !self.has_found {
             return HandshakeVerdict::NothingFound.status();
@@ -533,7 +534,8 @@ impl<'x> Register<'x> {
 
     /// Prints the summary, and what was left out, and returns the exit status.
     pub fn finish(&mut self, left_out: &PacketsLeftOut) -> Result<u8, Fault>
-        ensures { IfOk result (λ status. (attempts : List PastDial) → StandsFor self.old attempts
+        ensures now { IfOk result (λ status. status ≡ exit_now self.old) }
+        ensures attempts { IfOk result (λ status. (attempts : List PastDial) → StandsFor self.old attempts
             → status ≡ exit_of self.old.has_found attempts) }
     {
         let status = self.exit_status();
