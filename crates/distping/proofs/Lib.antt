@@ -3,5 +3,6 @@ mod Ends
 mod Firsts
 mod Fronts
 mod Order
+mod Replies
 mod Trying
 mod Ways

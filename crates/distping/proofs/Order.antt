@@ -1,5 +1,8 @@
--- A list whose elements have the values of another list, place by place.
-use Rattle.std.proofs.Common.{◌≡◌, ℕ, suc, ◌<◌, List, [], ◌∷◌, length, get_or, map, refl, arith}
+-- A list whose elements have the values of another list, place by place; and what holds of all elements.
+use Rattle.std.proofs.Common.{◌≡◌, ℕ, suc, ◌<◌, ◌++◌, List, [], ◌∷◌, length, get_or, map, refl, subst, arith}
+use Rattle.std.proofs.Math.Seq.{get_or-append_seam}
+use Rattle.std.proofs.lemmas.List.{get_or_append_left, length-append}
+use Rattle.std.specs.List.{All}
 
 -- the values of the elements of one list are the elements of the other
 pub map_by_places : {X Y : Type 0} (f : X → Y) (xs : List X) (ys : List Y) (e : Y) → length xs ≡ length ys
@@ -8,3 +11,11 @@ map_by_places f [] [] e len each = refl
 map_by_places f [] (y ∷ ys) e len each = absurd (omega (arith, len))
 map_by_places f (x ∷ xs) [] e len each = absurd (omega (arith, len))
 map_by_places f (x ∷ xs) (y ∷ ys) e len each = rw (each 0 x (omega arith), map_by_places f xs ys e (omega (arith, len)) (λ i d l. each (suc i) d (omega (arith, l)))) refl
+
+-- what holds of all elements holds of those before the last one
+pub all_before : {X : Type 0} (P : X → Type 0) (xs : List X) (x : X) → All P (xs ++ x ∷ []) → All P xs
+all_before P xs x all k d l = subst P (get_or_append_left xs (x ∷ []) d k l) (all k d (omega (arith, l, length-append xs (x ∷ []))))
+
+-- and of the last one
+pub all_last : {X : Type 0} (P : X → Type 0) (xs : List X) (x : X) → All P (xs ++ x ∷ []) → P x
+all_last P xs x all = subst P (get_or-append_seam xs x [] x) (all (length xs) x (omega (arith, length-append xs (x ∷ []))))

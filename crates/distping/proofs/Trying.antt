@@ -5,7 +5,7 @@ use Rattle.std.proofs.lemmas.{Bool.cases_lt, List.get_or_append_left, List.lengt
 use Rattle.dist_talk.specs.declared.verdict.HandshakeVerdict.{HandshakeVerdict}
 use Rattle.dist_talk.specs.declared.verdict.Unresolved.TheVariants as unresolved
 use Rattle.dist_talk.specs.declared.verdict.HandshakeVerdict.TheVariants as verdict
-use Rattle.distping.specs.{Coming.AllCome, Coming.Comes, Trying.IsFurthest, declared.links.tries.Tries.Tries}
+use Rattle.distping.specs.{Coming.AllCome, Coming.Comes, Coming.ComesBy, Trying.IsFurthest, declared.links.tries.Tries.Tries}
 use Rattle.distping_report.specs.declared.{asked.Dial.Dial, found.Found.Found, found.ProbeOutcome.ProbeOutcome}
 
 -- an element of a list, or the one behind it
@@ -15,10 +15,10 @@ at_seam xs x d i e = ap (λ k. get_or (xs ++ x ∷ []) k d) e ∙ get_or-append_
 -- one address more
 pub push_comes : (d : Dial) (old new : Tries) (found : Found) (v : HandshakeVerdict) → length old.found.items ≡ length old.verdicts.items
     → new.found.items ≡ old.found.items ++ found ∷ [] → new.verdicts.items ≡ old.verdicts.items ++ v ∷ []
-    → Comes d found.handshake v → AllCome d old → AllCome d new
+    → Comes d found v → AllCome d old → AllCome d new
 push_comes d old new found v paired fs vs comes all i f w less =
-    let P : List Found → List HandshakeVerdict → Type 0 = λ xs ys. Comes d (let x = get_or xs i f in x.handshake) (get_or ys i w) in
-    let Q : Found → HandshakeVerdict → Type 0 = λ x y. Comes d x.handshake y in
+    let P : List Found → List HandshakeVerdict → Type 0 = λ xs ys. Comes d (get_or xs i f) (get_or ys i w) in
+    let Q : Found → HandshakeVerdict → Type 0 = λ x y. Comes d x y in
     let more : length new.verdicts.items ≡ length (old.verdicts.items ++ v ∷ []) = ap length vs in
     let len = length-append old.verdicts.items (v ∷ []) in
     let both : P (old.found.items ++ found ∷ []) (old.verdicts.items ++ v ∷ []) = elim (cases_lt i (length old.verdicts.items)) [
@@ -38,15 +38,15 @@ none_come d all none i f w less = let e : length all.verdicts.items ≡ 0 = ap l
 -- the outcome is that of one of them, or that the host has no address
 pub outcome_comes : (d : Dial) (all : Tries) (it : ProbeOutcome) → (0 < length all.verdicts.items → IsFurthest all it)
     → (length all.verdicts.items ≡ 0 → (it.verdict ≡ verdict.NoHost unresolved.NoName) × (it.found.handshake ≡ None)) → AllCome d all
-    → Comes d it.found.handshake it.verdict
+    → Comes d it.found it.verdict
 outcome_comes d all it some none come =
     elim (cases_lt 0 (length all.verdicts.items)) [
       | inl l ↦
           let best = some l in
           let place : ℕ = best.place in
-          let Q : Found → HandshakeVerdict → Type 0 = λ x y. Comes d x.handshake y in
+          let Q : Found → HandshakeVerdict → Type 0 = λ x y. Comes d x y in
           subst (λ x. Q x it.verdict) (sym (best.found it.found)) (subst (λ y. Q (get_or all.found.items place it.found) y) (sym (best.verdict it.verdict)) (come place it.found it.verdict best.best.0))
       | inr g ↦
           let is = none (omega (arith, g)) in
-          subst (λ h. Comes d h it.verdict) (sym is.1) (subst (λ y. Comes d None y) (sym is.0) refl)
+          subst (λ h. ComesBy d it.found.registration h it.verdict) (sym is.1) (subst (λ y. ComesBy d it.found.registration None y) (sym is.0) refl)
     ]

@@ -1,5 +1,6 @@
 -- The verdicts of the way to a node.
 use Rattle.std.proofs.Common.{◌≡◌, Bool, true, Option, Some, None, Err, refl, sym, subst}
+use Rattle.dist_epmd.specs.declared.message.NodeInfo.{NodeInfo}
 use Rattle.dist_epmd_calls.specs.declared.lookup_error.LookupError.{LookupError}
 use Rattle.dist_epmd_calls.specs.declared.lookup_error.LookupError.TheVariants as lookup
 use Rattle.dist_program.specs.declared.host_error.HostError.{HostError}
@@ -8,10 +9,10 @@ use Rattle.dist_talk.specs.Unreached.{mapper_verdict, port_verdict}
 use Rattle.dist_talk.specs.declared.unreached.Unreached.{Unreached}
 use Rattle.dist_talk.specs.declared.unreached.Unreached.TheVariants as unreached
 use Rattle.dist_talk.specs.declared.{handshake.Handshake.Handshake, verdict.HandshakeVerdict.HandshakeVerdict}
-use Rattle.distping.specs.{Coming.is_way, Coming.Comes, Coming.OutcomeComes, Coming.StopsOnWay, Coming.TalkKept, Coming.explanation, Places.host_verdict, Places.lookup_verdict}
+use Rattle.distping.specs.{Coming.is_way, Coming.Comes, Coming.ComesBy, Coming.OutcomeComes, Coming.StopsOnWay, Coming.TalkKept, Coming.explanation, Coming.is_of_version_5, Places.host_verdict, Places.lookup_verdict}
 use Rattle.distping.specs.declared.links.attempt.Stop.{Stop}
 use Rattle.distping.specs.declared.links.attempt.Stop.TheVariants as stop
-use Rattle.distping_report.specs.declared.asked.Dial.{Dial}
+use Rattle.distping_report.specs.declared.{asked.Dial.Dial, found.Found.Found}
 
 -- a port mapper that was not reached
 pub way_of_mapper : (u : Unreached) → is_way (mapper_verdict u) ≡ true
@@ -42,11 +43,17 @@ way_of_host has_address host.NoDescriptors = refl
 way_of_host has_address host.NoMemory = refl
 
 -- what stopped a probe before the talk
-pub stop_comes : (d : Dial) (h : Option Handshake) (s : Stop) → h ≡ None → StopsOnWay s → OutcomeComes d h (Err s)
-stop_comes d h (stop.Verdict v) e way = subst (λ h. Comes d h v) (sym e) way
-stop_comes d h (stop.Fault fault) e way = tt
+pub stop_comes : (d : Dial) (f : Found) (s : Stop) → f.handshake ≡ None → StopsOnWay s → OutcomeComes d f (Err s)
+stop_comes d f (stop.Verdict v) e way = subst (λ h. ComesBy d f.registration h v) (sym e) way
+stop_comes d f (stop.Fault fault) e way = tt
 
--- the verdict of a talk, explanation
-pub explained_comes : (d : Dial) (h : Option Handshake) (came v : HandshakeVerdict) → TalkKept d h came → ((is_old is_tls : Bool) × (v ≡ explanation is_old is_tls came)) → Comes d h v
-explained_comes d None came v kept why = absurd kept
-explained_comes d (Some h) came v kept why = record { came = came; talk = kept; is_old = why.0; is_tls = why.1; is = why.2 }
+-- the verdict of a talk, explained
+explained_by : (d : Dial) (r : Option NodeInfo) (h : Option Handshake) (came v : HandshakeVerdict) → TalkKept d h came
+    → ((is_tls : Bool) × (v ≡ explanation (is_of_version_5 r) is_tls came)) → ComesBy d r h v
+explained_by d r None came v kept why = absurd kept
+explained_by d r (Some h) came v kept why = record { came = came; talk = kept; is_tls = why.0; is = why.1 }
+
+-- the same of what was found out
+pub explained_comes : (d : Dial) (f : Found) (came v : HandshakeVerdict) → TalkKept d f.handshake came
+    → ((is_tls : Bool) × (v ≡ explanation (is_of_version_5 f.registration) is_tls came)) → Comes d f v
+explained_comes d f came v kept why = explained_by d f.registration f.handshake came v kept why

@@ -1,6 +1,7 @@
 -- WHERE A VERDICT COMES FROM: a handshake that was spoken, or the way to it.
-use Rattle.std.specs.Prelude.{◌≡◌, ℕ, ◌+◌, ◌<◌, ◌⊎◌, ◌&&◌, Bool, true, false, List, length, Option, Some, None, Result, Ok, Err, if◌then◌else◌}
+use Rattle.std.specs.Prelude.{◌≡◌, ℕ, ◌+◌, ◌<◌, ◌⊎◌, ◌==◌, ◌&&◌, Bool, true, false, List, length, Option, Some, None, Result, Ok, Err, if◌then◌else◌}
 use Rattle.std.specs.{Borrow.Bor, List.slice_index_or}
+use Rattle.dist_epmd.specs.declared.message.NodeInfo.{NodeInfo}
 use Rattle.dist_messages.specs.declared.message.Side.{TheVariants.Dialler, TheVariants.Acceptor}
 use Rattle.dist_stream.specs.Stream.{StreamState}
 use Rattle.dist_talk.specs.{Ended.verdict_of, Speaking.Spoke, Terms.target_of, Words.status_of}
@@ -49,6 +50,11 @@ is_left_alone (verdict.Gone awaited.Status) = true
 is_left_alone (verdict.Reset awaited.Status) = true
 is_left_alone other = false
 
+-- a node is of version 5: its port mapper says that it speaks no higher version
+abbrev pub is_of_version_5 : Option NodeInfo → Bool
+is_of_version_5 None = false
+is_of_version_5 (Some info) = info.highest == 5
+
 -- the same verdict; of such a node one of version 5, by its registration, or one that speaks TLS, by a second connection
 abbrev pub explanation : Bool → Bool → HandshakeVerdict → HandshakeVerdict
 explanation is_old is_tls v =
@@ -62,13 +68,12 @@ pub record TalkComesTo (d : Dial) (h : Handshake) (v : HandshakeVerdict) : Type 
   pub spoken : IsSpoken own (turns_of d.choices) h
   pub is : v ≡ verdict_of own.terms h
 
--- the same, explanation
-pub record ComesOf (d : Dial) (h : Handshake) (v : HandshakeVerdict) : Type 0 where
+-- the same, explained: a second connection may have shown that the port speaks TLS
+pub record ComesOf (d : Dial) (registration : Option NodeInfo) (h : Handshake) (v : HandshakeVerdict) : Type 0 where
   pub came : HandshakeVerdict
   pub talk : TalkComesTo d h came
-  pub is_old : Bool
   pub is_tls : Bool
-  pub is : v ≡ explanation is_old is_tls came
+  pub is : v ≡ explanation (is_of_version_5 registration) is_tls came
 
 -- the same of a handshake that was kept
 abbrev pub TalkKept : Dial → Option Handshake → HandshakeVerdict → Type 0
@@ -89,31 +94,35 @@ is_way verdict.NoMemory = true
 is_way verdict.NoDescriptors = true
 is_way other = false
 
--- THE VERDICT OF A PROBE: that of the talk, or, if none was made, one of the way
-abbrev pub Comes : Dial → Option Handshake → HandshakeVerdict → Type 0
-Comes d None v = is_way v ≡ true
-Comes d (Some h) v = ComesOf d h v
+-- the verdict of the talk, or, if none was made, one of the way
+abbrev pub ComesBy : Dial → Option NodeInfo → Option Handshake → HandshakeVerdict → Type 0
+ComesBy d registration None v = is_way v ≡ true
+ComesBy d registration (Some h) v = ComesOf d registration h v
+
+-- THE VERDICT OF A PROBE: it comes of what was found out
+abbrev pub Comes : Dial → Found → HandshakeVerdict → Type 0
+Comes d found v = ComesBy d found.registration found.handshake v
 
 -- what stops a probe before the talk: one of these, or a fault of this side
 abbrev pub StopsOnWay : Stop → Type 0
 StopsOnWay (stop.Verdict v) = is_way v ≡ true
 StopsOnWay (stop.Fault fault) = Unit {0}
 
--- the verdict, or what stopped the probe, comes of what was said, if anything was
-abbrev pub OutcomeComes : Dial → Option Handshake → Result HandshakeVerdict Stop → Type 0
-OutcomeComes d h (Ok v) = Comes d h v
-OutcomeComes d h (Err (stop.Verdict v)) = Comes d h v
-OutcomeComes d h (Err (stop.Fault fault)) = Unit {0}
+-- the verdict, or what stopped the probe, comes of what was found out
+abbrev pub OutcomeComes : Dial → Found → Result HandshakeVerdict Stop → Type 0
+OutcomeComes d found (Ok v) = Comes d found v
+OutcomeComes d found (Err (stop.Verdict v)) = Comes d found v
+OutcomeComes d found (Err (stop.Fault fault)) = Unit {0}
 
 -- the same of each address that was tried
 abbrev pub AllCome : Dial → Tries → Type 0
 AllCome d all = (i : ℕ) (f : Found) (v : HandshakeVerdict) → i < length all.verdicts.items
-    → Comes d (let found = slice_index_or all.found.items i f in found.handshake) (slice_index_or all.verdicts.items i v)
+    → Comes d (slice_index_or all.found.items i f) (slice_index_or all.verdicts.items i v)
 
 -- some probe of this node came to the verdict
 pub record ComesTo (d : Dial) (v : HandshakeVerdict) : Type 0 where
-  pub handshake : Option Handshake
-  pub comes : Comes d handshake v
+  pub found : Found
+  pub comes : Comes d found v
 
 -- some probe of the node of this name, with this cookie, came to the verdict
 pub record ProbeComesTo (node : List ℕ) (cookie : Result (Bor (List ℕ)) NoCookie) (v : HandshakeVerdict) : Type 0 where

@@ -1,7 +1,8 @@
 //! Each pair of the nodes that were dialled is compared. Of more than two nodes, only the bad pairs are printed, and a summary.
 
-ghost use Rattle.std.specs.Prelude.{◌≡◌, ◌≢◌, ◌||◌, IfOk};
-ghost use Rattle.dist_cluster.specs.Pairs.{is_bad};
+ghost use Rattle.std.specs.Prelude.{◌≡◌, ◌||◌, IfOk};
+ghost use Rattle.dist_cluster.specs.{Pairs.is_bad, Pairs.pair_status, Pairs.pairing_of, Statuses.first_of};
+ghost use Rattle.distping.specs.Runs.{pairs_status, status_beside};
 
 use dist_cluster::{Half, Pairing, Summary, first_of, pairing_of};
 use distping_report::LineSink;
@@ -14,19 +15,51 @@ fn shows(all: bool, pairing: Pairing) -> bool
     all || pairing.is_bad()
 }
 
-// Prints what can be said of the pairs that are shown, and returns the first status of any pair that is not 0.
-fn put_pairs(lines: LineSink<'_>, all: bool, halves: &[Half<'_>]) -> Result<u8, Fault> {
-    let mut status = 0;
-    for at in 0..halves.len() {
-        for second in &halves[at + 1..] {
-            let pairing = pairing_of(&halves[at], second);
-            if shows(all, pairing) {
-                lines.put_pair(halves[at].node, second.node, pairing)?;
-            }
-            status = first_of(status, pairing.status());
+// Prints what can be said of two nodes, if it is shown, and returns its status.
+fn put_pair(
+    lines: LineSink<'_>,
+    all: bool,
+    first: &Half<'_>,
+    second: &Half<'_>,
+) -> Result<u8, Fault>
+    ensures { IfOk result (λ it. it ≡ pair_status (pairing_of first.now second.now)) }
+{
+    let pairing = pairing_of(first, second);
+    if shows(all, pairing) {
+        lines.put_pair(first.node, second.node, pairing)?;
+    }
+    Ok(pairing.status())
+}
+
+// Prints the pairs of a node and these that are shown, and returns the first status that is not 0.
+fn put_beside(
+    lines: LineSink<'_>,
+    all: bool,
+    first: &Half<'_>,
+    others: &[Half<'_>],
+) -> Result<u8, Fault>
+    ensures { IfOk result (λ it. it ≡ status_beside first.now others.now) }
+{
+    match others {
+        [] => Ok(0),
+        [second, others @ ..] => {
+            let status = put_pair(lines, all, first, second)?;
+            Ok(first_of(status, put_beside(lines, all, first, others)?))
         }
     }
-    Ok(status)
+}
+
+// The same of each two of these nodes.
+fn put_pairs(lines: LineSink<'_>, all: bool, halves: &[Half<'_>]) -> Result<u8, Fault>
+    ensures { IfOk result (λ it. it ≡ pairs_status halves.now) }
+{
+    match halves {
+        [] => Ok(0),
+        [first, others @ ..] => {
+            let status = put_beside(lines, all, first, others)?;
+            Ok(first_of(status, put_pairs(lines, all, others)?))
+        }
+    }
 }
 
 // Prints how many nodes have which verdict, and how many pairs which word.
@@ -42,7 +75,7 @@ pub fn compare(
     halves: &[Half<'_>],
     status: u8,
 ) -> Result<u8, Fault>
-    ensures first { IfOk result (λ it. status ≢ 0 → it ≡ status) }
+    ensures { IfOk result (λ it. it ≡ first_of status (pairs_status halves.now)) }
 {
     let are_many = halves.len() > 2;
     let status = first_of(status, put_pairs(lines, all_pairs || !are_many, halves)?);

@@ -15,8 +15,8 @@ mod reply;
 mod together;
 mod watching;
 
-ghost use Rattle.std.specs.Prelude.{IfOk};
-ghost use Rattle.distping.specs.Coming.{EndsWith};
+ghost use Rattle.std.specs.Prelude.{◌≡◌, IfOk, None};
+ghost use Rattle.distping.specs.{Coming.EndsWith, Runs.RunEndsWith};
 
 use common::Context;
 use comparing::compare;
@@ -230,13 +230,35 @@ fn check_nodes<R: Resolving + Sync>(context: &Context<'_, R>) -> Result<u8, Faul
     check_all(context, &nodes.names, status)
 }
 
+// Probes each of these nodes once, prints what can be said of each pair, and returns the exit status. `status` is that of the hosts that
+// were asked for nodes.
+#[tactic(auto, using(crate::proofs::Firsts::first_of_assoc))]
+fn probe_all<R: Resolving + Sync>(
+    context: &Context<'_, R>,
+    names: &[NodeName],
+    status: u8,
+) -> Result<u8, Fault>
+    ensures { IfOk result (RunEndsWith context.now.cookie names.now status) }
+{
+    let mut halves = Vec::new(context.rt.alloc());
+    let status = first_of(status, collect_halves(context, names, &mut halves)?);
+    compare(
+        context.screen(),
+        context.wanted.choices.all_pairs,
+        &halves,
+        status,
+    )
+}
+
 // Watches these nodes, or probes each once and prints what can be said of each pair. `status` is that of the hosts that were asked for
 // nodes.
 fn check_all<R: Resolving + Sync>(
     context: &Context<'_, R>,
     names: &[NodeName],
     status: u8,
-) -> Result<u8, Fault> {
+) -> Result<u8, Fault>
+    ensures once { context.now.wanted.now.choices.watch ≡ None → IfOk result (RunEndsWith context.now.cookie names.now status) }
+{
     let listed = &Listed::new(context.rt.alloc(), names)?;
     let context = &Context { listed, ..*context };
     let choices = &context.wanted.choices;
@@ -245,7 +267,5 @@ fn check_all<R: Resolving + Sync>(
     {
         return watch_all(context, names, rhythm);
     }
-    let mut halves = Vec::new(context.rt.alloc());
-    let status = first_of(status, collect_halves(context, names, &mut halves)?);
-    compare(context.screen(), choices.all_pairs, &halves, status)
+    probe_all(context, names, status)
 }

@@ -57,7 +57,20 @@ fn half_of<'n>(node: &'n NodeName, outcome: &ProbeOutcome) -> Half<'n>
     }
 }
 
-// Probes a node, prints the result, and returns what is kept of it.
+// Probes a node, and returns what is kept of it.
+fn dial_silently<'n>(
+    dial: &Dial<'_>,
+    addresses: Addresses,
+    node: &'n NodeName,
+) -> Result<Half<'n>, Fault>
+    ensures node { IfOk result (λ half. half.node.now ≡ node.now) }
+    ensures comes { IfOk result (λ half. ComesTo dial.now half.verdict) }
+{
+    let outcome = probe(dial, addresses)?;
+    Ok(half_of(node, &outcome))
+}
+
+// The same, and prints the result.
 fn dial_and_print<'n>(
     dial: &Dial<'_>,
     addresses: Addresses,
@@ -88,14 +101,15 @@ pub fn print_probe<'n, R: Resolving>(
     dial_and_print(&dial, context.addresses(node), node)
 }
 
-/// The verdict on a node, with no step printed.
-pub fn verdict_upon<R: Resolving>(
+/// Probes a node with no step printed, and returns what is kept of it.
+pub fn half_of_node<'n, R: Resolving>(
     context: &Context<'_, R>,
-    node: &NodeName,
-) -> Result<HandshakeVerdict, Fault>
-    ensures comes { IfOk result (ProbeComesTo node.now context.now.cookie) }
+    node: &'n NodeName,
+) -> Result<Half<'n>, Fault>
+    ensures node { IfOk result (λ half. half.node.now ≡ node.now) }
+    ensures comes { IfOk result (λ half. ProbeComesTo node.now context.now.cookie half.verdict) }
 {
     let own = own_name(context.rt.alloc(), context.wanted, node)?;
     let dial = context.make_dial(LineSink::on_screen(context.rt, true), &own, node);
-    Ok(probe(&dial, context.addresses(node))?.verdict)
+    dial_silently(&dial, context.addresses(node), node)
 }

@@ -8,7 +8,8 @@ ghost use Rattle.std.specs.Prelude.{◌≡◌, ◌++◌, ◌∷◌, [], ◌<◌,
 ghost use Rattle.std.specs.Result.{ForOk};
 ghost use Rattle.dist_cluster.specs.Statuses.{first_of};
 ghost use Rattle.dist_talk.specs.Words.{status_of};
-ghost use Rattle.distping.specs.Order.{first_status, names_in, names_of};
+ghost use Rattle.std.specs.List.{All};
+ghost use Rattle.distping.specs.{Order.first_status, Order.names_in, Order.names_of, Runs.HalfComes, Runs.ReplyComes};
 
 use crate::common::Context;
 use crate::grouping::split_group;
@@ -27,7 +28,8 @@ fn make_reply<'n, R: Resolving>(
     place: usize,
     node: &'n NodeName,
 ) -> DialReply<'n>
-    ensures { result.node.now ≡ node.now }
+    ensures node { result.node.now ≡ node.now }
+    ensures comes { ReplyComes context.now.cookie result }
 {
     let page = Page::new(context.rt.alloc());
     let screen = context.screen();
@@ -49,7 +51,8 @@ fn probe_group<'n, R: Resolving + Sync>(
     context: &Context<'_, R>,
     group: &'n [NodeName],
 ) -> Result<Vec<DialReply<'n>>, Fault>
-    ensures { IfOk result (λ replies. names_in replies.items ≡ group.now) }
+    ensures names { IfOk result (λ replies. names_in replies.items ≡ group.now) }
+    ensures come { IfOk result (λ replies. All (ReplyComes context.now.cookie) replies.items) }
 {
     let replies = map_indices(
         context.resolver,
@@ -57,7 +60,8 @@ fn probe_group<'n, R: Resolving + Sync>(
         group.len(),
         &|place: usize| -> DialReply<'_>
             requires { place < length group.now }
-            ensures { result.node.now ≡ slice_index_or group.entry.now place [] }
+            ensures node { result.node.now ≡ slice_index_or group.entry.now place [] }
+            ensures comes { ReplyComes context.entry.now.cookie result }
         { make_reply(context, place, &group[place]) },
     )?;
     Ok(replies)
@@ -72,6 +76,7 @@ fn take_reply<'n>(
 ) -> Result<u8, Fault>
     ensures names { OnOk result (names_of halves.new.items ≡ names_of halves.old.items ++ reply.entry.node.now ∷ []) }
     ensures half { OnOk result (ForOk reply.entry.half (λ half. halves.new.items ≡ halves.old.items ++ half ∷ [])) }
+    ensures come { OnOk result ((c : _) → All (HalfComes c) halves.old.items → ReplyComes c reply.entry → All (HalfComes c) halves.new.items) }
     ensures status { IfOk result (λ status. ForOk reply.entry.half (λ half. status ≡ status_of half.verdict)) }
     ensures first { IfOk result (λ status. first_status halves.new.items ≡ first_of (first_status halves.old.items) status) }
 {
@@ -92,6 +97,7 @@ fn take_replies<'n>(
     halves: &mut Vec<Half<'n>>,
 ) -> Result<u8, Fault>
     ensures names { OnOk result (names_of halves.new.items ≡ names_of halves.old.items ++ names_in replies.entry.items) }
+    ensures come { OnOk result ((c : _) → All (HalfComes c) halves.old.items → All (ReplyComes c) replies.entry.items → All (HalfComes c) halves.new.items) }
     ensures first { IfOk result (λ status. first_status halves.new.items ≡ first_of (first_status halves.old.items) status) }
 {
     let mut status = 0;
@@ -110,6 +116,7 @@ pub fn collect_halves<'n, R: Resolving + Sync>(
     halves: &mut Vec<Half<'n>>,
 ) -> Result<u8, Fault>
     ensures names { OnOk result (names_of halves.new.items ≡ names_of halves.old.items ++ nodes.now) }
+    ensures come { OnOk result (All (HalfComes context.now.cookie) halves.old.items → All (HalfComes context.now.cookie) halves.new.items) }
     // If there were no results before, the status is the first of these results' that is not 0.
     ensures first { IfOk result (λ status. first_status halves.new.items ≡ first_of (first_status halves.old.items) status) }
 {

@@ -1,10 +1,11 @@
 //! Probes all nodes again and again, several at once, and prints what changes, in their order.
 
 ghost use Rattle.std.specs.Prelude.{◌≡◌, ◌⊎◌, IfOk};
+ghost use Rattle.distping.specs.Runs.{HalfComes};
 
 use crate::common::Context;
 use crate::grouping::split_group;
-use crate::probing::verdict_upon;
+use crate::probing::half_of_node;
 use dist_cluster::{Latencies, Observation, Watch};
 use dist_names::{ByteString, NodeName};
 use dist_program::{Resolving, deadline_in};
@@ -57,13 +58,15 @@ fn new_course<'n>(alloc: Global, nodes: usize) -> Result<Course<'n>, AllocError>
 fn look_at<'n, R: Resolving>(
     context: &Context<'_, R>,
     node: &'n NodeName,
-) -> Result<Seen<'n>, Fault> {
+) -> Result<Seen<'n>, Fault>
+    ensures node { IfOk result (λ seen. seen.half.node.now ≡ node.now) }
+    ensures comes { IfOk result (λ seen. HalfComes context.now.cookie seen.half) }
+{
     let start = Instant::now(context.rt).ok().ok_or(Fault::NoTime)?;
-    let verdict = verdict_upon(context, node)?;
+    let half = half_of_node(context, node)?;
     let spent = start.elapsed(context.rt).ok().ok_or(Fault::NoTime)?;
     Ok(Seen {
-        node,
-        verdict,
+        half,
         latency: u64::try_from(spent.as_millis()).unwrap_or(u64::MAX),
         at: now_seconds(context.rt)?,
     })
@@ -78,7 +81,7 @@ impl<'n> Course<'n> {
         seen: &Seen<'n>,
     ) -> Result<(), Fault> {
         self.round.push(*seen)?;
-        if seen.verdict.status() == 0
+        if seen.half.verdict.status() == 0
             && let Some(latencies) = self.latencies.get_mut(target)
         {
             latencies.note(seen.latency)?;
@@ -86,7 +89,7 @@ impl<'n> Course<'n> {
         let change = self.watch.observe(Observation {
             target,
             at: seen.at,
-            verdict: verdict_text(lines.alloc, seen.verdict)?,
+            verdict: verdict_text(lines.alloc, seen.half.verdict)?,
         })?;
         let Some(change) = change else {
             return Ok(());
@@ -132,11 +135,12 @@ fn play_round<'n, R: Resolving + Sync>(
 // Writes what was observed in a round to the file of `--prometheus`, if there is one: to a file beside it, which then takes its place, so
 // that it is always whole.
 fn write_metrics<R: Resolving>(context: &Context<'_, R>, round: &[Seen<'_>]) -> Result<(), Fault> {
-    let Some(path) = context.wanted.choices.metrics else {
+    let choices = &context.wanted.choices;
+    let Some(path) = choices.metrics else {
         return Ok(());
     };
     let rt = context.rt;
-    let text = metrics_text(rt.alloc(), round)?;
+    let text = metrics_text(rt.alloc(), round, choices.all_pairs)?;
     let beside = format!(in rt.alloc(); "{path}.tmp")?;
     if fs::write(rt, beside.as_str(), text.as_bytes()).is_err()
         || fs::rename(rt, beside.as_str(), path).is_err()

@@ -140,8 +140,8 @@ abbrev pub change_layout : List ℕ → Seen → VerdictChange → List ℕ → 
 change_layout time seen change cause =
     headed (codes "change")
     (member (codes "time") (text (escapes_of time))
-    (member (codes "node") (text (escapes_of seen.node.now))
-    (member (codes "verdict") (text (verdict_word seen.verdict))
+    (member (codes "node") (text (escapes_of seen.half.node.now))
+    (member (codes "verdict") (text (verdict_word seen.half.verdict))
     (member (codes "cause") (text cause)
     (member (codes "before") (text_or_null (option_map (λ before. escapes_of (word_in_verdict before)) change.before))
     (member (codes "latency") (number seen.latency)

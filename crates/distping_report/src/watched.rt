@@ -3,17 +3,14 @@
 ghost use Rattle.std.specs.{Prelude.◌≡◌, List.position, List.position_or_len};
 ghost use Rattle.distping_report.specs.Watched.{is_colon, word_in_verdict};
 
-use dist_cluster::LatencySummary;
+use dist_cluster::{Half, LatencySummary};
 use dist_names::{ByteString, NodeName};
-use dist_talk::HandshakeVerdict;
 
 /// The result of a probe of a watched node.
 #[derive(Clone, Copy)]
 pub struct Seen<'a> {
-    /// The node.
-    pub node: &'a NodeName,
-    /// The verdict on it.
-    pub verdict: HandshakeVerdict,
+    /// The node, the verdict on it, and what else a pair of nodes is judged by.
+    pub half: Half<'a>,
     /// How long the probe took, in milliseconds.
     pub latency: u64,
     /// When the probe was done, in seconds since 1970.

@@ -5,104 +5,91 @@ ghost use Rattle.distping_words.specs.{Faults.fault_status, declared.fault.Fault
 
 use dist_cluster::WatchError;
 use std::alloc::{AllocError, AllocFailed};
-use std::io::ErrorKind;
-use std::{fmt, io};
+use std::io::{self, ErrorKind};
+use thiserror::Error;
 
 /// What ends the program before a verdict, beside the refusals with a text of their own. Its `Display` comes after `distping: ` on
 /// standard error.
-#[derive(Clone, Copy)]
+#[derive(Clone, Copy, Debug, Error)]
 pub enum Fault {
     /// No node is named.
+    #[error("bad command line: no NODE is named (distping --help)")]
     NoNode,
     /// Both `--cookie` and `--no-cookie` are given.
+    #[error("bad command line: --cookie and --no-cookie exclude each other (distping --help)")]
     TwoCookies,
     /// Both `--quiet` and `--verbose` are given.
+    #[error("bad command line: --quiet and --verbose exclude each other (distping --help)")]
     TwoDetails,
     /// A text that should be a node's name is not one.
+    #[error("a node's name has one @, something on both sides, and 3 to 255 bytes")]
     BadName,
     /// `--port`, `--address` or `--tls-through` is given with several nodes.
+    #[error("--port, --address and --tls-through go with one NODE alone")]
     OneNodeAlone,
     /// `--tls-through` is given with `--port`, `--address`, `--listen` or `--capture`.
+    #[error("--tls-through goes with one NODE, and not with --port, --address, --listen or --capture")]
     TunnelAlone,
     /// The file of names could not be opened.
+    #[error("OpenFailed: the file of --nodes")]
     RosterClosed,
     /// The file of names could not be read.
+    #[error("ReadFailed: the file of --nodes")]
     RosterUnread,
     /// The file of names is too long.
+    #[error("TooLong: the file of --nodes has more than 1048576 bytes")]
     RosterTooLong,
     /// There are more nodes than are dialled in one run.
+    #[error("more than 1024 nodes are named")]
     TooManyNodes,
     /// `--count` is given without `--watch`.
+    #[error("--count goes with --watch")]
     CountAlone,
     /// `--prometheus` is given without `--watch`.
+    #[error("--prometheus goes with --watch")]
     MetricsAlone,
     /// The file of `--prometheus` could not be written.
+    #[error("WriteFailed: the file of --prometheus")]
     MetricsFailed,
     /// The system gave no time.
+    #[error("ReadFailed: the system's clock")]
     NoTime,
     /// The program can't listen at the port, or take a connection, for this cause.
+    #[error("ListenFailed: {0}")]
     ListenFailed(ErrorKind),
     /// The host of `--address` has no address to listen at.
+    #[error("ListenFailed: the host of --address has no address")]
     NoListenAddress,
     /// `--listen` needs a name to listen as, and takes no nodes.
+    #[error("--listen goes with --name, and with no NODE")]
     ListenAlone,
     /// `--capture` takes no nodes, and goes with no other way to find nodes.
+    #[error("--capture goes with no NODE, and not with --listen or --watch")]
     CaptureAlone,
     /// The capture could not be opened.
+    #[error("OpenFailed: the file of --capture")]
     CaptureClosed,
     /// The capture is no file that stands on a disk.
+    #[error("NotStored: --capture takes a file, or - for standard input, and no pipe or device")]
     CaptureNotStored,
     /// The capture could not be read.
+    #[error("ReadFailed: the file of --capture")]
     CaptureUnread,
     /// The file is no capture, or one whose form is not known.
+    #[error("Malformed: the file of --capture is no pcap and no pcapng")]
     NoCapture,
     /// Nobody reads the output any more.
+    #[error("OutputClosed")]
     OutputClosed,
     /// The output could not be written.
+    #[error("WriteFailed")]
     WriteFailed,
     /// The system gave no random bytes.
+    #[error("ReadFailed: no random bytes")]
     NoRandomBytes,
     /// No memory was left.
+    #[error("NoMemory")]
     NoMemory,
-}
-
-impl fmt::Display for Fault {
-    fn fmt<W: fmt::Write>(&self, f: &mut fmt::Formatter<W>) -> fmt::Result {
-        let text = match self {
-            Fault::ListenFailed(kind) => return write!(f, "ListenFailed: {kind}"),
-            Fault::NoNode => "bad command line: no NODE is named (distping --help)",
-            Fault::TwoCookies =>
-                "bad command line: --cookie and --no-cookie exclude each other (distping --help)",
-            Fault::TwoDetails =>
-                "bad command line: --quiet and --verbose exclude each other (distping --help)",
-            Fault::BadName =>
-                "a node's name has one @, something on both sides, and 3 to 255 bytes",
-            Fault::OneNodeAlone => "--port, --address and --tls-through go with one NODE alone",
-            Fault::TunnelAlone =>
-                "--tls-through goes with one NODE, and not with --port, --address, --listen or --capture",
-            Fault::CountAlone => "--count goes with --watch",
-            Fault::MetricsAlone => "--prometheus goes with --watch",
-            Fault::MetricsFailed => "WriteFailed: the file of --prometheus",
-            Fault::NoTime => "ReadFailed: the system's clock",
-            Fault::RosterClosed => "OpenFailed: the file of --nodes",
-            Fault::RosterUnread => "ReadFailed: the file of --nodes",
-            Fault::RosterTooLong => "TooLong: the file of --nodes has more than 1048576 bytes",
-            Fault::TooManyNodes => "more than 1024 nodes are named",
-            Fault::NoListenAddress => "ListenFailed: the host of --address has no address",
-            Fault::ListenAlone => "--listen goes with --name, and with no NODE",
-            Fault::CaptureAlone => "--capture goes with no NODE, and not with --listen or --watch",
-            Fault::CaptureClosed => "OpenFailed: the file of --capture",
-            Fault::CaptureNotStored =>
-                "NotStored: --capture takes a file, or - for standard input, and no pipe or device",
-            Fault::CaptureUnread => "ReadFailed: the file of --capture",
-            Fault::NoCapture => "Malformed: the file of --capture is no pcap and no pcapng",
-            Fault::OutputClosed => "OutputClosed",
-            Fault::WriteFailed => "WriteFailed",
-            Fault::NoRandomBytes => "ReadFailed: no random bytes",
-            Fault::NoMemory => "NoMemory",
-        };
-        f.write_str(text)
-    }
 }
 
 impl From<io::Error> for Fault {

@@ -1,9 +1,8 @@
 //! The addresses of a host, one after the other: until a node is found at one, or to ask the port mapper at each. Each step is printed.
 
-ghost use Rattle.std.specs.Prelude.{◌≡◌, Option, is_some, IfErr, IfOk, IsErrAnd, OnOk};
-ghost use Rattle.dist_talk.specs.declared.handshake.Handshake.{Handshake};
-ghost use Rattle.distping.specs.{Coming.AllCome, Coming.Comes, Coming.OutcomeComes, Places.host_verdict};
-ghost use Rattle.distping_report.specs.declared.asked.Dial.{Dial};
+ghost use Rattle.std.specs.Prelude.{◌≡◌, ◌++◌, ◌∷◌, [], is_some, IfErr, IfOk, IsErrAnd, length, OnOk};
+ghost use Rattle.distping.specs.{Coming.AllCome, Coming.Comes, Coming.OutcomeComes, Places.host_verdict, Trying.AreTried};
+ghost use Rattle.distping_report.specs.declared.{asked.Dial.Dial, found.Found.Found};
 
 use crate::links::attempt::{AddressAttempt, Stop};
 use crate::links::mapper::Names;
@@ -21,7 +20,7 @@ pub type Census = Result<Names, ProbeOutcome>;
 
 // The verdict of an attempt, of the talk or of the way to it.
 fn verdict_in(outcome: Result<HandshakeVerdict, Stop>) -> Result<HandshakeVerdict, Fault>
-    ensures { IfOk result (λ v. (d : Dial) (h : Option Handshake) → OutcomeComes d h outcome → Comes d h v) }
+    ensures { IfOk result (λ v. (d : Dial) (f : Found) → OutcomeComes d f outcome → Comes d f v) }
 {
     match outcome {
         Ok(verdict) | Err(Stop::Verdict(verdict)) => Ok(verdict),
@@ -29,19 +28,35 @@ fn verdict_in(outcome: Result<HandshakeVerdict, Stop>) -> Result<HandshakeVerdic
     }
 }
 
-// Tries each address, until the node is found at one.
-fn find_node(dial: &Dial<'_>, addresses: &[SocketAddr], all: &mut Tries) -> Result<(), Fault>
-    ensures { OnOk result (AllCome dial.now all.old → AllCome dial.now all.new) }
+// Tries the next one of these addresses.
+fn try_address(
+    dial: &Dial<'_>,
+    address: &SocketAddr,
+    addresses: &[SocketAddr],
+    all: &mut Tries,
+) -> Result<HandshakeVerdict, Fault>
+    ensures comes { OnOk result (AllCome dial.now all.old → AllCome dial.now all.new) }
+    ensures verdict { IfOk result (λ v. all.new.verdicts.items ≡ all.old.verdicts.items ++ v ∷ []) }
 {
+    let mut attempt = AddressAttempt::begin(dial, address, addresses, all.budget)?;
+    let verdict = verdict_in(attempt.probe_node())?;
+    all.push(attempt, verdict)?;
+    Ok(verdict)
+}
+
+// Tries each address, until the node is found at one.
+#[tactic(auto, using(crate::proofs::Trying::none_come))]
+fn find_node(dial: &Dial<'_>, addresses: &[SocketAddr]) -> Result<Tries, Fault>
+    ensures comes { IfOk result (λ all. AllCome dial.now all) }
+    ensures tried { IfOk result (λ all. AreTried (length addresses.now) all.verdicts.items) }
+{
+    let mut all = Tries::nothing(dial, addresses);
     for address in addresses {
-        let mut attempt = AddressAttempt::begin(dial, address, addresses, all.budget)?;
-        let verdict = verdict_in(attempt.probe_node())?;
-        all.push(attempt, verdict)?;
-        if is_found(verdict) {
-            break;
+        if is_found(try_address(dial, address, addresses, &mut all)?) {
+            return Ok(all);
         }
     }
-    Ok(())
+    Ok(all)
 }
 
 // These names, and those of one more port mapper.
@@ -79,8 +94,10 @@ fn find_names(
 /// Dials the node at the addresses of its host, prints each step, and returns the result.
 pub fn probe(dial: &Dial<'_>, addresses: Addresses) -> Result<ProbeOutcome, Fault>
     // The verdict is that of what was said, or of the way.
-    ensures comes { IfOk result (λ it. Comes dial.now it.found.handshake it.verdict) }
+    ensures comes { IfOk result (λ it. Comes dial.now it.found it.verdict) }
     ensures found { IfOk addresses (λ all. IfOk result (λ it. it.addresses ≡ all)) }
+    // Each address is tried in its order, until the node is found at one.
+    ensures tried { IfOk addresses (λ all. IfOk result (λ it. AreTried (length all.items) it.verdicts.items)) }
     ensures no_host { IfErr addresses (λ error. IfOk result (λ it. it.verdict ≡ host_verdict (is_some dial.now.choices.address) error)) }
 {
     dial.lines.put_styles(dial.own, dial.node)?;
@@ -88,8 +105,7 @@ pub fn probe(dial: &Dial<'_>, addresses: Addresses) -> Result<ProbeOutcome, Faul
         Ok(addresses) => addresses,
         Err(error) => return Ok(no_host(dial.lines.alloc, &dial.choices, error)),
     };
-    let mut all = Tries::nothing(dial, &addresses);
-    find_node(dial, &addresses, &mut all)?;
+    let all = find_node(dial, &addresses)?;
     Ok(all.into_outcome(addresses))
 }
 

@@ -3,7 +3,7 @@
 ghost use Rattle.std.specs.Prelude.{◌≡◌, Bool, IfErr, IfOk, None, Some};
 ghost use Rattle.dist_talk.specs.Terms.{target_of};
 ghost use Rattle.dist_talk.specs.declared.terms.Viewpoint.TheVariants as viewpoint;
-ghost use Rattle.distping.specs.Coming.{Comes, OutcomeComes, StopsOnWay, TalkKept, explanation, is_left_alone};
+ghost use Rattle.distping.specs.Coming.{Comes, OutcomeComes, StopsOnWay, TalkKept, explanation, is_left_alone, is_of_version_5};
 
 use crate::links::attempt::{AddressAttempt, ProbeStream, Stop};
 use crate::links::own_setup::{draw_challenge, setup_of};
@@ -121,16 +121,18 @@ impl<'a> AddressAttempt<'a> {
     }
 
     // Whether the port mapper says that the node speaks no version above 5.
-    fn is_of_version_5(&self) -> bool {
-        self.found
-            .registration
-            .as_ref()
-            .is_some_and(|info| info.highest == 5)
+    fn is_of_version_5(&self) -> bool
+        ensures { result ≡ is_of_version_5 self.now.found.registration }
+    {
+        match &self.found.registration {
+            Some(info) => info.highest == 5,
+            None => false,
+        }
     }
 
     // The verdict, where the node may have ended the connection since it speaks another version, or TLS.
     fn explanation(&self, verdict: HandshakeVerdict, port: u16, until: Instant) -> HandshakeVerdict
-        ensures { (is_old is_tls : Bool) × (result ≡ explanation is_old is_tls verdict) }
+        ensures { (is_tls : Bool) × (result ≡ explanation (is_of_version_5 self.now.found.registration) is_tls verdict) }
     {
         if !is_left_alone(verdict) {
             verdict
@@ -160,7 +162,7 @@ impl<'a> AddressAttempt<'a> {
         port: u16,
         stream: ProbeStream<'_>,
     ) -> Result<HandshakeVerdict, Fault>
-        ensures comes { IfOk result (Comes self.old.dial self.new.found.handshake) }
+        ensures comes { IfOk result (Comes self.old.dial self.new.found) }
     {
         let until = stream.deadline();
         let verdict = self.talk(stream)?;
@@ -173,7 +175,7 @@ impl<'a> AddressAttempt<'a> {
     pub(crate) fn probe_node(&mut self) -> Result<HandshakeVerdict, Stop>
         // `begin` returned the attempt.
         requires { self.old.found.handshake ≡ None }
-        ensures comes { OutcomeComes self.old.dial self.new.found.handshake result }
+        ensures comes { OutcomeComes self.old.dial self.new.found result }
     {
         let (port, stream) = self.reach_node()?;
         Ok(self.talk_and_print(port, stream)?)

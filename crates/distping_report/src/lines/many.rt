@@ -139,7 +139,7 @@ impl LineSink<'_> {
             Some(before) => verdict_word_in(before),
             None => b"",
         };
-        self.put_watched(&time, seen.node, seen.verdict, before)
+        self.put_watched(&time, seen.half.node, seen.half.verdict, before)
     }
 
     // Prints the line of how long a node's answers took.

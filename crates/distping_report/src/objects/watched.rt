@@ -33,9 +33,9 @@ fn object_of_change<'x>(
         ("type", Value::Text("change")),
         ("form", FORM),
         ("time", Value::Name(time.as_bytes())),
-        ("node", Value::Name(seen.node.bytes())),
-        ("verdict", Value::Text(seen.verdict.name())),
-        ("cause", Value::Text(seen.verdict.cause())),
+        ("node", Value::Name(seen.half.node.bytes())),
+        ("verdict", Value::Text(seen.half.verdict.name())),
+        ("cause", Value::Text(seen.half.verdict.cause())),
         ("before", before_or_null(change)),
         ("latency", Value::Number(seen.latency)),
     ];

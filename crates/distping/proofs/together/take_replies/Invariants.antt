@@ -1,9 +1,11 @@
 -- What is left is what was there before, and one of each node whose reply was taken.
 use Rattle.std.proofs.Common.{◌≡◌, ◌++◌}
+use Rattle.std.specs.List.{All}
 use Rattle.dist_cluster.specs.Statuses.{first_of}
-use Rattle.distping.specs.Order.{first_status, names_in, names_of}
+use Rattle.distping.specs.{Order.first_status, Order.names_in, Order.names_of, Runs.HalfComes, Runs.ReplyComes}
 use Rattle.distping.proofs.together.take_replies.Given as goal
 
 abbrev pub invariant-loop-reply : goal.invariant-loop-reply
 invariant-loop-reply l = (names_of l.halves.items ≡ names_of l.initial.halves.items ++ names_in l.yielded)
     × (first_status l.halves.items ≡ first_of (first_status l.initial.halves.items) l.status)
+    × ((c : _) → All (HalfComes c) l.initial.halves.items → All (ReplyComes c) l.yielded → All (HalfComes c) l.halves.items)

@@ -1,18 +1,18 @@
-use Rattle.std.proofs.Common.{subst}
-use Rattle.distping.specs.Coming.{OutcomeComes}
-use Rattle.distping.proofs.Trying.{push_comes}
+-- One address more.
+use Rattle.std.proofs.Common.{◌∙◌, ◌++◌, ◌∷◌, [], arith, ap, length, subst, sym}
+use Rattle.std.proofs.lemmas.List.{Elements.All-push, length-append}
+use Rattle.std.specs.List.{All}
+use Rattle.distping.specs.Trying.{IsMissed}
 use Rattle.distping.proofs.links.probing.find_node.Goals as goal
 
 pub loop-address-preserved : goal.loop-address-preserved
-loop-address-preserved c = λ before.
-    let found = (let attempt = c.probe_node.new.self in attempt.found) in
-    let came = subst (λ d. OutcomeComes d found.handshake c.probe_node.result) c.in_ok-attempt.ensures.dial c.probe_node.ensures.comes in
-    push_comes c.args.dial.now c.loop-address.all c.push.new.self found c.in_ok-verdict.verdict c.loop-address.all.paired c.in_ok-push.ensures.found
-    c.in_ok-push.ensures.verdict (c.in_ok-verdict.ensures c.args.dial.now found.handshake came) (c.loop-address.invariant before)
-
-pub returns-then-is_found : goal.returns-then-is_found
-returns-then-is_found c = λ before.
-    let found = (let attempt = c.probe_node.new.self in attempt.found) in
-    let came = subst (λ d. OutcomeComes d found.handshake c.probe_node.result) c.in_ok-attempt.ensures.dial c.probe_node.ensures.comes in
-    push_comes c.args.dial.now c.loop-address.all c.push.new.self found c.in_ok-verdict.verdict c.loop-address.all.paired c.in_ok-push.ensures.found
-    c.in_ok-push.ensures.verdict (c.in_ok-verdict.ensures c.args.dial.now found.handshake came) (c.loop-address.invariant before)
+loop-address-preserved c =
+    let before = c.loop-address.all.verdicts.items in
+    let verdict = c.in_ok-try_address.field-0 in
+    let more = c.in_ok-try_address.ensures.verdict in
+    let longer = ap length more ∙ length-append before (verdict ∷ []) in
+    let many = c.loop-address.invariant.2 in (
+      c.in_ok-try_address.ensures.comes c.loop-address.invariant.0,
+      subst (All IsMissed) (sym more) (All-push IsMissed before verdict c.loop-address.invariant.1 (sym c.if-is_found.ensures)),
+      omega (arith, longer, many),
+    )
