@@ -40,6 +40,7 @@ FAULTS = {
     "creation0": "says creation 0",
     # Flags
     "anyflags": "requires no flag",
+    "lingers": "requires no flag, and is busy with a peer for 0.15 seconds after that has left",
     "nomap": "does not require MAP_TAG",
     "strictflags": "refuses flags that it does not know",
     "announces": "announces NAME_ME, and neither NEW_FLOATS nor V4_NC",
@@ -237,7 +238,7 @@ def kept(name):
 
 def lacks(flags, is_old):
     """Whether a flag is missing."""
-    required = {"nomap": REQUIRED & ~MAP_TAG, "anyflags": 0}.get(FAULT, REQUIRED)
+    required = {"nomap": REQUIRED & ~MAP_TAG, "anyflags": 0, "lingers": 0}.get(FAULT, REQUIRED)
     return required & (0xFFFFFFFF if is_old else ~0) & ~flags or FAULT == "strictflags" and flags & ~ANNOUNCED
 
 
@@ -310,7 +311,7 @@ def status_of(name, it):
             if FAULT != "dropsboth":
                 peer["came"] = it
             return b"ok_simultaneous"
-        if FAULT == "remembers" and peer:
+        if FAULT in ("remembers", "lingers") and peer:
             return b"nok"
         end(peer.get("came"))
         peer["came"] = it
@@ -327,6 +328,7 @@ def come_up(name, it):
 
 
 def leave(name, it):
+    time.sleep(0.15 if FAULT == "lingers" else 0)
     with LOCK:
         peer = PEERS.get(name, {})
         if FAULT == "endsboth" and peer.get("up") is it:

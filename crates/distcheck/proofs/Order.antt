@@ -2,7 +2,7 @@
 use Rattle.std.proofs.Common.{◌≡◌, ℕ, Bool, true, false, if◌then◌else◌, zero, suc, ◌+◌, ◌-◌, ◌<◌, ◌≤◌, List, [], ◌∷◌, ◌++◌, length, get_or, map}
 use Rattle.std.proofs.Common.{refl, sym, ap, ◌∙◌, zero-add, add-zero, add-one, arith}
 use Rattle.std.specs.Prelude.{IsPermutation}
-use Rattle.std.specs.{List.All, List.range_with_len, List.sum_by, List.Sorted.IsNonDecreasingBy}
+use Rattle.std.specs.{List.range_with_len, List.sum_by, List.Sorted.IsNonDecreasingBy}
 use Rattle.std.proofs.lemmas.List.{same_lists, get_or-map, get_or_default, length_push, map_push}
 use Rattle.std.proofs.lemmas.Simd.{map-map}
 use Rattle.std.proofs.lemmas.List.FromFn.{get_or-range_with_len}

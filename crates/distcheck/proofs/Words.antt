@@ -1,6 +1,6 @@
 -- The words of a text, and what number one writes.
-use Rattle.std.proofs.Common.{◌≡◌, ◌∙◌, ℕ, zero, suc, ◌+◌, ◌-◌, ◌<◌, ◌≤◌, true, false, List, [], ◌∷◌, length, get_or, take, drop, refl, ap, add-one, arith}
-use Rattle.std.specs.Prelude.{◌==◌, Bool, ◌&&◌, if◌then◌else◌}
+use Rattle.std.proofs.Common.{◌≡◌, ◌∙◌, ℕ, zero, suc, ◌+◌, ◌-◌, ◌<◌, true, false, List, [], ◌∷◌, length, get_or, take, drop, refl, ap, add-one, arith}
+use Rattle.std.specs.Prelude.{◌==◌, Bool, ◌&&◌}
 use Rattle.std.proofs.lemmas.{List.take_rest, Bool.cond-true, Bool.cond-false, Bool.eqb-true}
 use Rattle.dist_conformance.specs.Texts.{parts_of, before_first}
 

@@ -54,7 +54,7 @@ pub struct Setting<'a> {
 }
 
 impl Setting<'_> {
-    /// How long after the first try of a talk the second begins. A tunnel takes a while to end a connection.
+    /// How long after one try of a talk the next begins: the node may still hold its name. A tunnel takes a while to end a connection.
     pub fn breath(&self) -> Duration {
         Duration::from_millis(if self.is_tunnelled { 2000 } else { 400 })
     }

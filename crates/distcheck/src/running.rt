@@ -132,9 +132,11 @@ impl<'a> TalkCrew<'a> {
         Ok(one)
     }
 
+    // Plays a talk again. The node may still be busy with who said the talk's name before.
     fn play_again(&self, played: PlayedTalk<'a>) -> Result<PlayedTalk<'a>, Fault>
         ensures { IfOk result (λ it. it.queued ≡ played.entry.queued) }
     {
+        sleep(self.setting.rt, self.setting.breath());
         let one = self.play_once(&played.queued)?;
         Ok(played.with(one)?)
     }
@@ -147,7 +149,6 @@ impl<'a> TalkCrew<'a> {
         if is_gone || !is_bad(played.last_verdict()) || !self.partner(&played.queued).is_heard() {
             return Ok(played);
         }
-        sleep(self.setting.rt, self.setting.breath());
         self.play_again(played)
     }
 
