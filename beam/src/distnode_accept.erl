@@ -52,7 +52,7 @@ ask_again(Transport, Kernel, Socket, #{id := Id} = Info, Own, Timer) ->
 %% A peer that asks to be given a name (DFLAG_NAME_ME, as erl -remsh does): net_kernel alone gives names, so this handshake is
 %% OTP's own, beside the node. Nobody can dial such a peer, so none of its connections crosses another.
 nameless(Transport, Kernel, Socket, Body, MyNode, Allowed, SetupTime) ->
-    ok = Transport:setopts(Socket, [list, {active, false}, {nopush, false}]),
+    ok = Transport:setopts(Socket, [list, {active, false}]),
     self() ! {distnode, {first, binary_to_list(Body)}},
     dist_util:handshake_other_started(
       (distnode_carrier:hs_data(Transport, Socket))#hs_data{

@@ -102,7 +102,7 @@ want(#{peer := Peer} = Access, Setup, L) ->
 dialled(Peer, Id, L) ->
     case want_of(Peer, L) of
         #want{setup = Setup} = Want ->
-            L1 = put_want(Peer, Want#want{how = {dialling, Id}}, L),
+            L1 = change_want(Peer, Want#want{how = {dialling, Id}}, L),
             {ok, [{send, Setup, {dial, Id}}], put_link(Id, #link{owner = Setup, peer = Peer}, L1)};
         none -> {ok, [{lose, Id, Peer, gave_up}], L}
     end.
@@ -112,7 +112,7 @@ dialled(Peer, Id, L) ->
 busy(Peer, Up, L) ->
     case want_of(Peer, L) of
         none -> {ok, [], L};
-        Want -> {ok, [{kill, owner(Up, L)} || stage(Up, L) =:= up], put_want(Peer, Want#want{how = waiting}, L)}
+        Want -> {ok, [{kill, owner(Up, L)} || stage(Up, L) =:= up], change_want(Peer, Want#want{how = waiting}, L)}
     end.
 
 refused(Peer, Code, L) ->
@@ -245,6 +245,9 @@ holdings(Pid, #links{held = Held}) -> maps:get(Pid, Held, []).
 
 %% Of an end whose owner and giver stay.
 change(Id, Link, #links{ends = Ends} = L) -> L#links{ends = Ends#{Id := Link}}.
+
+%% Of a want whose setup stays.
+change_want(Peer, Want, #links{wants = Wants} = L) -> L#links{wants = Wants#{Peer := Want}}.
 
 put_link(Id, Link, L) ->
     #links{ends = Ends} = L1 = drop_link(Id, L),

@@ -20,12 +20,11 @@
     {refused, Peer :: binary() | none, Code :: atom()} |    % and so it is here
     {nameless, Frame :: binary()}.                          % here it is open
 
-%% The status and the challenge go out in one segment: what is said before the second frame is held back until all of it was said.
 %% Each frame has this many milliseconds. A connection gets an end of the node with its first frame.
 -spec accepted(module(), {Socket :: term(), Begun :: non_neg_integer()}, [term()], timeout()) -> outcome().
 accepted(Transport, {Socket, Begun}, Allowed, Wait) ->
     S = #shake{transport = Transport, socket = Socket, wait = Wait, begun = Begun},
-    case await(activate([binary, {packet, Transport:packet()}, distnode_address:nodelay(), {nopush, true}], S), S) of
+    case await(activate([binary, {packet, Transport:packet()}, distnode_address:nodelay()], S), S) of
         {frame, <<$N, Flags:64, _:32, Size:16, Host:Size/binary, _/binary>> = Body} when Flags band ?DFLAG_NAME_ME =/= 0 ->
             case Allowed =:= [] orelse is_certified(Host, S) of
                 true -> {nameless, Body};
@@ -53,9 +52,8 @@ arrived({error, Code}, _, S) -> taken({error, Code}, S).
 
 %% The timer is started, or has its whole time again, while the peer has the challenge.
 go_on(S0) ->
-    Activated = activate([{nopush, false}], S0),
     #shake{own_end = End} = S = with_timer(S0),
-    case await(Activated, S) of
+    case await(activate([], S), S) of
         {frame, Body} -> taken(distnode_core:early(Body, End), S);
         Closed -> Closed
     end.

@@ -199,18 +199,28 @@ reconnect(A, B, N) ->
     median(Times).
 
 %% net_kernel:connect_node, so many thousand times, beside OTP's own carrier: in turns of 20 each, and who is first changes. Nobody
-%% connects but by that call: what a node still sends to one that has just gone would dial it, too.
+%% connects but by that call: what a node still sends to one that has just gone would dial it, too. A pair's processor time is that of its
+%% two nodes, which do nothing while it is the other pair's turn.
 connect_times(Thousands) ->
     Quiet = ["-kernel", "dist_auto_connect", "never" | ?QUIET],
     with([{"a", ours, Quiet}, {"b", ours, Quiet}, {"o", otp, Quiet}, {"p", otp, Quiet}],
          fun([A, B, O, P]) ->
                  _ = turns({A, B}, {O, P}, 10),
-                 Seen = [turns({A, B}, {O, P}, 50) || _ <- lists:seq(1, Thousands)],
+                 {Seen, Spent} = lists:unzip([thousand({A, B}, {O, P}) || _ <- lists:seq(1, Thousands)]),
                  All = {lists:append([Ours || {Ours, _} <- Seen]), lists:append([Otp || {_, Otp} <- Seen])},
-                 io_lib:format("ours and OTP's own, in microseconds, and ours by OTP's~n~ts  all ~b: ~ts~n  least tenth ~ts~n  refused ~w",
+                 {Own, Others} = {lists:sum([X || {X, _} <- Spent]), lists:sum([Y || {_, Y} <- Spent])},
+                 io_lib:format("ours and OTP's own, in microseconds, and ours by OTP's~n~ts  all ~b: ~ts~n  least tenth ~ts~n  refused ~w~n"
+                               "  processor time of both nodes, in milliseconds: ~b ~b ~.3f",
                                [[["  median of 1000: ", beside(2, Pair), $\n] || Pair <- Seen], length(element(1, All)),
-                                beside(2, All), beside(10, All), [refused(Times) || Times <- tuple_to_list(All)]])
+                                beside(2, All), beside(10, All), [refused(Times) || Times <- tuple_to_list(All)], Own, Others, Own / Others])
          end).
+
+thousand(Ours, Otp) ->
+    {Before, BeforeOtp} = {processor(Ours), processor(Otp)},
+    Times = turns(Ours, Otp, 50),
+    {Times, {processor(Ours) - Before, processor(Otp) - BeforeOtp}}.
+
+processor({A, B}) -> lists:sum([element(1, c(X, erlang, statistics, [runtime])) || X <- [A, B]]).
 
 turns(Ours, Otp, N) -> turns(Ours, Otp, N, [], []).
 
