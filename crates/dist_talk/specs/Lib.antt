@@ -5,6 +5,7 @@ pub mod Styles
 pub mod Terms
 pub mod Handshake
 pub mod Opened
+pub mod Described
 pub mod Verdicts
 pub mod Standing
 pub mod Ended

@@ -1,5 +1,9 @@
 //! What a side says of itself.
 
+ghost use Rattle.std.specs.Prelude.{◌≡◌, Some, option_map};
+ghost use Rattle.dist_talk.specs.Described.{completed, description_in, description_of, first_description, view_of};
+ghost use Rattle.dist_talk.specs.Opened.{complement_behind};
+
 use crate::handshake::{Handshake, SentContent, SentMessage};
 use crate::opened::complement_behind;
 use dist_messages::{Message, Side};
@@ -17,7 +21,9 @@ pub struct NodeDescription<'a> {
 }
 
 // What a name or a challenge says of its sender.
-fn description_in(content: &SentContent) -> Option<NodeDescription<'_>> {
+fn description_in(content: &SentContent) -> Option<NodeDescription<'_>>
+    ensures { option_map view_of result ≡ description_in content.now }
+{
     match content {
         SentContent::Message(
             Message::OldName { flags, name } | Message::OldChallenge { flags, name, .. },
@@ -48,7 +54,9 @@ fn description_in(content: &SentContent) -> Option<NodeDescription<'_>> {
 }
 
 // The same node, with what its complement adds.
-fn with_complement<'a>(node: NodeDescription<'a>, behind: &[SentMessage]) -> NodeDescription<'a> {
+fn with_complement<'a>(node: NodeDescription<'a>, behind: &[SentMessage]) -> NodeDescription<'a>
+    ensures { view_of result ≡ completed (complement_behind behind.now) (view_of node.entry) }
+{
     match (node.creation, complement_behind(behind)) {
         (None, Some((high, creation))) => NodeDescription {
             name: node.name,
@@ -59,16 +67,25 @@ fn with_complement<'a>(node: NodeDescription<'a>, behind: &[SentMessage]) -> Nod
     }
 }
 
+// What the first name or challenge of these messages says.
+fn first_description(said: &[SentMessage]) -> Option<NodeDescription<'_>>
+    ensures { option_map view_of result ≡ first_description said.now }
+{
+    let [sent, behind @ ..] = said else {
+        return None;
+    };
+    match description_in(&sent.content) {
+        Some(node) => Some(with_complement(node, behind)),
+        None => first_description(behind),
+    }
+}
+
 impl Handshake {
     /// What a side says of itself, by its first name or challenge.
-    pub fn description_of(&self, side: Side) -> Option<NodeDescription<'_>> {
-        let said = self.messages_of(side);
-        for (at, sent) in said.iter().enumerate() {
-            if let Some(node) = description_in(&sent.content) {
-                return Some(with_complement(node, said.get(at + 1..).unwrap_or(&[])));
-            }
-        }
-        None
+    pub fn description_of(&self, side: Side) -> Option<NodeDescription<'_>>
+        ensures { option_map view_of result ≡ description_of side self.now }
+    {
+        first_description(self.messages_of(side))
     }
 
     /// The name that a side says; empty if it says none.

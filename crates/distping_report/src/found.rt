@@ -1,7 +1,8 @@
 //! What was found out about a node.
 
-ghost use Rattle.std.specs.Prelude.{◌≡◌, None};
-ghost use Rattle.distping_report.specs.Found.{status_in};
+ghost use Rattle.std.specs.Prelude.{◌≡◌, None, option_map};
+ghost use Rattle.dist_talk.specs.Described.{view_of};
+ghost use Rattle.distping_report.specs.Found.{described_in, status_in};
 
 use dist_epmd::PortInfo;
 use dist_messages::{Message, Side, Status};
@@ -46,7 +47,9 @@ impl Found {
     }
 
     /// What the node says of itself.
-    pub fn peer(&self) -> Option<NodeDescription<'_>> {
+    pub fn peer(&self) -> Option<NodeDescription<'_>>
+        ensures { option_map view_of result ≡ described_in Side.Acceptor self.now.handshake }
+    {
         self.handshake.as_ref()?.description_of(Side::Acceptor)
     }
 }
@@ -85,7 +88,9 @@ impl Caller {
     }
 
     /// What the node that dialled says of itself.
-    pub fn peer(&self) -> Option<NodeDescription<'_>> {
+    pub fn peer(&self) -> Option<NodeDescription<'_>>
+        ensures { option_map view_of result ≡ described_in Side.Dialler self.now.handshake }
+    {
         self.handshake.as_ref()?.description_of(Side::Dialler)
     }
 }
