@@ -1,12 +1,17 @@
 -- What a register stands for.
-use Rattle.std.proofs.Common.{◌≡◌, inl, inr, ℕ, ◌<◌, Bool, true, false, cond, eqb, List, [], ◌∷◌, ◌++◌, length, get_or, Option, Some, None, is_some, refl, sym, ap, subst, ◌∙◌, arith, append_assoc, append-nil, take, drop, drop_of_length-le}
+use Rattle.std.proofs.Common.{◌≡◌, inl, inr, ℕ, ◌<◌, Bool, true, false, cond, eqb, List, [], ◌∷◌, ◌++◌, length, get_or, Option, Some, None, is_some, IsSome, Result, Ok, Err, OnOk, refl, sym, ap, subst, ◌∙◌, arith, append_assoc, append-nil, take, drop, drop_of_length-le}
 use Rattle.std.proofs.lemmas.List.{take_all}
 use Rattle.std.proofs.lemmas.Bool.{false≢true}
 use Rattle.std.specs.List.{remove}
 use Rattle.dist_talk.specs.{Words.status_of, declared.terms.Terms.Terms, declared.verdict.HandshakeVerdict.HandshakeVerdict}
-use Rattle.distping_capture.specs.{Attempts.verdict_on, Crossings.Meets}
-use Rattle.distping_capture.specs.Exits.{Adds, Counts, EndsWith, GoesOnCounting, History, IsExit, IsJudged, NextAttempt, NoAttempt, Notes, NotesBy, NotesOnce, SameAttempts, StandsFor, exit_of, first_exit}
-use Rattle.distping_capture.specs.declared.{dials.PastDial.PastDial, register.Register.Register, traffic.Traffic.Traffic}
+use Rattle.dist_capture.specs.declared.segment.{Endpoint.Endpoint, Segment.Segment}
+use Rattle.distping_capture.specs.{Attempts.verdict_on, Captures.CountsTo, Carried.IsShown, Crossings.Meets, Flows.IsGone, Flows.IsUnbegun}
+use Rattle.distping_capture.specs.Connections.{AreEnds, Follows, Holds, Judges, SameConnection, SameEnds, SaysNoMore, Tells, nothing_sent}
+use Rattle.distping_capture.specs.Exits.{Adds, Counts, GoesOnCounting, GoesOnWatching, History, IsExit, IsJudged, NextAttempt, NoAttempt, Notes, NotesBy, NotesOnce, SameAttempts, StandsFor, TakesOn, Watches, exit_of, first_exit}
+use Rattle.distping_capture.specs.declared.{connection.CapturedConnection.CapturedConnection, dials.PastDial.PastDial, register.Register.Register}
+use Rattle.distping_capture.specs.declared.traffic.Traffic.{Traffic}
+use Rattle.distping_capture.specs.declared.traffic.Traffic.TheVariants as traffic
+use Rattle.distping_capture.proofs.Watching.{shown_more, shown_no_more, shown_of, shown_stays, stands_follows, stands_forgotten, stands_judged, stands_new, stands_settled}
 
 -- ---- the first status
 
@@ -90,9 +95,10 @@ same_then r s u p q = record {
   found = λ e. p.found (q.found e);
 }
 
-pub notes_then : (v : HandshakeVerdict) (r s u : Register) → Notes v r s → SameAttempts s u → Notes v r u
-notes_then v r s u p q = record {
+pub notes_then : (c : CapturedConnection) (v : HandshakeVerdict) (r s u : Register) → Notes c v r s → SameAttempts s u → Notes c v r u
+notes_then c v r s u p q = record {
   attempt = p.attempt;
+  between = p.between;
   verdict = p.verdict;
   exit = p.exit;
   adds = record {
@@ -104,9 +110,15 @@ notes_then v r s u p q = record {
   };
 }
 
-pub noted : (v : HandshakeVerdict) (attempt : PastDial) (r s u : Register) → SameAttempts r s → attempt.verdict ≡ v → attempt.exit ≡ status_of v → Adds attempt s u → Notes v r u
-noted v attempt r s u same verdict exit q = record {
+-- between the two ports of a connection
+abbrev pub IsBetween : CapturedConnection → PastDial → Type 0
+IsBetween c attempt = (attempt.dialler ≡ c.dialler) × (attempt.acceptor ≡ c.acceptor)
+
+pub noted : (c : CapturedConnection) (v : HandshakeVerdict) (attempt : PastDial) (r s u : Register) → SameAttempts r s → IsBetween c attempt → attempt.verdict ≡ v → attempt.exit ≡ status_of v
+    → Adds attempt s u → Notes c v r u
+noted c v attempt r s u same between verdict exit q = record {
   attempt = attempt;
+  between = between;
   verdict = verdict;
   exit = exit;
   adds = record {
@@ -118,71 +130,194 @@ noted v attempt r s u same verdict exit q = record {
   };
 }
 
-pub then_notes : (v : HandshakeVerdict) (r s u : Register) → SameAttempts r s → Notes v s u → Notes v r u
-then_notes v r s u p q = noted v q.attempt r s u p q.verdict q.exit q.adds
+pub then_notes : (c : CapturedConnection) (v : HandshakeVerdict) (r s u : Register) → SameAttempts r s → Notes c v s u → Notes c v r u
+then_notes c v r s u p q = noted c v q.attempt r s u p q.between q.verdict q.exit q.adds
 
 -- ---- a whole capture
 
 pub counts_same : (r s : Register) → SameAttempts r s → GoesOnCounting r s
-counts_same r s same t p = record {
+counts_same r s same t segments p = record {
   terms = same.terms ∙ p.terms;
   attempts = p.attempts;
   history = p.history;
   stands = stands_same r s same p.attempts p.stands;
 }
 
-pub counts_more : (r s : Register) (at_mapper : Bool) (carried : Traffic) → Notes (verdict_on r.terms at_mapper carried) r s → GoesOnCounting r s
-counts_more r s at_mapper carried q t p =
+judged_at : (segments : List Segment) (c : CapturedConnection) (attempt : PastDial) (carried : Traffic) → IsBetween c attempt → IsShown segments c.dialler c.acceptor carried
+    → IsShown segments attempt.dialler attempt.acceptor carried
+judged_at segments c attempt carried p q =
+    subst (λ (x : Endpoint). IsShown segments x attempt.acceptor carried) (sym p.0) (subst (λ (x : Endpoint). IsShown segments c.dialler x carried) (sym p.1) q)
+
+pub counts_more : (c : CapturedConnection) (r s : Register) (at_mapper : Bool) (carried : Traffic) → Notes c (verdict_on r.terms at_mapper carried) r s
+    → (t : Terms) (segments : List Segment) → IsShown segments c.dialler c.acceptor carried → Counts t segments r → Counts t segments s
+counts_more c r s at_mapper carried q t segments shown p =
     let verdict : q.attempt.verdict ≡ verdict_on t at_mapper carried = q.verdict ∙ ap (λ (u : Terms). verdict_on u at_mapper carried) p.terms in
-    let judged : IsJudged t q.attempt = record { at_mapper = at_mapper; carried = carried; verdict = verdict; exit = q.exit ∙ ap status_of (sym q.verdict) } in
+    let judged : IsJudged t segments q.attempt = record {
+      at_mapper = at_mapper;
+      carried = carried;
+      verdict = verdict;
+      shown = judged_at segments c q.attempt carried q.between shown;
+      exit = q.exit ∙ ap status_of (sym q.verdict);
+    } in
     record {
       terms = q.adds.terms ∙ p.terms;
       attempts = p.stands.earlier ++ (q.adds.others ++ q.adds.left ∷ []);
-      history = NextAttempt p.stands.earlier r.dials.items (subst (History t) p.stands.all p.history) q.attempt judged q.adds.left q.adds.others q.adds.meets;
+      history = NextAttempt p.stands.earlier r.dials.items (subst (History t segments) p.stands.all p.history) q.attempt judged q.adds.left q.adds.others q.adds.meets;
       stands = q.adds.adds p.stands.earlier p.stands.status;
     }
 
+history_more : (t : Terms) (segments more : List Segment) (attempts : List PastDial) → History t segments attempts → History t (segments ++ more) attempts
+history_more t segments more attempts NoAttempt = NoAttempt
+history_more t segments more attempts (NextAttempt earlier before history attempt judged left others meets) =
+    let later : IsJudged t (segments ++ more) attempt = record {
+      at_mapper = judged.at_mapper;
+      carried = judged.carried;
+      verdict = judged.verdict;
+      shown = shown_more segments more attempt.dialler attempt.acceptor judged.carried judged.shown;
+      exit = judged.exit;
+    } in
+    NextAttempt earlier before (history_more t segments more (earlier ++ before) history) attempt later left others meets
+
+pub counts_on : (t : Terms) (segments more : List Segment) (r : Register) → Counts t segments r → Counts t (segments ++ more) r
+counts_on t segments more r p = record { terms = p.terms; attempts = p.attempts; history = history_more t segments more p.attempts p.history; stands = p.stands }
+
 -- ---- once
 
-by_then : (before after : Option HandshakeVerdict) (r s u : Register) → NotesBy before after r s → SameAttempts s u → NotesBy before after r u
-by_then None None r s u p q = (p.0, same_then r s u p.1 q)
-by_then None (Some v) r s u p q = notes_then v r s u p q
-by_then (Some w) None r s u p q = (p.0, same_then r s u p.1 q)
-by_then (Some w) (Some v) r s u p q = (p.0, same_then r s u p.1 q)
+by_then : (c : CapturedConnection) (before after : Option HandshakeVerdict) (r s u : Register) → NotesBy c before after r s → SameAttempts s u → NotesBy c before after r u
+by_then c None None r s u p q = (p.0, same_then r s u p.1 q)
+by_then c None (Some v) r s u p q = notes_then c v r s u p q
+by_then c (Some w) None r s u p q = (p.0, same_then r s u p.1 q)
+by_then c (Some w) (Some v) r s u p q = (p.0, same_then r s u p.1 q)
 
-then_by : (before after : Option HandshakeVerdict) (r s u : Register) → SameAttempts r s → NotesBy before after s u → NotesBy before after r u
-then_by None None r s u p q = (q.0, same_then r s u p q.1)
-then_by None (Some v) r s u p q = then_notes v r s u p q
-then_by (Some w) None r s u p q = (q.0, same_then r s u p q.1)
-then_by (Some w) (Some v) r s u p q = (q.0, same_then r s u p q.1)
+then_by : (c : CapturedConnection) (before after : Option HandshakeVerdict) (r s u : Register) → SameAttempts r s → NotesBy c before after s u → NotesBy c before after r u
+then_by c None None r s u p q = (q.0, same_then r s u p q.1)
+then_by c None (Some v) r s u p q = then_notes c v r s u p q
+then_by c (Some w) None r s u p q = (q.0, same_then r s u p q.1)
+then_by c (Some w) (Some v) r s u p q = (q.0, same_then r s u p q.1)
 
-by_new : (before : Option HandshakeVerdict) (v : HandshakeVerdict) (r s : Register) → is_some before ≡ false → Notes v r s → NotesBy before (Some v) r s
-by_new None v r s e p = p
-by_new (Some w) v r s e p = absurd (false≢true (sym e))
+by_new : (c : CapturedConnection) (before : Option HandshakeVerdict) (v : HandshakeVerdict) (r s : Register) → is_some before ≡ false → Notes c v r s → NotesBy c before (Some v) r s
+by_new c None v r s e p = p
+by_new c (Some w) v r s e p = absurd (false≢true (sym e))
 
-pub once_then : (before after : Option HandshakeVerdict) (r s u : Register) → NotesOnce before after r s → SameAttempts s u → NotesOnce before after r u
-once_then before after r s u p q = record { once = by_then before after r s u p.once q; counting = λ t x. counts_same s u q t (p.counting t x) }
-
-pub then_once : (before after : Option HandshakeVerdict) (r s u : Register) → SameAttempts r s → NotesOnce before after s u → NotesOnce before after r u
-then_once before after r s u p q = record { once = then_by before after r s u p q.once; counting = λ t x. q.counting t (counts_same r s p t x) }
-
-pub once_new : (before : Option HandshakeVerdict) (r s : Register) (at_mapper : Bool) (carried : Traffic) → is_some before ≡ false → Notes (verdict_on r.terms at_mapper carried) r s
-    → NotesOnce before (Some (verdict_on r.terms at_mapper carried)) r s
-once_new before r s at_mapper carried e p = record {
-  once = by_new before (verdict_on r.terms at_mapper carried) r s e p;
-  counting = counts_more r s at_mapper carried p;
+pub notes_at : (c d : CapturedConnection) (v : HandshakeVerdict) (r s : Register) → SameEnds c d → Notes d v r s → Notes c v r s
+notes_at c d v r s ends p = record {
+  attempt = p.attempt;
+  between = (p.between.0 ∙ ends.1, p.between.1 ∙ ends.2);
+  verdict = p.verdict;
+  exit = p.exit;
+  adds = p.adds;
 }
 
-pub begins : (t : Terms) (r : Register) → r.terms ≡ t → r.dials.items ≡ [] → r.status ≡ 0 → Counts t r
-begins t r terms dials status = record {
+by_at : (c d : CapturedConnection) (before after : Option HandshakeVerdict) (r s : Register) → SameEnds c d → NotesBy d before after r s → NotesBy c before after r s
+by_at c d None None r s ends p = p
+by_at c d None (Some v) r s ends p = notes_at c d v r s ends p
+by_at c d (Some w) None r s ends p = p
+by_at c d (Some w) (Some v) r s ends p = p
+
+none_before : (c : CapturedConnection) (before after : Option HandshakeVerdict) (r s : Register) → NotesBy c before after r s → after ≡ None → before ≡ None
+none_before c None after r s p e = refl
+none_before c (Some w) None r s p e = absurd (let no : None ≡ Some w = p.0 in cc)
+none_before c (Some w) (Some v) r s p e = absurd cc
+
+pub once_then : (c e : CapturedConnection) (r s u : Register) → NotesOnce c e r s → SameAttempts s u → NotesOnce c e r u
+once_then c e r s u p q = record {
+  once = by_then c c.verdict e.verdict r s u p.once q;
+  counting = λ t segments shown x. counts_same s u q t segments (p.counting t segments shown x);
+}
+
+pub then_once : (c e : CapturedConnection) (r s u : Register) → SameAttempts r s → NotesOnce c e s u → NotesOnce c e r u
+then_once c e r s u p q = record {
+  once = then_by c c.verdict e.verdict r s u p q.once;
+  counting = λ t segments shown x. q.counting t segments shown (counts_same r s p t segments x);
+}
+
+none_of : (o : Option HandshakeVerdict) → is_some o ≡ false → o ≡ None
+none_of None e = refl
+none_of (Some v) e = absurd (false≢true (sym e))
+
+-- it is judged, where it was not
+pub once_new : (c e : CapturedConnection) (r s : Register) → is_some c.verdict ≡ false → Judges r.terms c e → Notes c (verdict_on r.terms e.is_at_mapper e.content) r s → NotesOnce c e r s
+once_new c e r s open_ judges p = record {
+  once = subst (λ (v : Option HandshakeVerdict). NotesBy c c.verdict v r s) (sym judges.verdict) (by_new c c.verdict (verdict_on r.terms e.is_at_mapper e.content) r s open_ p);
+  counting = λ t segments shown x.
+      counts_more c r s e.is_at_mapper e.content p t segments (shown_stays segments c.dialler c.acceptor c e judges.stays (shown (none_of c.verdict open_))) x;
+}
+
+pub settled_by : (r : Register) (c e : CapturedConnection) → Judges r.terms c e → IsSome e.verdict
+settled_by r c e judges = subst IsSome (sym judges.verdict) refl
+
+-- the same where only the verdict changes
+pub once_judged : (c : CapturedConnection) (v : HandshakeVerdict) (r s : Register) → is_some c.verdict ≡ false → v ≡ verdict_on r.terms c.is_at_mapper c.content
+    → Notes c (verdict_on r.terms c.is_at_mapper c.content) r s → NotesOnce c (record c { verdict = Some v }) r s
+once_judged c v r s open_ is p =
+    once_new c (record c { verdict = Some v }) r s open_
+    (record { stays = record { ends = (refl, refl, refl); tells = λ b q. q }; verdict = ap (λ (w : HandshakeVerdict). Some w) is }) p
+
+-- before and behind what was added the connection says no more
+pub once_between : (c d e k : CapturedConnection) (r s : Register) → d.verdict ≡ c.verdict → SameEnds c d → SaysNoMore c d → NotesOnce d e r s → k.verdict ≡ e.verdict → NotesOnce c k r s
+once_between c d e k r s same ends says p later = record {
+  once = subst (λ (v : Option HandshakeVerdict). NotesBy c c.verdict v r s) (sym later)
+      (subst (λ (v : Option HandshakeVerdict). NotesBy c v e.verdict r s) same (by_at c d d.verdict e.verdict r s ends p.once));
+  counting = λ t segments shown x. p.counting t segments (shown_no_more segments c d says ends same shown) x;
+}
+
+-- ---- a connection that is watched
+
+pub watches_settled : (c e : CapturedConnection) (r s : Register) → NotesOnce c e r s → SameEnds c e → (e.verdict ≡ None → ⊥) → GoesOnWatching r c s e
+watches_settled c e r s once ends some t segments w = record {
+  counts = once.counting t segments (shown_of segments c w.stands) w.counts;
+  stands = stands_settled segments c e ends some w.stands;
+}
+
+pub watches_judged : (c e : CapturedConnection) (r s : Register) → NotesOnce c e r s → e ≡ record c { verdict = e.verdict } → GoesOnWatching r c s e
+watches_judged c e r s once is t segments w = record {
+  counts = once.counting t segments (shown_of segments c w.stands) w.counts;
+  stands = stands_judged segments c e is (none_before c c.verdict e.verdict r s once.once) w.stands;
+}
+
+pub watches_ended : (c e : CapturedConnection) (r s : Register) → NotesOnce c e r s → SameEnds c e → e.content ≡ traffic.Other → IsGone e.from_dialler → IsGone e.from_acceptor → GoesOnWatching r c s e
+watches_ended c e r s once ends other one two t segments w = record {
+  counts = once.counting t segments (shown_of segments c w.stands) w.counts;
+  stands = stands_forgotten segments c e ends other one two w.stands;
+}
+
+is_none : (o : Option HandshakeVerdict) → IsSome o → o ≡ None → ⊥
+is_none None p e = absurd (false≢true p)
+is_none (Some v) p e = absurd cc
+
+pub watches_put : (c e : CapturedConnection) (r s : Register) {X E : Type 0} (result : Result X E) → SameConnection c e → OnOk result (IsSome e.verdict) → OnOk result (NotesOnce c e r s)
+    → OnOk result (GoesOnWatching r c s e)
+watches_put c e r s (Ok x) same some once = watches_settled c e r s once same.ends (is_none e.verdict some)
+watches_put c e r s (Err fault) same some once = tt
+
+pub ended_between : (c d e k : CapturedConnection) → SameEnds c d → SameConnection d e → SameEnds e k → SameEnds c k
+ended_between c d e k p q r = (r.0 ∙ q.ends.0 ∙ p.0, r.1 ∙ q.ends.1 ∙ p.1, r.2 ∙ q.ends.2 ∙ p.2)
+
+-- another one takes its place
+pub watches_new : (c : CapturedConnection) (t : Terms) (segments : List Segment) (r : Register) → AreEnds c → Holds c nothing_sent → Tells c nothing_sent → IsUnbegun c.from_dialler → IsUnbegun c.from_acceptor
+    → Counts t segments r → Watches t segments r c
+watches_new c t segments r ends holds tells one other counts = record { counts = counts; stands = stands_new segments c ends holds tells one other }
+
+pub takes_segment : (c e : CapturedConnection) (r : Register) (next : Segment) → Follows c next e → e.verdict ≡ c.verdict → TakesOn next r c r e
+takes_segment c e r next follows same t segments among ends w = record {
+  counts = w.counts;
+  stands = stands_follows segments c e next among ends follows same w.stands;
+}
+
+-- and its mapper's answer is judged
+pub takes_judged : (c d e : CapturedConnection) (r s : Register) (next : Segment) → Follows c next d → d.verdict ≡ c.verdict → NotesOnce d e r s → e ≡ record d { verdict = e.verdict } → TakesOn next r c s e
+takes_judged c d e r s next follows same once is t segments among ends w = watches_judged d e r s once is t segments (takes_segment c d r next follows same t segments among ends w)
+
+pub begins : (t : Terms) (segments : List Segment) (r : Register) → r.terms ≡ t → r.dials.items ≡ [] → r.status ≡ 0 → Counts t segments r
+begins t segments r terms dials status = record {
   terms = terms;
   attempts = [];
   history = NoAttempt;
   stands = record { earlier = []; all = sym dials; status = status; nothing = λ _. refl };
 }
 
-pub ends_with : (t : Terms) (r : Register) (status : ℕ) → ((attempts : List PastDial) → StandsFor r attempts → status ≡ exit_of r.has_found attempts) → Counts t r → EndsWith t status
-ends_with t r status by p = record { attempts = p.attempts; history = p.history; exit = exits r.has_found refl (by p.attempts p.stands) } where
+pub counts_to : (t : Terms) (segments : List Segment) (r : Register) (status : ℕ) → ((attempts : List PastDial) → StandsFor r attempts → status ≡ exit_of r.has_found attempts) → Counts t segments r → CountsTo t segments status
+counts_to t segments r status by p = record { attempts = p.attempts; history = p.history; exit = exits r.has_found refl (by p.attempts p.stands) } where
   exits : (b : Bool) → r.has_found ≡ b → status ≡ exit_of b p.attempts → IsExit p.attempts status
   exits true e is = inl is
   exits false e is = inr (p.stands.nothing e, is)

@@ -12,7 +12,7 @@ use Rattle.dist_talk.specs.declared.{bodies.NextBody.NextBody, handshake.Handsha
 use Rattle.dist_talk.specs.declared.bodies.NextBody.TheVariants as next
 use Rattle.dist_capture.specs.Streams.{Gathering, consumed}
 use Rattle.distping_capture.specs.Delivered.{AreSaid, IsEnough, IsRead, NoneFollows, OthersSame, Reads, Waits, count_of}
-use Rattle.distping_capture.specs.Flows.{bytes_of, ready_in, without_first}
+use Rattle.distping_capture.specs.Flows.{SameBehind, bytes_of, ready_in, without_first}
 use Rattle.distping_capture.specs.declared.flow.Flow.{Flow}
 
 -- ---- the bodies of bytes that wait
@@ -155,18 +155,19 @@ left_of None count = sym (drop_of_length-le [] (omega arith))
 left_of (Some s) count = refl
 
 pub reads_one : (side : Side) (body : List ℕ) (c : SentContent) (at : ℕ) (h k : Handshake) (f g : Flow) → first_body w16 (bytes_of f) ≡ Some body → IsBodyOf (tags_of side) body
-    → Says side body c → Takes side c at h k → is_done side (said_by side h) ≡ false → count_of h < 16 → g ≡ without_first f (length body + 2) → Reads side h k f g
-reads_one side body c at h k f g first of says takes open_ few is =
+    → Says side body c → Takes side c at h k → is_done side (said_by side h) ≡ false → count_of h < 16 → g ≡ without_first f (length body + 2) → SameBehind f g → Reads side h k f g
+reads_one side body c at h k f g first of says takes open_ few is same =
     let one = takes_one side c at h k takes in
     let left : bytes_of g ≡ drop (length body + 2) (bytes_of f) = ap bytes_of is ∙ left_of f.stream (length body + 2) in
     record {
       reads = λ bytes p. reads_one_at side bytes body c h k f g first of says one open_ few left p p.goes_on;
+      behind = same;
       others = one.others;
       more = omega (arith, one.more);
     }
 
 pub reads_none : (side : Side) (h : Handshake) (f : Flow) → Reads side h h f f
-reads_none side h f = record { reads = λ bytes p. p; others = (refl, refl, refl); more = le_refl (count_of h) }
+reads_none side h f = record { reads = λ bytes p. p; behind = record { behind = refl; same = refl }; others = (refl, refl, refl); more = le_refl (count_of h) }
 
 -- ---- more bytes come
 

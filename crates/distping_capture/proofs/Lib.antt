@@ -5,3 +5,6 @@ pub mod Meeting
 pub mod Pieces
 pub mod Segments
 pub mod Showing
+pub mod Standing
+pub mod Tracking
+pub mod Watching

@@ -34,7 +34,7 @@ waits_longer s (Some g) = gathered_longer s g
 begins_same : (reads : Bool) (o later : Option Gathering) → BeginsBy reads o later → ready_in later ≡ ready_in o
 begins_same reads (Some g) later e = ap ready_in e
 begins_same false None later e = ap ready_in e
-begins_same true None later (first, e) = ap ready_in e
+begins_same true None later (first, small, e) = ap ready_in e
 
 pub delivers : (f : Flow) (s : Segment) (begun : Option Gathering) (later : Flow) → BeginsBy f.is_read f.stream begun → later.stream ≡ option_map (gathered s) begun → later.is_read ≡ f.is_read
     → (piece : List ℕ) × Delivers f s piece later

@@ -1,12 +1,12 @@
 -- A segment of a connection is taken.
-use Rattle.std.proofs.Common.{◌≡◌, ◌⊎◌, inl, inr, ℕ, Bool, true, false, List, ◌++◌, length, Option, sym, ap, subst, ◌∙◌, append-nil}
+use Rattle.std.proofs.Common.{◌≡◌, ◌⊎◌, inl, inr, ℕ, Bool, true, false, List, ◌++◌, length, Option, Result, Ok, Err, IfOk, sym, ap, subst, ◌∙◌, append-nil}
 use Rattle.dist_capture.specs.Streams.{Gathering}
 use Rattle.dist_capture.specs.declared.segment.Segment.{Segment}
 use Rattle.dist_messages.specs.declared.message.Side.{Side, TheVariants.Dialler, TheVariants.Acceptor}
-use Rattle.dist_talk.specs.{Handshake.said_by, declared.handshake.Handshake.Handshake}
-use Rattle.distping_capture.specs.Connections.{Follows, Gathers, GoesOn, Holds, IsFrom, IsOf, SameEnds, Sent, Still, flow_of, with_piece}
+use Rattle.dist_talk.specs.{Handshake.said_by, Speaking.other_side, declared.handshake.Handshake.Handshake}
+use Rattle.distping_capture.specs.Connections.{Finds, Follows, Gathers, GoesOn, Holds, IsFrom, IsLeft, IsOf, Keeps, KeepsEnds, ReadsBoth, SameEnds, SameStreams, SaidBoth, Sent, Still, Tells, exchanged, flow_of, with_piece}
 use Rattle.distping_capture.specs.Delivered.{IsEnough, IsRead, Waits}
-use Rattle.distping_capture.specs.Flows.{Brings, BringsBy, BeginsBy, SameBytes, bytes_of, ready_in}
+use Rattle.distping_capture.specs.Flows.{Brings, BringsBy, BeginsBy, IsGone, IsReadOn, SameBehind, SameBytes, behind_in, bytes_of, ready_in}
 use Rattle.distping_capture.specs.declared.{connection.CapturedConnection.CapturedConnection, flow.Flow.Flow, traffic.Traffic.Traffic}
 use Rattle.distping_capture.specs.declared.traffic.Traffic.TheVariants as traffic
 use Rattle.distping_capture.proofs.Frames.{grown}
@@ -38,14 +38,6 @@ more_read side bytes piece h f g p q = grown side h bytes piece f g p q
 
 -- ---- both sides
 
-same_of : (t : Traffic) (b : Sent) (f g f' g' : Flow) → SameBytes f f' → SameBytes g g' → IsOf t b f g → IsOf t b f' g'
-same_of traffic.Unknown b f g f' g' p q (d, a) = (d ∙ sym (same_waiting f f' p), a ∙ sym (same_waiting g g' q))
-same_of (traffic.Handshake h) b f g f' g' p q (d, a) = (same_read Dialler b.dialler h f f' p d, same_read Acceptor b.acceptor h g g' q a)
-same_of (traffic.Mapper talk) b f g f' g' p q r = tt
-same_of (traffic.Unreached u) b f g f' g' p q r = tt
-same_of traffic.Tls b f g f' g' p q r = tt
-same_of traffic.Other b f g f' g' p q r = tt
-
 dialler_of : (t : Traffic) (b : Sent) (piece : List ℕ) (f g f' g' : Flow) → Adds f piece f' → SameBytes g g' → IsOf t b f g → IsOf t (with_piece Dialler piece b) f' g'
 dialler_of traffic.Unknown b piece f g f' g' p q (d, a) = (more_waits b.dialler piece f f' p d, a ∙ sym (same_waiting g g' q))
 dialler_of (traffic.Handshake h) b piece f g f' g' p q (d, a) = (more_read Dialler b.dialler piece h f f' p d, same_read Acceptor b.acceptor h g g' q a)
@@ -62,9 +54,6 @@ acceptor_of (traffic.Unreached u) b piece f g f' g' p q r = tt
 acceptor_of traffic.Tls b piece f g f' g' p q r = tt
 acceptor_of traffic.Other b piece f g f' g' p q r = tt
 
-still_holds : (c e : CapturedConnection) (b : Sent) → Still c e → Holds c b → Holds e b
-still_holds c e b p q = subst (λ (t : Traffic). IsOf t b e.from_dialler e.from_acceptor) (sym p.content) (same_of c.content b c.from_dialler c.from_acceptor e.from_dialler e.from_acceptor p.dialler p.acceptor q)
-
 gathers_hold : (side : Side) (c : CapturedConnection) (s : Segment) (e : CapturedConnection) (b : Sent) → (p : Gathers side c s e) → Holds c b → Holds e (with_piece side p.piece b)
 gathers_hold Dialler c s e b p q =
     subst (λ (t : Traffic). IsOf t (with_piece Dialler p.piece b) e.from_dialler e.from_acceptor) (sym p.content)
@@ -75,39 +64,120 @@ gathers_hold Acceptor c s e b p q =
 
 -- ---- the ends
 
-goes_on_from : (c d e : CapturedConnection) (b : Sent) → SameEnds c d → GoesOn d e b → GoesOn c e b
-goes_on_from c d e b p (inl (ends, holds, tells)) = inl ((ends.0 ∙ p.0, ends.1 ∙ p.1), holds, tells)
-goes_on_from c d e b p (inr (ends, holds, tells)) = inr ((ends.0 ∙ p.1, ends.1 ∙ p.0), holds, tells)
-
 ends_then : (c d e : CapturedConnection) → SameEnds c d → SameEnds d e → SameEnds c e
-ends_then c d e p q = (q.0 ∙ p.0, q.1 ∙ p.1)
+ends_then c d e p q = (q.0 ∙ p.0, q.1 ∙ p.1, q.2 ∙ p.2)
 
--- what a side brings, where its bytes are those of another flow
-brings_same : (f g : Flow) (s : Segment) (piece : List ℕ) (later : Flow) → SameBytes f g → Brings g s piece later → Brings f s piece later
-brings_same f g s piece later p = by s.is_reset where
-  by : (b : Bool) → BringsBy b g s piece later → BringsBy b f s piece later
+bytes_then : (f g k : Flow) → SameBytes f g → SameBytes g k → SameBytes f k
+bytes_then f g k p q = record { stream = q.stream ∙ p.stream; same = q.same ∙ p.same }
+
+-- what a side brings, where its bytes are those of another flow, before and after
+brings_same : (f g h k : Flow) (s : Segment) (piece : List ℕ) → SameBytes f g → Brings g s piece h → SameBytes h k → Brings f s piece k
+brings_same f g h k s piece p r u = by s.is_reset r where
+  by : (b : Bool) → BringsBy b g s piece h → BringsBy b f s piece k
   by false q = record {
     begun = q.begun;
     begins = subst (λ (o : Option Gathering). BeginsBy f.is_read o q.begun) p.stream (subst (λ (b : Bool). BeginsBy b g.stream q.begun) p.same q.begins);
-    stream = q.stream;
-    bytes = q.bytes ∙ ap (λ (l : List ℕ). l ++ piece) (same_waiting f g p);
-    same = q.same ∙ p.same;
+    stream = u.stream ∙ q.stream;
+    bytes = same_waiting h k u ∙ q.bytes ∙ ap (λ (l : List ℕ). l ++ piece) (same_waiting f g p);
+    same = u.same ∙ q.same ∙ p.same;
   }
-  by true q = (q.0, record { stream = q.1.stream ∙ p.stream; same = q.1.same ∙ p.same })
+  by true q = (q.0, bytes_then f h k (bytes_then f g h p q.1) u)
 
 still_flow : (side : Side) (c e : CapturedConnection) → Still c e → SameBytes (flow_of side c) (flow_of side e)
 still_flow Dialler c e p = p.dialler
 still_flow Acceptor c e p = p.acceptor
 
-pub follows : (side : Side) (c noted gone ended e : CapturedConnection) (s : Segment) → IsFrom c s side → Still c noted → Gathers side noted s gone → Still gone ended
-    → ((b : Sent) → Holds ended b → GoesOn ended e b) → Follows c s e
-follows side c noted gone ended e s from p q r goes_on = record {
-  side = side;
-  from = from;
+-- a segment is taken between two steps that take none
+gathers_between : (side : Side) (c noted gone ended : CapturedConnection) (s : Segment) → Still c noted → Gathers side noted s gone → Still gone ended → Gathers side c s ended
+gathers_between side c noted gone ended s p q r = record {
   piece = q.piece;
-  flow = flow_of side gone;
-  brings = brings_same (flow_of side c) (flow_of side noted) s q.piece (flow_of side gone) (still_flow side c noted p) q.brings;
-  goes_on = λ b holds.
-      let there = still_holds gone ended (with_piece side q.piece b) r (gathers_hold side noted s gone b q (still_holds c noted b p holds)) in
-      goes_on_from c ended e (with_piece side q.piece b) (ends_then c noted ended p.ends (ends_then noted gone ended q.ends r.ends)) (goes_on (with_piece side q.piece b) there);
+  brings = brings_same (flow_of side c) (flow_of side noted) (flow_of side gone) (flow_of side ended) s q.piece (still_flow side c noted p) q.brings (still_flow side gone ended r);
+  other = bytes_then _ _ _ (bytes_then _ _ _ (still_flow (other_side side) c noted p) q.other) (still_flow (other_side side) gone ended r);
+  content = r.content ∙ q.content ∙ p.content;
+  ends = ends_then c gone ended (ends_then c noted gone p.ends q.ends) r.ends;
 }
+
+pub follows : (side : Side) (c noted gone ended e : CapturedConnection) (s : Segment) → IsFrom c s side → Still c noted → Gathers side noted s gone → Still gone ended → KeepsEnds ended e
+    → ((b : Sent) → Holds ended b → GoesOn ended e b) → Follows c s e
+follows side c noted gone ended e s from p q r keeps goes_on =
+    let all = gathers_between side c noted gone ended s p q r in
+    record {
+      side = side;
+      from = from;
+      unread = ended;
+      gathers = all;
+      ends = keeps;
+      goes_on = λ b holds. goes_on (with_piece side all.piece b) (gathers_hold side c s ended b all holds);
+    }
+
+-- ---- what is carried is read
+
+pub ok_both : {T E : Type 0} (r : Result T E) (P Q : T → Type 0) → IfOk r P → IfOk r Q → IfOk r (λ x. P x × Q x)
+ok_both (Ok x) P Q p q = (p, q)
+ok_both (Err e) P Q p q = tt
+
+behind_same : (f g : Flow) → SameBytes f g → SameBehind f g
+behind_same f g p = record { behind = ap behind_in p.stream; same = p.same }
+
+behind_then : (f g k : Flow) → SameBehind f g → SameBehind g k → SameBehind f k
+behind_then f g k p q = record { behind = q.behind ∙ p.behind; same = q.same ∙ p.same }
+
+on_then : (f g k : Flow) → SameBytes f g → SameBehind g k → IsReadOn f k
+on_then f g k p q = inl (behind_then f g k (behind_same f g p) q)
+
+pub ends_on : (c d e : CapturedConnection) → KeepsEnds c d → SameEnds d e → KeepsEnds c e
+ends_on c d e (inl p) q = inl (ends_then c d e p q)
+ends_on c d e (inr p) q = inr (q.0 ∙ p.0, q.1 ∙ p.1, q.2 ∙ p.2)
+
+-- it was found out, and read
+pub reads_then : (c d e : CapturedConnection) → ((b : Sent) → Holds c b → Finds c d b) → SameStreams d e → ((b : Sent) → Holds d b → Holds e b × Tells e b)
+    → (b : Sent) → Holds c b → GoesOn c e b
+reads_then c d e finds same both b holds = elim (finds b holds) [
+  | inl p ↦
+      let q = both b p.3 in
+      inl (
+        (ends_then c d e p.0 same.ends, on_then c.from_dialler d.from_dialler e.from_dialler p.1 same.dialler, on_then c.from_acceptor d.from_acceptor e.from_acceptor p.2 same.acceptor),
+        q.0,
+        q.1,
+      )
+  | inr p ↦
+      let q = both (exchanged b) p.3 in
+      inr (
+        ((same.ends.0 ∙ p.0.0, same.ends.1 ∙ p.0.1, same.ends.2 ∙ p.0.2), on_then c.from_dialler d.from_acceptor e.from_acceptor p.1 same.acceptor, on_then c.from_acceptor d.from_dialler e.from_dialler p.2 same.dialler),
+        q.0,
+        q.1,
+      )
+]
+
+pub streams_then : (c d e : CapturedConnection) → SameStreams c d → SameStreams d e → SameStreams c e
+streams_then c d e p q = record {
+  ends = ends_then c d e p.ends q.ends;
+  dialler = behind_then c.from_dialler d.from_dialler e.from_dialler p.dialler q.dialler;
+  acceptor = behind_then c.from_acceptor d.from_acceptor e.from_acceptor p.acceptor q.acceptor;
+}
+
+-- and what was said to a port mapper too
+pub reads_more : (c d e k : CapturedConnection) → ((b : Sent) → Holds c b → Finds c d b) → ReadsBoth d e → Keeps e k → (b : Sent) → Holds c b → GoesOn c k b
+reads_more c d e k finds both keeps =
+    reads_then c d k finds (streams_then d e k both.0 keeps.0) (λ b holds. let q = both.1 b holds in keeps.1 b q.0 q.1)
+
+-- what is left holds of any bytes
+left_holds : (t : Traffic) (b : Sent) (f g : Flow) → IsLeft t → IsOf t b f g × SaidBoth t b
+left_holds traffic.Unknown b f g p = absurd p
+left_holds (traffic.Handshake h) b f g p = absurd p
+left_holds (traffic.Mapper talk) b f g p = (tt, tt)
+left_holds (traffic.Unreached u) b f g p = (tt, tt)
+left_holds traffic.Tls b f g p = (tt, tt)
+left_holds traffic.Other b f g p = (tt, tt)
+
+-- no more of it is read
+pub reads_no_more : (c d e k : CapturedConnection) → ((b : Sent) → Holds c b → Finds c d b) → ReadsBoth d e → IsLeft e.content → k.content ≡ e.content → SameEnds e k
+    → IsGone k.from_dialler → IsGone k.from_acceptor → (b : Sent) → Holds c b → GoesOn c k b
+reads_no_more c d e k finds both left same ends one other b holds =
+    let says : (b : Sent) → Holds k b × Tells k b = λ b. left_holds k.content b k.from_dialler k.from_acceptor (subst IsLeft (sym same) left) in
+    elim (finds b holds) [
+      | inl p ↦ inl ((ends_then c d k p.0 (ends_then d e k both.0.ends ends), inr one, inr other), (says b).0, (says b).1)
+      | inr p ↦
+          let all = ends_then d e k both.0.ends ends in
+          inr (((all.0 ∙ p.0.0, all.1 ∙ p.0.1, all.2 ∙ p.0.2), inr other, inr one), (says (exchanged b)).0, (says (exchanged b)).1)
+    ]

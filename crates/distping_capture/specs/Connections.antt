@@ -1,10 +1,10 @@
 -- WHAT A CONNECTION SAYS, by the bytes that were delivered of its two sides.
 use Rattle.std.specs.Prelude.{◌≡◌, ◌↔◌, ◌⊎◌, ℕ, List, [], ◌++◌, Some}
-use Rattle.dist_capture.specs.declared.segment.Segment.{Segment}
+use Rattle.dist_capture.specs.declared.segment.{Endpoint.Endpoint, Segment.Segment}
 use Rattle.dist_messages.specs.declared.message.Side.{Side, TheVariants.Dialler, TheVariants.Acceptor}
 use Rattle.dist_talk.specs.{Speaking.other_side, declared.terms.Terms.Terms}
 use Rattle.distping_capture.specs.Attempts.{verdict_on}
-use Rattle.distping_capture.specs.{Delivered.IsRead, Delivered.SaidIn, Flows.Brings, Flows.SameBytes, Flows.bytes_of}
+use Rattle.distping_capture.specs.{Delivered.IsRead, Delivered.SaidIn, Flows.Brings, Flows.IsReadOn, Flows.SameBehind, Flows.SameBytes, Flows.bytes_of}
 use Rattle.distping_capture.specs.declared.{connection.CapturedConnection.CapturedConnection, flow.Flow.Flow, traffic.Traffic.Traffic}
 use Rattle.distping_capture.specs.declared.traffic.Traffic.TheVariants as traffic
 
@@ -51,30 +51,60 @@ Tells c b = SaidBoth c.content b
 
 -- ---- a segment
 
+-- a segment goes from one port to another
+abbrev pub Goes : Endpoint → Endpoint → Segment → Type 0
+Goes from to s = (s.from ≡ from) × (s.to ≡ to)
+
+-- the two ports of a segment, in either order
+abbrev pub EndsOf : Segment → Endpoint × Endpoint → Type 0
+EndsOf s ends = (ends ≡ (s.from, s.to)) ⊎ (ends ≡ (s.to, s.from))
+
+-- a connection's two ports are those of its sides, in either order
+abbrev pub AreEnds : CapturedConnection → Type 0
+AreEnds c = (c.ends ≡ (c.dialler, c.acceptor)) ⊎ (c.ends ≡ (c.acceptor, c.dialler))
+
 -- the same side dialled, or it is found that the other one did
 abbrev pub SameEnds : CapturedConnection → CapturedConnection → Type 0
-SameEnds c e = (e.dialler ≡ c.dialler) × (e.acceptor ≡ c.acceptor)
+SameEnds c e = (e.ends ≡ c.ends) × (e.dialler ≡ c.dialler) × (e.acceptor ≡ c.acceptor)
 
 abbrev pub ExchangedEnds : CapturedConnection → CapturedConnection → Type 0
-ExchangedEnds c e = (e.dialler ≡ c.acceptor) × (e.acceptor ≡ c.dialler)
+ExchangedEnds c e = (e.ends ≡ c.ends) × (e.dialler ≡ c.acceptor) × (e.acceptor ≡ c.dialler)
+
+abbrev pub KeepsEnds : CapturedConnection → CapturedConnection → Type 0
+KeepsEnds c e = SameEnds c e ⊎ ExchangedEnds c e
 
 -- a segment comes from the side that dialled if it comes from that side's address and port
 abbrev pub IsFrom : CapturedConnection → Segment → Side → Type 0
 IsFrom c s side = (side ≡ Dialler) ↔ (s.from ≡ c.dialler)
 
+-- no byte came of either side
+abbrev pub ReadsOn : CapturedConnection → CapturedConnection → Type 0
+ReadsOn c e = SameEnds c e × IsReadOn c.from_dialler e.from_dialler × IsReadOn c.from_acceptor e.from_acceptor
+
+abbrev pub ReadsExchanged : CapturedConnection → CapturedConnection → Type 0
+ReadsExchanged c e = ExchangedEnds c e × IsReadOn c.from_dialler e.from_acceptor × IsReadOn c.from_acceptor e.from_dialler
+
 -- of these bytes, which were delivered, the connection goes on
 abbrev pub GoesOn : CapturedConnection → CapturedConnection → Sent → Type 0
-GoesOn c e b = (SameEnds c e × Holds e b × Tells e b) ⊎ (ExchangedEnds c e × Holds e (exchanged b) × Tells e (exchanged b))
+GoesOn c e b = (ReadsOn c e × Holds e b × Tells e b) ⊎ (ReadsExchanged c e × Holds e (exchanged b) × Tells e (exchanged b))
 
--- A SEGMENT WAS TAKEN: it delivered this piece of the bytes of the side that sent it, and no others; whatever was delivered before, what the
+-- A segment of a side was taken, and nothing read: it delivered this piece of the bytes of that side, and of the other one nothing.
+pub record Gathers (side : Side) (c : CapturedConnection) (s : Segment) (e : CapturedConnection) : Type 0 where
+  pub piece : List ℕ
+  pub brings : Brings (flow_of side c) s piece (flow_of side e)
+  pub other : SameBytes (flow_of (other_side side) c) (flow_of (other_side side) e)
+  pub content : e.content ≡ c.content
+  pub ends : SameEnds c e
+
+-- A SEGMENT WAS TAKEN: it delivered a piece of the bytes of the side that sent it, and no others; whatever was delivered before, what the
 -- connection says is what both sides said in all of these bytes.
 pub record Follows (c : CapturedConnection) (s : Segment) (e : CapturedConnection) : Type 0 where
   pub side : Side
   pub from : IsFrom c s side
-  pub piece : List ℕ
-  pub flow : Flow
-  pub brings : Brings (flow_of side c) s piece flow
-  pub goes_on : (b : Sent) → Holds c b → GoesOn c e (with_piece side piece b)
+  pub unread : CapturedConnection
+  pub gathers : Gathers side c s unread
+  pub ends : KeepsEnds unread e
+  pub goes_on : (b : Sent) → Holds c b → GoesOn unread e (with_piece side gathers.piece b)
 
 -- The connection says the same, or what it says is forgotten; what else is known of it may change.
 pub record Stays (c e : CapturedConnection) : Type 0 where
@@ -101,14 +131,6 @@ pub record Still (c e : CapturedConnection) : Type 0 where
   pub dialler : SameBytes c.from_dialler e.from_dialler
   pub acceptor : SameBytes c.from_acceptor e.from_acceptor
 
--- A segment of a side was taken, and nothing read.
-pub record Gathers (side : Side) (c : CapturedConnection) (s : Segment) (e : CapturedConnection) : Type 0 where
-  pub piece : List ℕ
-  pub brings : Brings (flow_of side c) s piece (flow_of side e)
-  pub other : SameBytes (flow_of (other_side side) c) (flow_of (other_side side) e)
-  pub content : e.content ≡ c.content
-  pub ends : SameEnds c e
-
 -- what is carried is no handshake, and will be none
 abbrev pub IsLeft : Traffic → Type 0
 IsLeft traffic.Unknown = ⊥
@@ -117,8 +139,29 @@ IsLeft any = Unit {0}
 
 -- it is found out, or not yet, what is carried
 abbrev pub Finds : CapturedConnection → CapturedConnection → Sent → Type 0
-Finds c e b = (SameEnds c e × Holds e b) ⊎ (ExchangedEnds c e × Holds e (exchanged b))
+Finds c e b =
+    (SameEnds c e × SameBytes c.from_dialler e.from_dialler × SameBytes c.from_acceptor e.from_acceptor × Holds e b)
+    ⊎ (ExchangedEnds c e × SameBytes c.from_dialler e.from_acceptor × SameBytes c.from_acceptor e.from_dialler × Holds e (exchanged b))
+
+-- No byte came: the ends and what is known behind the bytes that are ready are the same.
+pub record SameStreams (c e : CapturedConnection) : Type 0 where
+  pub ends : SameEnds c e
+  pub dialler : SameBehind c.from_dialler e.from_dialler
+  pub acceptor : SameBehind c.from_acceptor e.from_acceptor
+
+-- the messages were read that are whole
+abbrev pub ReadsBoth : CapturedConnection → CapturedConnection → Type 0
+ReadsBoth c e = SameStreams c e × ((b : Sent) → Holds c b → Holds e b × Tells e b)
 
 -- what is carried was read as far as it is whole
 abbrev pub Keeps : CapturedConnection → CapturedConnection → Type 0
-Keeps c e = SameEnds c e × ((b : Sent) → Holds c b → Tells c b → Holds e b × Tells e b)
+Keeps c e = SameStreams c e × ((b : Sent) → Holds c b → Tells c b → Holds e b × Tells e b)
+
+-- nothing was said in it, if it is a handshake
+abbrev pub NothingSaid : Traffic → Type 0
+NothingSaid (traffic.Handshake h) = (h.dialler.items ≡ []) × (h.acceptor.items ≡ [])
+NothingSaid any = Unit {0}
+
+-- the connection carries the same, or nothing was said on it
+abbrev pub SaysNoMore : CapturedConnection → CapturedConnection → Type 0
+SaysNoMore c e = (e.content ≡ c.content) ⊎ NothingSaid e.content

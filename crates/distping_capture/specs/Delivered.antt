@@ -6,7 +6,7 @@ use Rattle.dist_frames.specs.Stream.{bodies, split_rest}
 use Rattle.dist_messages.specs.declared.message.Side.{Side}
 use Rattle.dist_talk.specs.{Bodies.IsBodyOf, Bodies.tags_of, Ended.is_done, Handshake.Says, Handshake.said_by, Speaking.other_side}
 use Rattle.dist_talk.specs.declared.handshake.{Handshake.Handshake, SentMessage.SentMessage}
-use Rattle.distping_capture.specs.Flows.{bytes_of}
+use Rattle.distping_capture.specs.Flows.{SameBehind, bytes_of}
 use Rattle.distping_capture.specs.declared.flow.Flow.{Flow}
 
 -- The first of these bodies say these messages of a side, in order; nothing is said behind the last message of its part.
@@ -68,5 +68,6 @@ OthersSame side h k = (said_by (other_side side) k ≡ said_by (other_side side)
 -- A part of what waits on a side was read: it was read before, and is now; and nothing else changed.
 pub record Reads (side : Side) (h k : Handshake) (f g : Flow) : Type 0 where
   pub reads : (bytes : List ℕ) → IsRead side bytes h f → IsRead side bytes k g
+  pub behind : SameBehind f g
   pub others : OthersSame side h k
   pub more : count_of h ≤ count_of k

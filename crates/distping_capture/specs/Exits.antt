@@ -1,11 +1,13 @@
 -- THE EXIT STATUS of a capture: the first that is not 0 of the attempts, in the order in which they ended; 12 if nothing was found.
 use Rattle.std.specs.Prelude.{◌≡◌, ◌⊎◌, ℕ, Bool, false, List, [], ◌∷◌, ◌++◌, Option, Some, None, ◌==◌, if◌then◌else◌}
-use Rattle.std.specs.{Borrow.Bor, Option.ok_or}
+use Rattle.std.specs.{Borrow.Bor, List.Contains, Option.ok_or}
+use Rattle.dist_capture.specs.declared.segment.Segment.{Segment}
 use Rattle.dist_talk.specs.declared.terms.Viewpoint.TheVariants as viewpoint
 use Rattle.dist_talk.specs.declared.verdict.NoCookie.TheVariants as without
 use Rattle.dist_talk.specs.{Words.status_of, declared.terms.Terms.Terms, declared.verdict.HandshakeVerdict.HandshakeVerdict}
-use Rattle.distping_capture.specs.{Attempts.verdict_on, Crossings.Meets}
-use Rattle.distping_capture.specs.declared.{dials.PastDial.PastDial, register.Register.Register, traffic.Traffic.Traffic}
+use Rattle.distping_capture.specs.{Attempts.verdict_on, Carried.IsShown, Carried.IsShownYet, Carried.StandsOn, Connections.EndsOf, Crossings.Meets}
+use Rattle.distping_capture.specs.declared.{connection.CapturedConnection.CapturedConnection, dials.PastDial.PastDial, register.Register.Register}
+use Rattle.distping_capture.specs.declared.traffic.Traffic.{Traffic}
 
 -- the first status that is not 0 of these attempts
 abbrev pub first_exit : List PastDial → ℕ
@@ -39,9 +41,10 @@ pub record Adds (attempt : PastDial) (r s : Register) : Type 0 where
   pub meets : Meets attempt r.dials.items left others
   pub adds : (earlier : List PastDial) → r.status ≡ first_exit earlier → StandsFor s (earlier ++ (others ++ left ∷ []))
 
--- AN ATTEMPT OF THIS VERDICT WAS ADDED: it counts by the verdict's status.
-pub record Notes (v : HandshakeVerdict) (r s : Register) : Type 0 where
+-- AN ATTEMPT OF THIS CONNECTION AND VERDICT WAS ADDED: it counts by the verdict's status.
+pub record Notes (c : CapturedConnection) (v : HandshakeVerdict) (r s : Register) : Type 0 where
   pub attempt : PastDial
+  pub between : (attempt.dialler ≡ c.dialler) × (attempt.acceptor ≡ c.acceptor)
   pub verdict : attempt.verdict ≡ v
   pub exit : attempt.exit ≡ status_of v
   pub adds : Adds attempt r s
@@ -55,46 +58,61 @@ pub record SameAttempts (r s : Register) : Type 0 where
 
 -- ---- a whole capture
 
--- An attempt is judged by these terms: its verdict is that on what a connection carries, and it counts by its status.
-pub record IsJudged (t : Terms) (attempt : PastDial) : Type 0 where
+-- An attempt is judged by these terms: its verdict is that on what a connection carries, as these segments show between its two ports; and it
+-- counts by its status.
+pub record IsJudged (t : Terms) (segments : List Segment) (attempt : PastDial) : Type 0 where
   pub at_mapper : Bool
   pub carried : Traffic
   pub verdict : attempt.verdict ≡ verdict_on t at_mapper carried
+  pub shown : IsShown segments attempt.dialler attempt.acceptor carried
   pub exit : attempt.exit ≡ status_of attempt.verdict
 
 -- THE ATTEMPTS OF A CAPTURE, each judged, and added behind those before it
-pub data History (t : Terms) : List PastDial → Type 0 where
-  NoAttempt : History t []
-  NextAttempt : (earlier before : List PastDial) → History t (earlier ++ before) → (attempt : PastDial) → IsJudged t attempt
-      → (left : PastDial) (others : List PastDial) → Meets attempt before left others → History t (earlier ++ (others ++ left ∷ []))
+pub data History (t : Terms) (segments : List Segment) : List PastDial → Type 0 where
+  NoAttempt : History t segments []
+  NextAttempt : (earlier before : List PastDial) → History t segments (earlier ++ before) → (attempt : PastDial) → IsJudged t segments attempt
+      → (left : PastDial) (others : List PastDial) → Meets attempt before left others → History t segments (earlier ++ (others ++ left ∷ []))
 
--- The register counts attempts that were judged by these terms.
-pub record Counts (t : Terms) (r : Register) : Type 0 where
+-- The register counts attempts that were judged by these terms, of what these segments show.
+pub record Counts (t : Terms) (segments : List Segment) (r : Register) : Type 0 where
   pub terms : r.terms ≡ t
   pub attempts : List PastDial
-  pub history : History t attempts
+  pub history : History t segments attempts
   pub stands : StandsFor r attempts
 
--- it counts attempts that were judged by the same terms as before
+-- it counts attempts that were judged by the same terms as before, of the same segments
 abbrev pub GoesOnCounting : Register → Register → Type 0
-GoesOnCounting r s = (t : Terms) → Counts t r → Counts t s
+GoesOnCounting r s = (t : Terms) (segments : List Segment) → Counts t segments r → Counts t segments s
 
--- an attempt was added when its connection got a verdict, and by nothing else
-abbrev pub NotesBy : Option HandshakeVerdict → Option HandshakeVerdict → Register → Register → Type 0
-NotesBy None (Some v) r s = Notes v r s
-NotesBy before after r s = (after ≡ before) × SameAttempts r s
+-- the same where they show what the connection carries
+abbrev pub CountsBy : CapturedConnection → Register → Register → Type 0
+CountsBy c r s = (t : Terms) (segments : List Segment) → IsShownYet segments c → Counts t segments r → Counts t segments s
 
--- A CONNECTION'S ATTEMPT IS ADDED ONCE: when it gets its verdict, and by nothing else; and what is counted was judged.
-pub record NotesOnce (before after : Option HandshakeVerdict) (r s : Register) : Type 0 where
-  pub once : NotesBy before after r s
-  pub counting : GoesOnCounting r s
+-- an attempt of a connection was added when that got a verdict, and by nothing else
+abbrev pub NotesBy : CapturedConnection → Option HandshakeVerdict → Option HandshakeVerdict → Register → Register → Type 0
+NotesBy c None (Some v) r s = Notes c v r s
+NotesBy c before after r s = (after ≡ before) × SameAttempts r s
+
+-- A CONNECTION'S ATTEMPT IS ADDED ONCE: when it gets its verdict, and by nothing else; and what is counted was judged, of segments that show it.
+pub record NotesOnce (c e : CapturedConnection) (r s : Register) : Type 0 where
+  pub once : NotesBy c c.verdict e.verdict r s
+  pub counting : CountsBy c r s
+
+-- ---- segment by segment
+
+-- what the register counts was judged of these segments, and what the connection carries stands in them
+pub record Watches (t : Terms) (segments : List Segment) (r : Register) (c : CapturedConnection) : Type 0 where
+  pub counts : Counts t segments r
+  pub stands : StandsOn segments c
+
+abbrev pub GoesOnWatching : Register → CapturedConnection → Register → CapturedConnection → Type 0
+GoesOnWatching r c s e = (t : Terms) (segments : List Segment) → Watches t segments r c → Watches t segments s e
+
+-- the same where this segment is one of them, between the connection's two ports
+abbrev pub TakesOn : Segment → Register → CapturedConnection → Register → CapturedConnection → Type 0
+TakesOn next r c s e =
+    (t : Terms) (segments : List Segment) → Contains segments next → EndsOf next c.ends → Watches t segments r c → Watches t segments s e
 
 -- what the handshakes of a capture are judged by: a cookie, if one is known
 abbrev pub terms_of : Option (Bor (List ℕ)) → Terms
 terms_of cookie = record { viewpoint = viewpoint.Capture; target = None; cookie = ok_or cookie without.Missing }
-
--- THE EXIT STATUS OF A CAPTURE whose attempts were judged by these terms
-pub record EndsWith (t : Terms) (status : ℕ) : Type 0 where
-  pub attempts : List PastDial
-  pub history : History t attempts
-  pub exit : IsExit attempts status

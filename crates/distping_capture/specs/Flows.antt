@@ -1,5 +1,5 @@
 -- THE BYTES OF ONE SIDE OF A CONNECTION, in order, as far as none is missing (RFC 9293, 3.4; dist_capture, Streams.antt).
-use Rattle.std.specs.Prelude.{◌≡◌, ℕ, ◌+◌, ◌%◌, ◌^◌, Bool, true, false, List, [], ◌++◌, length, Option, Some, None, nat_lt, if◌then◌else◌, option_map}
+use Rattle.std.specs.Prelude.{◌≡◌, ◌⊎◌, ℕ, ◌+◌, ◌%◌, ◌^◌, ◌<◌, Bool, true, false, List, [], ◌++◌, length, Option, Some, None, nat_lt, if◌then◌else◌, option_map}
 use Rattle.dist_capture.specs.Streams.{Gathering, awaiting, consumed, taken}
 use Rattle.dist_capture.specs.declared.segment.Segment.{Segment}
 use Rattle.distping_capture.specs.declared.flow.Flow.{Flow}
@@ -29,7 +29,7 @@ gathered s g = if nat_lt (length g.ready) 131072 then taken g (number_of_first s
 abbrev pub BeginsBy : Bool → Option Gathering → Option Gathering → Type 0
 BeginsBy reads (Some g) later = later ≡ Some g
 BeginsBy false None later = later ≡ None
-BeginsBy true None later = (first : ℕ) × (later ≡ Some (awaiting first 65536))
+BeginsBy true None later = (first : ℕ) × (first < 2 ^ 32) × (later ≡ Some (awaiting first 65536))
 
 abbrev pub Begins : Flow → Option Gathering → Type 0
 Begins f later = BeginsBy f.is_read f.stream later
@@ -54,3 +54,27 @@ BringsBy true f s piece later = (piece ≡ []) × SameBytes f later
 
 abbrev pub Brings : Flow → Segment → List ℕ → Flow → Type 0
 Brings f s piece later = BringsBy s.is_reset f s piece later
+
+-- ---- bytes are read
+
+-- what is known behind the bytes that are ready: the number of the byte that is awaited, and what came from it on
+abbrev pub behind_in : Option Gathering → Option (ℕ × List (Option ℕ))
+behind_in None = None
+behind_in (Some g) = Some (g.next, g.waiting)
+
+-- No byte came, and none is given up; of those that are ready the first may be taken away.
+pub record SameBehind (f later : Flow) : Type 0 where
+  pub behind : behind_in later.stream ≡ behind_in f.stream
+  pub same : later.is_read ≡ f.is_read
+
+-- nothing of it came yet
+abbrev pub IsUnbegun : Flow → Type 0
+IsUnbegun f = (f.stream ≡ None) × (f.is_read ≡ true)
+
+-- none of its bytes are kept, and no more are read
+abbrev pub IsGone : Flow → Type 0
+IsGone f = (f.stream ≡ None) × (f.is_read ≡ false)
+
+-- no byte came
+abbrev pub IsReadOn : Flow → Flow → Type 0
+IsReadOn f later = SameBehind f later ⊎ IsGone later

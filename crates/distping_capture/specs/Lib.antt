@@ -1,4 +1,6 @@
 pub mod Attempts
+pub mod Captures
+pub mod Carried
 pub mod Connections
 pub mod Crossings
 pub mod Delivered

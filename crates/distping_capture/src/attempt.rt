@@ -3,7 +3,7 @@
 ghost use Rattle.std.specs.Prelude.{◌≡◌, ℕ, IfSome, IsTrue};
 ghost use Rattle.dist_talk.specs.declared.handshake.Handshake.{Handshake};
 ghost use Rattle.distping_capture.specs.Endings.{IsConcluded, IsFirstEnd, IsOverdue, Shows, ShowsEnd, ShowsFault, last_said};
-ghost use Rattle.distping_capture.specs.{Attempts.verdict_on, Connections.Stays};
+ghost use Rattle.distping_capture.specs.{Attempts.verdict_on, Connections.SaysNoMore, Connections.Stays};
 
 use crate::connection::{CapturedConnection, PATIENCE};
 use crate::flow::FlowEnd;
@@ -121,7 +121,8 @@ impl CapturedConnection {
 
     /// Notes that TLS was dialled where a plain node listens: it took the connection, said nothing, and no byte of it is missing.
     pub fn conclude_tls(&mut self, alloc: Global, now: u64)
-        ensures { self.new ≡ record self.old { content = self.new.content } }
+        ensures rest { self.new ≡ record self.old { content = self.new.content } }
+        ensures says { SaysNoMore self.old self.new }
     {
         let is_left = self.first_end().is_some() || now.saturating_sub(self.began) >= PATIENCE;
         if is_left && !self.flow(Side::Acceptor).has_spoken && !self.lacks_bytes(Side::Acceptor) {
@@ -147,14 +148,12 @@ impl CapturedConnection {
 
     /// Notes that a port mapper gave no answer to a registration or a lookup.
     pub fn conclude_mapper(&mut self, now: u64)
-        ensures { self.new ≡ record self.old { content = self.new.content } }
+        ensures rest { self.new ≡ record self.old { content = self.new.content } }
+        ensures says { SaysNoMore self.old self.new }
     {
         let fault = self.answer_fault(now);
-        if let Traffic::Mapper(talk) = &mut self.content
-            && talk.request.is_some()
-            && !talk.is_done()
-        {
-            talk.fault = fault;
+        if let Traffic::Mapper(talk) = &mut self.content {
+            talk.conclude(fault);
         }
     }
 

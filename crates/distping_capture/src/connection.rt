@@ -2,9 +2,9 @@
 
 ghost use Rattle.std.specs.Prelude.{◌≡◌, ℕ, List, IfNone, IfSome, IsTrue, OnOk};
 ghost use Rattle.distping_capture.specs.Endings.{IsFirstEnd, NeitherEnded, WasNeverMade};
-ghost use Rattle.distping_capture.specs.Connections.{Finds, Follows, Gathers, GoesOn, Holds, IsFrom, IsLeft, Keeps};
-ghost use Rattle.distping_capture.specs.Connections.{SameEnds, Sent, Stays, Still, Tells, flow_of, nothing_sent};
-ghost use Rattle.distping_capture.specs.Flows.{Brings, SameBytes};
+ghost use Rattle.distping_capture.specs.Connections.{AreEnds, EndsOf, Finds, Follows, Gathers, GoesOn, Holds, IsFrom, IsLeft, Keeps, KeepsEnds};
+ghost use Rattle.distping_capture.specs.Connections.{ReadsBoth, SameEnds, Sent, Stays, Still, Tells, flow_of, nothing_sent};
+ghost use Rattle.distping_capture.specs.Flows.{Brings, IsGone, IsUnbegun, SameBytes};
 
 use crate::flow::{Flow, FlowEnd};
 use crate::messages::read_messages;
@@ -73,7 +73,9 @@ fn is_from_dialler(segment: &Segment, mapper_port: u16) -> bool {
 }
 
 /// The two ends of a segment's connection, the lesser first.
-pub fn ends_of(segment: &Segment) -> (Endpoint, Endpoint) {
+pub fn ends_of(segment: &Segment) -> (Endpoint, Endpoint)
+    ensures { EndsOf segment.now result }
+{
     let (one, other) = (segment.from, segment.to);
     (one.min(other), one.max(other))
 }
@@ -81,7 +83,10 @@ pub fn ends_of(segment: &Segment) -> (Endpoint, Endpoint) {
 impl CapturedConnection {
     /// The connection of this segment, which was not taken yet.
     pub fn new(segment: &Segment, mapper_port: u16) -> CapturedConnection
-        ensures { Holds result nothing_sent }
+        ensures holds { Holds result nothing_sent }
+        ensures tells { Tells result nothing_sent }
+        ensures ends { AreEnds result × EndsOf segment.now result.ends }
+        ensures unbegun { IsUnbegun result.from_dialler × IsUnbegun result.from_acceptor }
     {
         let (dialler, acceptor) = if is_from_dialler(segment, mapper_port) {
             (segment.from, segment.to)
@@ -126,6 +131,13 @@ impl CapturedConnection {
         }
     }
 
+    /// Whether these are its two ends.
+    pub fn is_between(&self, ends: (Endpoint, Endpoint)) -> bool
+        ensures { IsTrue result → self.now.ends ≡ ends }
+    {
+        self.ends == ends
+    }
+
     /// The side that sends this segment.
     pub fn side_of(&self, segment: &Segment) -> Side
         ensures { IsFrom self.now segment.now result }
@@ -153,9 +165,10 @@ impl CapturedConnection {
         }
     }
 
-    /// Whether both sides closed it, or one reset it.
-    pub fn is_over(&self) -> bool {
-        self.is_reset || self.from_dialler.end.is_some() && self.from_acceptor.end.is_some()
+    /// Whether both sides closed it, or one reset it; or it carries anything else, of which no more is read.
+    pub fn is_finished(&self) -> bool {
+        let is_closed = self.from_dialler.end.is_some() && self.from_acceptor.end.is_some();
+        self.is_reset || is_closed || matches!(&self.content, Traffic::Other)
     }
 
     /// Whether this segment begins a new connection between the same two ports: it is no copy of the one that began this one.
@@ -302,7 +315,8 @@ impl CapturedConnection {
 
     /// Reads no more of it.
     pub fn stop_reading(&mut self)
-        ensures { self.new ≡ record self.old { from_dialler = self.new.from_dialler; from_acceptor = self.new.from_acceptor } }
+        ensures gone { IsGone self.new.from_dialler × IsGone self.new.from_acceptor }
+        ensures rest { self.new ≡ record self.old { from_dialler = self.new.from_dialler; from_acceptor = self.new.from_acceptor } }
     {
         self.from_dialler.stop_reading();
         self.from_acceptor.stop_reading();
@@ -310,6 +324,9 @@ impl CapturedConnection {
 
     /// Forgets what was said on it.
     pub fn forget(&mut self)
+        ensures content { self.new.content ≡ Traffic.Other }
+        ensures gone { IsGone self.new.from_dialler × IsGone self.new.from_acceptor }
+        ensures ends { SameEnds self.old self.new }
         ensures verdict { self.new.verdict ≡ self.old.verdict }
         ensures reported { self.new.is_reported ≡ self.old.is_reported }
     {
@@ -331,10 +348,15 @@ impl CapturedConnection {
         mem::swap(&mut self.from_dialler, &mut self.from_acceptor);
     }
 
-    // Finds out what it carries, if enough was captured for that.
+    // Finds out what it carries, if that is not known, and enough was captured for that.
     fn recognize(&mut self, alloc: Global)
-        ensures { (b : Sent) → self.old.content ≡ Traffic.Unknown → Holds self.old b → Finds self.old self.new b }
+        ensures finds { (b : Sent) → Holds self.old b → Finds self.old self.new b }
+        ensures ends { KeepsEnds self.old self.new }
+        ensures verdict { self.new.verdict ≡ self.old.verdict }
     {
+        if !matches!(&self.content, Traffic::Unknown) {
+            return;
+        }
         let looks = (
             look_at(self.from_dialler.bytes()),
             look_at(self.from_acceptor.bytes()),
@@ -354,7 +376,8 @@ impl CapturedConnection {
 
     // Reads the messages of its handshake that are whole, if it carries one.
     fn read_handshake(&mut self, alloc: Global, at: u64) -> Result<(), AllocError>
-        ensures { OnOk result (SameEnds self.old self.new × ((b : Sent) → Holds self.old b → Holds self.new b × Tells self.new b)) }
+        ensures reads { OnOk result (ReadsBoth self.old self.new) }
+        ensures verdict { self.new.verdict ≡ self.old.verdict }
     {
         if let Traffic::Handshake(handshake) = &mut self.content {
             let flow = &mut self.from_dialler;
@@ -368,7 +391,8 @@ impl CapturedConnection {
 
     // Reads what is said to a port mapper, if it is that. Returns whether it answered by that.
     fn read_mapper(&mut self, alloc: Global) -> Result<bool, AllocError>
-        ensures { OnOk result (Keeps self.old self.new) }
+        ensures keeps { OnOk result (Keeps self.old self.new) }
+        ensures verdict { self.new.verdict ≡ self.old.verdict }
     {
         let Traffic::Mapper(talk) = &mut self.content else {
             return Ok(false);
@@ -393,11 +417,11 @@ impl CapturedConnection {
 
     // Reads what the connection carries. Returns whether a port mapper answered.
     fn read(&mut self, alloc: Global, at: u64) -> Result<bool, AllocError>
-        ensures { OnOk result ((b : Sent) → Holds self.old b → GoesOn self.old self.new b) }
+        ensures goes_on { OnOk result ((b : Sent) → Holds self.old b → GoesOn self.old self.new b) }
+        ensures ends { OnOk result (KeepsEnds self.old self.new) }
+        ensures verdict { self.new.verdict ≡ self.old.verdict }
     {
-        if matches!(&self.content, Traffic::Unknown) {
-            self.recognize(alloc);
-        }
+        self.recognize(alloc);
         self.read_handshake(alloc, at)?;
         if self.is_left() {
             self.stop_reading();
@@ -408,7 +432,8 @@ impl CapturedConnection {
 
     // Notes that the connection is dialled, or was made, if a segment shows it.
     fn note_sign(&mut self, segment: &Segment)
-        ensures { Still self.old self.new }
+        ensures still { Still self.old self.new }
+        ensures verdict { self.new.verdict ≡ self.old.verdict }
     {
         self.latest = segment.time;
         let is_opening = segment.is_syn && !segment.is_ack;
@@ -432,7 +457,8 @@ impl CapturedConnection {
 
     // Notes that a side closed or reset the connection, if a segment says so, and has a number that may.
     fn note_end(&mut self, side: Side, segment: &Segment)
-        ensures { Still self.old self.new }
+        ensures still { Still self.old self.new }
+        ensures verdict { self.new.verdict ≡ self.old.verdict }
     {
         if !segment.is_fin && !segment.is_reset {
             return;
@@ -453,7 +479,8 @@ impl CapturedConnection {
 
     // Takes a segment of this side, and notes what that acknowledges.
     fn gather(&mut self, alloc: Global, side: Side, segment: &Segment) -> Result<(), AllocError>
-        ensures { OnOk result (Gathers side self.old segment.now self.new) }
+        ensures gathers { OnOk result (Gathers side self.old segment.now self.new) }
+        ensures verdict { self.new.verdict ≡ self.old.verdict }
     {
         match side {
             Side::Dialler => gather(
@@ -473,7 +500,8 @@ impl CapturedConnection {
 
     /// Takes a segment of this connection. Returns whether a port mapper answered by it.
     pub fn take(&mut self, alloc: Global, segment: &Segment) -> Result<bool, AllocError>
-        ensures { OnOk result (Follows self.old segment.now self.new) }
+        ensures follows { OnOk result (Follows self.old segment.now self.new) }
+        ensures verdict { self.new.verdict ≡ self.old.verdict }
     {
         let side = self.side_of(segment);
         self.note_sign(segment);

@@ -1,8 +1,9 @@
 //! All connections of a capture.
 
-ghost use Rattle.std.specs.Prelude.{◌≡◌, ◌<◌, ◌≤◌, [], IfOk, remove, OnOk, vec_len};
+ghost use Rattle.std.specs.Prelude.{◌≡◌, ◌<◌, ◌≤◌, [], IfOk, List, remove, OnOk, vec_len};
 ghost use Rattle.dist_talk.specs.declared.terms.Terms.{Terms};
-ghost use Rattle.distping_capture.specs.Exits.{Counts, EndsWith, GoesOnCounting};
+ghost use Rattle.distping_capture.specs.Captures.{CountsTo, GoesOnTracking, HandsOn, IsPlaceOf, Tracks, TracksNext};
+ghost use Rattle.dist_capture.specs.declared.segment.Segment.{Segment};
 
 use crate::connection::{CapturedConnection, ends_of};
 use crate::left_out::PacketsLeftOut;
@@ -36,7 +37,7 @@ pub struct Finder<'x> {
 impl<'x> Finder<'x> {
     /// A finder that has seen nothing.
     pub fn new(lines: LineSink<'x>, terms: Terms<'x>, mapper_port: u16) -> Finder<'x>
-        ensures { Counts terms.entry result.register }
+        ensures { Tracks terms.entry [] result }
     {
         Finder {
             register: Register::new(lines, terms),
@@ -76,7 +77,7 @@ impl<'x> Finder<'x> {
 
     // Forgets the connection at this place, and prints what there is to say of it.
     fn give_up(&mut self, place: usize) -> Result<(), Fault>
-        ensures counting { OnOk result (GoesOnCounting self.old.register self.new.register) }
+        ensures tracking { OnOk result (GoesOnTracking self.old self.new) }
         ensures given_up { place < vec_len self.old.connections → self.new.connections.items ≡ remove self.old.connections.items place }
     {
         if place >= self.connections.len() {
@@ -89,7 +90,7 @@ impl<'x> Finder<'x> {
 
     // The same to have room for another one.
     fn forget(&mut self, place: usize) -> Result<(), Fault>
-        ensures { OnOk result (GoesOnCounting self.old.register self.new.register) }
+        ensures { OnOk result (GoesOnTracking self.old self.new) }
     {
         let is_open = self
             .connections
@@ -101,7 +102,7 @@ impl<'x> Finder<'x> {
 
     // Forgets a connection if there is no room for another one.
     fn make_room(&mut self) -> Result<(), Fault>
-        ensures { OnOk result (GoesOnCounting self.old.register self.new.register) }
+        ensures { OnOk result (GoesOnTracking self.old self.new) }
     {
         if self.connections.len() < MOST_CONNECTIONS {
             return Ok(());
@@ -118,12 +119,13 @@ impl<'x> Finder<'x> {
 
     // Where the connection of a segment is. If there is none, it is made.
     fn place_for(&mut self, segment: &Segment) -> Result<usize, Fault>
-        ensures { OnOk result (GoesOnCounting self.old.register self.new.register) }
+        ensures tracking { OnOk result (GoesOnTracking self.old self.new) }
+        ensures place { IfOk result (λ place. IsPlaceOf segment.now self.new place) }
     {
         let ends = ends_of(segment);
         let place = self.place_of(ends);
         match self.connections.get(place) {
-            Some(connection) if connection.ends == ends => return Ok(place),
+            Some(connection) if connection.is_between(ends) => return Ok(place),
             _ => {}
         }
         self.make_room()?;
@@ -136,7 +138,7 @@ impl<'x> Finder<'x> {
 
     // Takes a segment of the connection at this place.
     fn hand_on(&mut self, place: usize, segment: &Segment) -> Result<(), Fault>
-        ensures { OnOk result (GoesOnCounting self.old.register self.new.register) }
+        ensures { OnOk result (HandsOn segment.now place self.old self.new) }
     {
         let Some(connection) = self.connections.get_mut(place) else {
             return Ok(());
@@ -152,7 +154,7 @@ impl<'x> Finder<'x> {
 
     /// Takes the next segment of the capture.
     pub fn take(&mut self, segment: &Segment) -> Result<(), Fault>
-        ensures { OnOk result (GoesOnCounting self.old.register self.new.register) }
+        ensures { OnOk result (TracksNext segment.now self.old self.new) }
     {
         self.register.note_time(segment.time);
         let place = self.place_for(segment)?;
@@ -165,7 +167,7 @@ impl<'x> Finder<'x> {
 
     /// Prints what is open, the longest quiet first.
     pub fn give_up_all(&mut self) -> Result<(), Fault>
-        ensures counting { OnOk result (GoesOnCounting self.old.register self.new.register) }
+        ensures tracking { OnOk result (GoesOnTracking self.old self.new) }
         ensures none { OnOk result (self.new.connections.items ≡ []) }
     {
         'open: while !self.connections.is_empty() {
@@ -177,7 +179,7 @@ impl<'x> Finder<'x> {
     /// Ends the capture, of which so many packets gave no segment: prints what is open, then the summary by pair, and what was left out.
     /// Returns the exit status: the first that is not 0 of the attempts.
     pub fn finish(&mut self, counts: SkippedCounts, is_cut_off: bool) -> Result<u8, Fault>
-        ensures { IfOk result (λ status. (t : Terms) → Counts t self.old.register → EndsWith t status) }
+        ensures { IfOk result (λ status. (t : Terms) (segments : List Segment) → Tracks t segments self.old → CountsTo t segments status) }
     {
         self.give_up_all()?;
         self.register.finish(&PacketsLeftOut {

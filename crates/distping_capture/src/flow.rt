@@ -1,8 +1,9 @@
 //! What one side of a connection sends, by its sequence numbers (RFC 9293, 3.4: they are compared modulo 2^32).
 
-ghost use Rattle.std.specs.Prelude.{◌≡◌, ℕ, List, None, OnOk, Some, true};
+ghost use Rattle.std.specs.Prelude.{◌≡◌, ℕ, List, OnOk, Some};
 ghost use Rattle.distping_capture.specs.Endings.{awaited_of, end_before, is_ahead, is_known_ahead, is_unread};
-ghost use Rattle.distping_capture.specs.Flows.{Begins, Brings, Delivers, SameBytes, bytes_of, gathered, number_of_first, without_first};
+ghost use Rattle.distping_capture.specs.Flows.{Begins, Brings, Delivers, IsGone, IsUnbegun, SameBehind, SameBytes};
+ghost use Rattle.distping_capture.specs.Flows.{bytes_of, gathered, number_of_first, without_first};
 
 use dist_capture::{Segment, SegmentStream};
 use std::alloc::{AllocError, Global};
@@ -96,7 +97,7 @@ fn gather(stream: &mut SegmentStream, segment: &Segment) -> Result<bool, AllocEr
 impl Flow {
     /// Nothing was sent yet, and the connection's first segment was captured at this time.
     pub fn new(at: u64) -> Flow
-        ensures { (result.stream ≡ None) × (result.is_read ≡ true) }
+        ensures { IsUnbegun result }
     {
         Flow {
             stream: None,
@@ -130,7 +131,8 @@ impl Flow {
 
     /// Takes the first bytes away.
     pub fn consume(&mut self, count: usize)
-        ensures { self.new ≡ without_first self.old count }
+        ensures left { self.new ≡ without_first self.old count }
+        ensures behind { SameBehind self.old self.new }
     {
         if let Some(stream) = &mut self.stream {
             stream.consume(count);
@@ -146,7 +148,9 @@ impl Flow {
     }
 
     /// Reads no more of its bytes.
-    pub fn stop_reading(&mut self) {
+    pub fn stop_reading(&mut self)
+        ensures { IsGone self.new }
+    {
         self.stream = None;
         self.is_read = false;
     }

@@ -1,7 +1,7 @@
 //! Reads a capture, and prints what it shows.
 
 ghost use Rattle.std.specs.Prelude.{IfOk, OnOk};
-ghost use Rattle.distping_capture.specs.Exits.{EndsWith, GoesOnCounting, terms_of};
+ghost use Rattle.distping_capture.specs.{Captures.EndsWith, Captures.ReadsIn, Captures.TakesIn, Exits.terms_of};
 
 use crate::finder::Finder;
 use dist_capture::{Capture, CaptureFault};
@@ -18,7 +18,7 @@ const PIECE: usize = 65_536;
 
 // Takes the segments that are whole in what was read.
 fn take_segments(capture: &mut Capture, finder: &mut Finder<'_>) -> Result<(), Fault>
-    ensures { OnOk result (GoesOnCounting finder.old.register finder.new.register) }
+    ensures { OnOk result (TakesIn capture.old finder.old capture.new finder.new) }
 {
     'segments: for _ in 0..u64::MAX {
         match capture.next() {
@@ -38,7 +38,7 @@ fn take_all<F: Read + Drop>(
     capture: &mut Capture,
     finder: &mut Finder<'_>,
 ) -> Result<(), Fault>
-    ensures { OnOk result (GoesOnCounting finder.old.register finder.new.register) }
+    ensures { OnOk result (ReadsIn capture.old finder.old capture.new finder.new) }
 {
     let mut file = file;
     let mut room = vec![in alloc; 0u8; PIECE]?;
@@ -81,7 +81,7 @@ fn take_path(
     capture: &mut Capture,
     finder: &mut Finder<'_>,
 ) -> Result<(), Fault>
-    ensures { OnOk result (GoesOnCounting finder.old.register finder.new.register) }
+    ensures { OnOk result (ReadsIn capture.old finder.old capture.new finder.new) }
 {
     if path == "-" {
         take_all(rt.alloc(), rt.stdin(), capture, finder)

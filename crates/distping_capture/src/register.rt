@@ -1,10 +1,13 @@
 //! What is printed of connections, and what several of them show together: how often which pair of nodes came to what, restarts, names
 //! that two hosts use, dials that cross, lookups that lead elsewhere, and what leaves a wrong cookie in doubt.
 
-ghost use Rattle.std.specs.Prelude.{◌≡◌, ◌++◌, [], ◌∷◌, ◌==◌, IfOk, List, OnOk, true, if◌then◌else◌};
-ghost use Rattle.distping_capture.specs.{Attempts.verdict_on, Connections.Judges, Connections.SameConnection, declared.dials.PastDial.PastDial};
+ghost use Rattle.std.specs.Prelude.{◌≡◌, ◌++◌, [], ◌∷◌, ◌==◌, IfOk, IsSome, List, OnOk, true, if◌then◌else◌};
+ghost use Rattle.distping_capture.specs.Connections.{EndsOf, Judges, SameConnection, SameEnds, SaysNoMore};
+ghost use Rattle.dist_capture.specs.declared.segment.Segment.{Segment};
+ghost use Rattle.distping_capture.specs.{Attempts.verdict_on, declared.dials.PastDial.PastDial};
 ghost use Rattle.dist_talk.specs.{Words.status_of, declared.terms.Terms.Terms};
-ghost use Rattle.distping_capture.specs.Exits.{Adds, Counts, GoesOnCounting, Notes, NotesOnce, SameAttempts, StandsFor, exit_now, exit_of, first_exit};
+ghost use Rattle.distping_capture.specs.Exits.{Adds, Counts, GoesOnCounting, GoesOnWatching, Notes, NotesOnce, SameAttempts, StandsFor};
+ghost use Rattle.distping_capture.specs.Exits.{TakesOn, exit_now, exit_of, first_exit};
 
 use crate::connection::CapturedConnection;
 use crate::dials::{PastDial, add, by_pairs};
@@ -74,7 +77,7 @@ fn first_exit(dials: &[PastDial]) -> u8
 impl<'x> Register<'x> {
     /// Nothing is remembered.
     pub fn new(lines: LineSink<'x>, terms: Terms<'x>) -> Register<'x>
-        ensures { Counts terms.entry result }
+        ensures { (segments : List Segment) → Counts terms.entry segments result }
     {
         let alloc = lines.alloc;
         Register {
@@ -156,6 +159,7 @@ impl<'x> Register<'x> {
         name: ByteString,
         other: ByteString,
     ) -> PastDial
+        ensures between { (result.dialler ≡ connection.now.dialler) × (result.acceptor ≡ connection.now.acceptor) }
         ensures verdict { result.verdict ≡ verdict }
         ensures exit { result.exit ≡ status_of verdict }
     {
@@ -179,7 +183,7 @@ impl<'x> Register<'x> {
         connection: &CapturedConnection,
         verdict: HandshakeVerdict,
     ) -> Result<(), Fault>
-        ensures { OnOk result (Notes verdict self.old self.new) }
+        ensures { OnOk result (Notes connection.now verdict self.old self.new) }
     {
         let lines = self.lines;
         self.nodes.note_sides(lines, connection)?;
@@ -195,7 +199,7 @@ impl<'x> Register<'x> {
     fn put_attempt(&mut self, connection: &mut CapturedConnection) -> Result<(), Fault>
         ensures connection { SameConnection connection.old connection.new }
         ensures judges { OnOk result (Judges self.old.terms connection.old connection.new
-            × Notes (verdict_on self.old.terms connection.new.is_at_mapper connection.new.content) self.old self.new) }
+            × Notes connection.old (verdict_on self.old.terms connection.new.is_at_mapper connection.new.content) self.old self.new) }
     {
         connection.conclude(&self.terms, self.time);
         connection.stop_reading();
@@ -208,7 +212,8 @@ impl<'x> Register<'x> {
     // The same, unless it was printed.
     fn put_attempt_once(&mut self, connection: &mut CapturedConnection) -> Result<(), Fault>
         ensures connection { SameConnection connection.old connection.new }
-        ensures once { OnOk result (NotesOnce connection.old.verdict connection.new.verdict self.old self.new) }
+        ensures verdict { OnOk result (IsSome connection.new.verdict) }
+        ensures once { OnOk result (NotesOnce connection.old connection.new self.old self.new) }
     {
         if connection.verdict.is_some() {
             return Ok(());
@@ -234,7 +239,7 @@ impl<'x> Register<'x> {
     // Prints what there is to say of an attempt at the end of its connection.
     fn end_attempt(&mut self, connection: &mut CapturedConnection) -> Result<(), Fault>
         ensures connection { SameConnection connection.old connection.new }
-        ensures once { OnOk result (NotesOnce connection.old.verdict connection.new.verdict self.old self.new) }
+        ensures once { OnOk result (NotesOnce connection.old connection.new self.old self.new) }
     {
         self.put_attempt_once(connection)?;
         self.put_attempt_end(connection)
@@ -260,7 +265,7 @@ impl<'x> Register<'x> {
     // Judges what a port mapper answered, or did not, if anything is wrong with it and it was not judged: prints that, and remembers it.
     fn judge_mapper(&mut self, connection: &mut CapturedConnection) -> Result<(), Fault>
         ensures connection { connection.new ≡ record connection.old { verdict = connection.new.verdict } }
-        ensures once { OnOk result (NotesOnce connection.old.verdict connection.new.verdict self.old self.new) }
+        ensures once { OnOk result (NotesOnce connection.old connection.new self.old self.new) }
     {
         if connection.verdict.is_some() || !connection.has_mapper_fault() {
             return Ok(());
@@ -298,7 +303,7 @@ impl<'x> Register<'x> {
     // Prints what a port mapper answered, and the verdict on it.
     fn take_answer(&mut self, connection: &mut CapturedConnection) -> Result<(), Fault>
         ensures connection { connection.new ≡ record connection.old { verdict = connection.new.verdict } }
-        ensures once { OnOk result (NotesOnce connection.old.verdict connection.new.verdict self.old self.new) }
+        ensures once { OnOk result (NotesOnce connection.old connection.new self.old self.new) }
     {
         self.put_found(connection)?;
         self.judge_mapper(connection)
@@ -332,7 +337,7 @@ impl<'x> Register<'x> {
     // Prints what there is to say of a conversation with a port mapper at its end.
     fn end_mapper(&mut self, connection: &mut CapturedConnection) -> Result<(), Fault>
         ensures connection { SameConnection connection.old connection.new }
-        ensures once { OnOk result (NotesOnce connection.old.verdict connection.new.verdict self.old self.new) }
+        ensures once { OnOk result (NotesOnce connection.old connection.new self.old self.new) }
     {
         connection.conclude_mapper(self.time);
         self.put_talk_end(connection)?;
@@ -356,6 +361,7 @@ impl<'x> Register<'x> {
     // node listens, or that what was said to a node is missing.
     fn conclude_content(&self, connection: &mut CapturedConnection)
         ensures connection { connection.new ≡ record connection.old { content = connection.new.content } }
+        ensures says { SaysNoMore connection.old connection.new }
     {
         if connection.verdict.is_some() {
             return;
@@ -384,21 +390,32 @@ impl<'x> Register<'x> {
         )])
     }
 
+    // Prints what there is to say of what a connection carries, at its end.
+    fn end_content(&mut self, connection: &mut CapturedConnection) -> Result<(), Fault>
+        ensures connection { SameConnection connection.old connection.new }
+        ensures once { OnOk result (NotesOnce connection.old connection.new self.old self.new) }
+    {
+        match &connection.content {
+            Traffic::Handshake(_) | Traffic::Unreached(_) => self.end_attempt(connection),
+            Traffic::Mapper(_) => self.end_mapper(connection),
+            Traffic::Tls => self.put_tls(connection),
+            Traffic::Unknown | Traffic::Other => Ok(()),
+        }
+    }
+
     /// Prints what there is to say of a connection at its end, once. What was said on it is then forgotten.
     pub fn end(&mut self, connection: &mut CapturedConnection) -> Result<(), Fault>
         ensures reported { OnOk result (connection.new.is_reported ≡ true) }
-        ensures once { OnOk result (NotesOnce connection.old.verdict connection.new.verdict self.old self.new) }
+        ensures ends { OnOk result (SameEnds connection.old connection.new) }
+        ensures once { OnOk result (NotesOnce connection.old connection.new self.old self.new) }
+        ensures watching { OnOk result (GoesOnWatching self.old connection.old self.new connection.new) }
     {
-        if mem::replace(&mut connection.is_reported, true) {
+        if connection.is_reported {
             return Ok(());
         }
+        connection.is_reported = true;
         self.conclude_content(connection);
-        match &connection.content {
-            Traffic::Handshake(_) | Traffic::Unreached(_) => self.end_attempt(connection)?,
-            Traffic::Mapper(_) => self.end_mapper(connection)?,
-            Traffic::Tls => self.put_tls(connection)?,
-            Traffic::Unknown | Traffic::Other => {}
-        }
+        self.end_content(connection)?;
         connection.forget();
         Ok(())
     }
@@ -418,7 +435,8 @@ impl<'x> Register<'x> {
         segment: &Segment,
         mapper_port: u16,
     ) -> Result<(), Fault>
-        ensures { OnOk result (GoesOnCounting self.old self.new) }
+        ensures ends { OnOk result (EndsOf segment.now connection.old.ends → EndsOf segment.now connection.new.ends) }
+        ensures watching { OnOk result (GoesOnWatching self.old connection.old self.new connection.new) }
     {
         if !connection.is_before(segment) {
             return Ok(());
@@ -450,7 +468,7 @@ impl<'x> Register<'x> {
 
     // Reads a segment of a connection, and prints what a port mapper answered by it.
     fn read(&mut self, connection: &mut CapturedConnection, segment: &Segment) -> Result<(), Fault>
-        ensures { OnOk result (GoesOnCounting self.old self.new) }
+        ensures { OnOk result (TakesOn segment.now self.old connection.old self.new connection.new) }
     {
         if connection.take(self.lines.alloc, segment)? {
             return self.take_answer(connection);
@@ -460,7 +478,7 @@ impl<'x> Register<'x> {
 
     // Prints an attempt that came up.
     fn put_settled(&mut self, connection: &mut CapturedConnection) -> Result<(), Fault>
-        ensures { OnOk result (GoesOnCounting self.old self.new) }
+        ensures { OnOk result (GoesOnWatching self.old connection.old self.new connection.new) }
     {
         if connection.is_settled() {
             return self.put_attempt_once(connection);
@@ -474,7 +492,7 @@ impl<'x> Register<'x> {
         connection: &mut CapturedConnection,
         segment: &Segment,
     ) -> Result<(), Fault>
-        ensures { OnOk result (GoesOnCounting self.old self.new) }
+        ensures { OnOk result (TakesOn segment.now self.old connection.old self.new connection.new) }
     {
         if connection.is_reported {
             return Ok(());
@@ -482,7 +500,7 @@ impl<'x> Register<'x> {
         self.note_host(connection, segment)?;
         self.read(connection, segment)?;
         self.put_settled(connection)?;
-        if connection.is_over() || matches!(&connection.content, Traffic::Other) {
+        if connection.is_finished() {
             return self.end(connection);
         }
         Ok(())

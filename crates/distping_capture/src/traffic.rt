@@ -122,6 +122,13 @@ impl MapperTalk {
         Ok(true)
     }
 
+    /// Notes why a registration or a lookup has no answer.
+    pub fn conclude(&mut self, fault: Option<LookupError>) {
+        if self.request.is_some() && !self.is_done() {
+            self.fault = fault;
+        }
+    }
+
     /// The verdict on what was answered, or that nothing was. `None` if nothing is wrong with it.
     pub fn verdict(&self) -> Option<HandshakeVerdict>
         ensures { result ≡ talk_verdict self.now.answer self.now.fault }

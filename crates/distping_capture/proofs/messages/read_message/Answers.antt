@@ -20,4 +20,4 @@ returns-clause-reads c =
     let open_ : is_done c.args.side (said_by c.args.side c.args.handshake.now) ≡ false = sym c.is_done.ensures ∙ c.if-is_done.false in
     let few : count_of c.args.handshake.now < 16 = omega arith in
     reads_one c.args.side c.in-Whole.body.now c.in_ok-content.content c.args.at c.args.handshake.now c.take.new.self c.args.flow.now c.consume-2.new.self first
-    c.in-Whole.ensures.1 c.in_ok-content.ensures c.in_ok-take.ensures.ok open_ few c.consume-2.ensures
+    c.in-Whole.ensures.1 c.in_ok-content.ensures c.in_ok-take.ensures.ok open_ few c.consume-2.ensures.left c.consume-2.ensures.behind

@@ -1,6 +1,6 @@
--- What is counted was judged.
-use Rattle.distping_capture.specs.Exits.{GoesOnCounting}
+-- The segments that were returned were taken.
+use Rattle.distping_capture.specs.Captures.{TakesIn}
 use Rattle.distping_capture.proofs.reading.take_segments.Given as goal
 
 abbrev pub invariant-segments : goal.invariant-segments
-invariant-segments l = GoesOnCounting l.initial.finder.register l.finder.register
+invariant-segments l = TakesIn l.initial.capture l.initial.finder l.capture l.finder

@@ -1,0 +1,152 @@
+-- All connections of a capture, segment by segment.
+use Rattle.std.proofs.Common.{◌≡◌, ℕ, suc, ◌<◌, ◌≤◌, List, [], ◌∷◌, ◌++◌, length, take, drop, map, get_or, set, Option, Some, None, refl, sym, ap, subst, ◌∙◌, append-nil, append_assoc, arith, slice_get, ◌+◌, IfSome, Result}
+use Rattle.std.specs.List.{All, Contains, insert, remove}
+use Rattle.std.proofs.lemmas.List.Edits.{get_or-insert_at, length-insert}
+use Rattle.std.proofs.lemmas.List.Elements.{All-append, All-cons, All-drop, All-get_or, All-nil, All-set, All-take, All-weaker}
+use Rattle.std.proofs.lemmas.Option.{slice_get-get_or}
+use Rattle.dist_capture.specs.Reading.{Done, EndsAt, Next, Reading, Reads, Was, Opened, Fed, Asked, unread, view_of, with_bytes}
+use Rattle.dist_capture.specs.{Tcp.Said, declared.segment.Endpoint.Endpoint, declared.segment.Segment.Segment}
+use Rattle.std.specs.Borrow.{Bor}
+use Rattle.dist_talk.specs.declared.{terms.Terms.Terms, verdict.NoCookie.NoCookie}
+use Rattle.dist_talk.specs.declared.terms.Viewpoint.TheVariants as viewpoint
+use Rattle.std.specs.declared.boxed.Box.{Box}
+use Rattle.std.specs.Global.{Global}
+use Rattle.distping_capture.specs.Captures.{CountsTo, EndsWith, IsAt, ReadsIn, TakesIn, Tracks, TracksNext}
+use Rattle.distping_capture.specs.{Carried.StandsOn, Connections.EndsOf}
+use Rattle.distping_capture.specs.Exits.{Counts, GoesOnCounting, GoesOnWatching, TakesOn}
+use Rattle.distping_capture.specs.declared.{connection.CapturedConnection.CapturedConnection, finder.Finder.Finder, register.Register.Register}
+use Rattle.distping_capture.proofs.Counting.{counts_on}
+use Rattle.distping_capture.proofs.Watching.{stands_more}
+
+abbrev pub Boxed : Type 0
+Boxed = Box CapturedConnection Global
+
+-- what is in a box
+abbrev pub IsOn : List Segment → Boxed → Type 0
+IsOn segments b = StandsOn segments b.value
+
+-- what is counted was judged, and what the connections carry stands in the segments
+abbrev pub TracksBy : Terms → List Segment → Register → List Boxed → Type 0
+TracksBy t segments r xs = Counts t segments r × All (IsOn segments) xs
+
+pub tracks_none : (t : Terms) (r : Register) (xs : List Boxed) → xs ≡ [] → Counts t [] r → TracksBy t [] r xs
+tracks_none t r xs none counts = (counts, subst (All (IsOn [])) (sym none) (All-nil (IsOn [])))
+
+pub tracks_more : (t : Terms) (segments more : List Segment) (r : Register) (xs : List Boxed) → TracksBy t segments r xs → TracksBy t (segments ++ more) r xs
+tracks_more t segments more r xs p = (counts_on t segments more r p.0, All-weaker (IsOn segments) (IsOn (segments ++ more)) (λ b q. stands_more segments more b.value q) xs p.1)
+
+stands_at : (segments : List Segment) (xs : List Boxed) (place : ℕ) (b : Boxed) (c : CapturedConnection) → place < length xs → b ≡ get_or xs place b → c ≡ b.value → All (IsOn segments) xs → StandsOn segments c
+stands_at segments xs place b c within is value all = subst (StandsOn segments) (sym value) (subst (IsOn segments) (sym is) (All-get_or (IsOn segments) xs place b within all))
+
+-- one of them is given up
+pub tracks_given_up : (r s : Register) (xs ys : List Boxed) (place : ℕ) (b : Boxed) (c e : CapturedConnection) → place < length xs → b ≡ get_or xs place b → c ≡ b.value → ys ≡ remove xs place
+    → GoesOnWatching r c s e → (t : Terms) (segments : List Segment) → TracksBy t segments r xs → TracksBy t segments s ys
+tracks_given_up r s xs ys place b c e within is value left watching t segments p = (
+  (watching t segments (record { counts = p.0; stands = stands_at segments xs place b c within is value p.1 })).counts,
+  subst (All (IsOn segments)) (sym left) (All-append (IsOn segments) (take place xs) (drop (suc place) xs) (All-take (IsOn segments) place xs p.1) (All-drop (IsOn segments) (suc place) xs p.1)),
+)
+
+-- one is added
+pub tracks_added : (t : Terms) (segments : List Segment) (r : Register) (xs ys : List Boxed) (place : ℕ) (b : Boxed) (c : CapturedConnection) → ys ≡ insert xs place b → b.value ≡ c → StandsOn segments c
+    → TracksBy t segments r xs → TracksBy t segments r ys
+tracks_added t segments r xs ys place b c items value stands p = (
+  p.0,
+  subst (All (IsOn segments)) (sym items) (All-append (IsOn segments) (take place xs) (b ∷ drop place xs) (All-take (IsOn segments) place xs p.1)
+      (All-cons (IsOn segments) b (drop place xs) (subst (StandsOn segments) (sym value) stands) (All-drop (IsOn segments) place xs p.1))),
+)
+
+-- ---- a connection's place
+
+-- a connection at this place is between the two ports of this segment
+abbrev pub IsPlaceIn : Segment → List Boxed → ℕ → Type 0
+IsPlaceIn s xs place = IfSome (slice_get xs place) (λ (b : Boxed). EndsOf s b.value.ends)
+
+pub place_found : (s : Segment) (xs : List Boxed) (place : ℕ) (b : Boxed) (ends : Endpoint × Endpoint) → slice_get xs place ≡ Some b → b.value.ends ≡ ends → EndsOf s ends → IsPlaceIn s xs place
+place_found s xs place b ends here same of =
+    subst (λ (o : Option Boxed). IfSome o (λ (x : Boxed). EndsOf s x.value.ends)) (sym here) (subst (EndsOf s) (sym same) of)
+
+pub here_is : (xs : List Boxed) (place : ℕ) (b : Boxed) → place < length xs → b ≡ get_or xs place b → slice_get xs place ≡ Some b
+here_is xs place b within is = slice_get-get_or xs place b within ∙ ap (λ (x : Boxed). Some x) (sym is)
+
+pub place_made : (s : Segment) (xs ys : List Boxed) (place : ℕ) (b : Boxed) (c : CapturedConnection) → place ≤ length xs → ys ≡ insert xs place b → b.value ≡ c → EndsOf s c.ends → IsPlaceIn s ys place
+place_made s xs ys place b c within items value ends =
+    let n : length ys ≡ length xs + 1 = ap length items ∙ length-insert xs place b within in
+    let at : get_or ys place b ≡ b = ap (λ (l : List Boxed). get_or l place b) items ∙ get_or-insert_at xs place b b within in
+    place_found s ys place b c.ends (here_is ys place b (omega (arith, n)) (sym at)) (ap (λ (x : CapturedConnection). x.ends) value) ends
+
+-- one takes a segment
+pub hands_on : (s : Segment) (r between u : Register) (xs : List Boxed) (place : ℕ) (b b' : Boxed) (c mid e : CapturedConnection) → place < length xs → b ≡ get_or xs place b → c ≡ b.value → b'.value ≡ e
+    → (EndsOf s c.ends → EndsOf s mid.ends) → GoesOnWatching r c between mid → TakesOn s between mid u e → IsPlaceIn s xs place
+    → (t : Terms) (segments : List Segment) → Contains segments s → TracksBy t segments r xs → TracksBy t segments u (set xs place b')
+hands_on s r between u xs place b b' c mid e within is value made ends renews takes of t segments among p =
+    let own : EndsOf s b.value.ends = subst (λ (o : Option Boxed). IfSome o (λ (x : Boxed). EndsOf s x.value.ends)) (here_is xs place b within is) of in
+    let mine : EndsOf s c.ends = subst (λ (x : CapturedConnection). EndsOf s x.ends) (sym value) own in
+    let w = takes t segments among (ends mine) (renews t segments (record { counts = p.0; stands = stands_at segments xs place b c within is value p.1 })) in
+    (w.counts, All-set (IsOn segments) xs place b' (subst (StandsOn segments) (sym made) w.stands) p.1)
+
+-- ---- a segment
+
+-- the finder goes on with this segment behind those that were taken
+pub noted_next : (t : Terms) (segments : List Segment) (s : Segment) (r noted : Register) (xs : List Boxed) → GoesOnCounting r noted → TracksBy t segments r xs → TracksBy t (segments ++ s ∷ []) noted xs
+noted_next t segments s r noted xs counting p =
+    let more = tracks_more t segments (s ∷ []) r xs p in
+    (counting t (segments ++ s ∷ []) more.0, more.1)
+
+-- ---- the reader
+
+said_behind : (segments : List Segment) (s : Segment) → map view_of (segments ++ s ∷ []) ≡ map view_of segments ++ view_of s ∷ []
+said_behind [] s = refl
+said_behind (x ∷ xs) s = ap (λ (l : List (ℕ × Said)). view_of x ∷ l) (said_behind xs s)
+
+-- it read on, and returned nothing
+was_on : (r mid : Reading) (stream : List ℕ) (segments : List (ℕ × Said)) → Was r stream segments → Reads r [] mid → Was mid stream segments
+was_on r mid stream segments was reads = subst (Was mid stream) (append-nil segments) (Asked r mid stream segments [] was reads)
+
+pub took : (r mid later : Reading) (f g : Finder) (s : Segment) → Reads r [] mid → EndsAt mid (Some (view_of s)) later → TracksNext s f g → TakesIn r f later g
+took r mid later f g s reads gives tracks t stream p =
+    let one : Reads mid (view_of s ∷ []) later = Next mid later later (Some (view_of s)) [] (view_of s ∷ []) gives (Done later) refl in
+    let was = Asked mid later stream (map view_of p.segments) (view_of s ∷ []) (was_on r mid stream (map view_of p.segments) p.was reads) one in
+    record {
+      segments = p.segments ++ s ∷ [];
+      was = subst (Was later stream) (sym (said_behind p.segments s)) was;
+      tracks = tracks t p.segments p.tracks;
+    }
+
+pub rests : (r mid later : Reading) (f : Finder) → Reads r [] mid → EndsAt mid None later → TakesIn r f later f
+rests r mid later f reads ends t stream p =
+    let was : Was later stream (map view_of p.segments) = subst (λ (x : Reading). Was x stream (map view_of p.segments)) (sym ends.1) (was_on r mid stream (map view_of p.segments) p.was reads) in
+    record { segments = p.segments; was = was; tracks = p.tracks }
+
+pub takes_then : (r s u : Reading) (f g k : Finder) → TakesIn r f s g → TakesIn s g u k → TakesIn r f u k
+takes_then r s u f g k p q t stream w = q t stream (p t stream w)
+
+-- a piece is read
+pub reads_then : (r s fed u : Reading) (f g k : Finder) (piece : List ℕ) → ReadsIn r f s g → fed ≡ with_bytes s piece → TakesIn fed g u k → ReadsIn r f u k
+reads_then r s fed u f g k piece p e q t stream w =
+    let before = p t stream w in
+    let more : IsAt t ((stream ++ before.0) ++ piece) (with_bytes s piece) g = record {
+      segments = before.1.segments;
+      was = Fed s (stream ++ before.0) (map view_of before.1.segments) piece before.1.was;
+      tracks = before.1.tracks;
+    } in
+    (before.0 ++ piece, subst (λ (l : List ℕ). IsAt t l u k) (append_assoc stream before.0 piece) (q t ((stream ++ before.0) ++ piece) (subst (λ (x : Reading). IsAt t ((stream ++ before.0) ++ piece) x g) (sym e) more)))
+
+pub reads_none : (r : Reading) (f : Finder) → ReadsIn r f r f
+reads_none r f t stream p = ([], subst (λ (l : List ℕ). IsAt t l r f) (sym (append-nil stream)) p)
+
+-- what is judged by a cookie, or without one
+abbrev pub with_cookie : Result (Bor (List ℕ)) NoCookie → Terms
+with_cookie cookie = record { viewpoint = viewpoint.Capture; target = None; cookie = cookie }
+
+pub read_ends : (t u : Terms) (r s : Reading) (f g : Finder) (status : ℕ) → t ≡ u → Tracks t [] f → r ≡ unread → ReadsIn r f s g → ((t : Terms) (segments : List Segment) → Tracks t segments g → CountsTo t segments status)
+    → EndsWith u status
+read_ends t u r s f g status same tracks new reads ends =
+    let begun : IsAt t [] r f = record { segments = []; was = subst (λ (x : Reading). Was x [] []) (sym new) Opened; tracks = tracks } in
+    let all = reads t [] begun in
+    subst (λ (x : Terms). EndsWith x status) same (record {
+      stream = all.0;
+      segments = all.1.segments;
+      reading = s;
+      was = all.1.was;
+      counts = ends t all.1.segments all.1.tracks;
+    })
