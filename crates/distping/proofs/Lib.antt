@@ -2,6 +2,8 @@ mod Apart
 mod Ends
 mod Firsts
 mod Fronts
+mod Halves
+mod Named
 mod Order
 mod Replies
 mod Trying

@@ -3,7 +3,7 @@ use Rattle.std.proofs.Common.{ℕ, ◌++◌, List, [], ◌∷◌, Result}
 use Rattle.std.specs.{Borrow.Bor, List.All}
 use Rattle.dist_cluster.specs.declared.pairs.Half.{Half}
 use Rattle.dist_talk.specs.declared.verdict.NoCookie.{NoCookie}
-use Rattle.distping.specs.{Runs.HalfComes, Runs.ReplyComes, declared.reply.DialReply.DialReply}
+use Rattle.distping.specs.{Halves.HalfComes, Runs.ReplyComes, declared.reply.DialReply.DialReply}
 use Rattle.distping.proofs.Order.{all_before, all_last}
 
 -- What is kept comes of probes if one more result does, and what was kept before comes of the results before it.

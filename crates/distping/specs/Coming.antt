@@ -119,18 +119,6 @@ abbrev pub AllCome : Dial → Tries → Type 0
 AllCome d all = (i : ℕ) (f : Found) (v : HandshakeVerdict) → i < length all.verdicts.items
     → Comes d (slice_index_or all.found.items i f) (slice_index_or all.verdicts.items i v)
 
--- some probe of this node came to the verdict
-pub record ComesTo (d : Dial) (v : HandshakeVerdict) : Type 0 where
-  pub found : Found
-  pub comes : Comes d found v
-
--- some probe of the node of this name, with this cookie, came to the verdict
-pub record ProbeComesTo (node : List ℕ) (cookie : Result (Bor (List ℕ)) NoCookie) (v : HandshakeVerdict) : Type 0 where
-  pub dial : Dial
-  pub node_is : dial.node.now ≡ node
-  pub cookie_is : dial.cookie ≡ cookie
-  pub comes : ComesTo dial v
-
 -- ---- a node that dials
 
 -- THE VERDICT OF A CONNECTION: that of the handshake in which this side was spoken; without a connection that nobody dialled
@@ -144,3 +132,19 @@ pub record EndsWith (l : Listen) (status : ℕ) : Type 0 where
   pub verdict : HandshakeVerdict
   pub comes : ComesIn l handshake verdict
   pub is : status ≡ status_of verdict
+
+-- what is said and judged of a node that dials: this side has this name, and tries this cookie
+pub record IsListening (name : List ℕ) (cookie : Result (Bor (List ℕ)) NoCookie) (choices : Choices) (l : Listen) : Type 0 where
+  pub side : l.own.side ≡ Acceptor
+  pub viewpoint : l.own.terms.viewpoint ≡ viewpoint.Acceptor
+  pub name_is : l.own.setup.now.name ≡ name
+  pub target : target_of l.own.terms ≡ Some name
+  pub cookie_is : l.own.terms.cookie ≡ cookie
+  pub flags : l.own.setup.now.flags ≡ choices.flags
+  pub choices_are : l.choices ≡ choices
+
+-- THE EXIT STATUS OF A LISTENER of this name, with this cookie
+pub record ListenEndsWith (name : List ℕ) (cookie : Result (Bor (List ℕ)) NoCookie) (choices : Choices) (status : ℕ) : Type 0 where
+  pub listen : Listen
+  pub listening : IsListening name cookie choices listen
+  pub ends : EndsWith listen status

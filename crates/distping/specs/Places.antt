@@ -1,5 +1,6 @@
--- The verdicts for a host without an address, and for a lookup that failed.
-use Rattle.std.specs.Prelude.{Bool, if◌then◌else◌}
+-- The verdicts for a host without an address, and for a lookup that failed; and the port of a node.
+use Rattle.std.specs.Prelude.{◌≡◌, ◌<◌, ℕ, Bool, Option, Some, None, if◌then◌else◌}
+use Rattle.dist_epmd.specs.declared.message.NodeInfo.{NodeInfo}
 use Rattle.dist_epmd_calls.specs.declared.lookup_error.LookupError.{LookupError}
 use Rattle.dist_epmd_calls.specs.declared.lookup_error.LookupError.TheVariants as lookup
 use Rattle.dist_talk.specs.declared.verdict.Unresolved.TheVariants as unresolved
@@ -21,3 +22,13 @@ abbrev pub lookup_verdict : LookupError → HandshakeVerdict
 lookup_verdict lookup.NotThere = verdict.NotRegistered
 lookup_verdict lookup.NoMemory = verdict.NoMemory
 lookup_verdict other = verdict.MapperFault other
+
+-- a registration says this port
+abbrev pub IsRegistered : Option NodeInfo → ℕ → Type 0
+IsRegistered None port = ⊥
+IsRegistered (Some info) port = port ≡ info.port
+
+-- THE PORT OF A NODE: the one that is given, or else that of its registration, which is not 0
+abbrev pub IsPortOf : Option ℕ → Option NodeInfo → ℕ → Type 0
+IsPortOf (Some given) registration port = port ≡ given
+IsPortOf None registration port = IsRegistered registration port × (0 < port)

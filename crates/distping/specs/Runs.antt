@@ -1,15 +1,15 @@
 -- A RUN OVER SEVERAL NODES: what a probe of each came to, and the exit status.
-use Rattle.std.specs.Prelude.{◌≡◌, ℕ, List, [], ◌∷◌, Result}
+use Rattle.std.specs.Prelude.{◌≡◌, ℕ, List, [], ◌∷◌, map, Result}
 use Rattle.std.specs.{Borrow.Bor, List.All, Result.ForOk}
-use Rattle.dist_cluster.specs.{Pairs.pair_status, Pairs.pairing_of, Statuses.first_of, declared.pairs.Half.Half}
+use Rattle.dist_cluster.specs.{Pairs.pair_status, Pairs.pairing_of, Statuses.first_of, declared.pairs.Half.Half, declared.targets.Target.Target}
+use Rattle.dist_cluster.specs.declared.targets.Target.TheVariants as target
 use Rattle.dist_talk.specs.declared.verdict.NoCookie.{NoCookie}
-use Rattle.distping.specs.{Coming.ProbeComesTo, Order.first_status, Order.names_of, declared.reply.DialReply.DialReply}
+use Rattle.dist_talk.specs.declared.verdict.NoCookie.TheVariants as without
+use Rattle.distping_words.specs.declared.command.CookieSource.{CookieSource}
+use Rattle.distping_words.specs.declared.command.CookieSource.TheVariants as source
+use Rattle.distping.specs.{Halves.HalfComes, Order.first_status, Order.names_of, declared.reply.DialReply.DialReply}
 
--- the verdict on a node is that of a probe of this node, with this cookie
-abbrev pub HalfComes : Result (Bor (List ℕ)) NoCookie → Half → Type 0
-HalfComes cookie half = ProbeComesTo half.node.now cookie half.verdict
-
--- the same of the result of a node that was dialled, unless a fault stopped the probe
+-- the result of a node that was dialled is that of a probe with this cookie, unless a fault stopped it
 abbrev pub ReplyComes : Result (Bor (List ℕ)) NoCookie → DialReply → Type 0
 ReplyComes cookie reply = ForOk reply.half (HalfComes cookie)
 
@@ -22,6 +22,15 @@ status_beside first (second ∷ others) = first_of (pair_status (pairing_of firs
 abbrev pub pairs_status : List Half → ℕ
 pairs_status [] = 0
 pairs_status (half ∷ others) = first_of (status_beside half others) (pairs_status others)
+
+-- why no cookie is tried where there is none
+abbrev pub why_none : CookieSource → NoCookie
+why_none source.Nowhere = without.Asked
+why_none other = without.Missing
+
+-- the targets are the nodes of these names, and no hosts or services
+abbrev pub AreNodes : List Target → List (List ℕ) → Type 0
+AreNodes targets names = targets ≡ map target.Node names
 
 -- THE EXIT STATUS OF A RUN over the nodes of these names: the first that is not 0 of the hosts that were asked for nodes, of the nodes,
 -- and of their pairs

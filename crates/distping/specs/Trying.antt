@@ -24,7 +24,7 @@ pub record IsFoundLast (verdicts : List HandshakeVerdict) : Type 0 where
   pub before : All IsMissed missed
   pub last : is_found found ≡ true
 
--- SO MANY ADDRESSES WERE TRIED, in their order: until the node was found at one, or each
+-- OF SO MANY ADDRESSES, tries were made until one found the node, or as many tries as addresses
 pub record AreTried (addresses : ℕ) (verdicts : List HandshakeVerdict) : Type 0 where
   pub few : length verdicts ≤ addresses
   pub until : IsFoundLast verdicts ⊎ (All IsMissed verdicts × (length verdicts ≡ addresses))

@@ -1,8 +1,10 @@
 //! The nodes to dial: those that are named, and those that the port mappers of hosts know, which are asked one after another. A port
 //! mapper may send anything: if it sends more than is dialled or shown, the number of the rest is printed.
 
-ghost use Rattle.std.specs.Prelude.{◌≡◌, IfOk};
+ghost use Rattle.std.specs.Prelude.{◌≡◌, ◌++◌, ◌∷◌, [], IfOk, List, ℕ};
+ghost use Rattle.dist_cluster.specs.declared.targets.Target.TheVariants as named;
 ghost use Rattle.dist_talk.specs.Words.{status_of};
+ghost use Rattle.distping.specs.Runs.{AreNodes};
 
 use crate::common::Context;
 use crate::grouping::is_among;
@@ -193,7 +195,10 @@ fn take_target<'x, R: Resolving>(
     context: &Context<'x, R>,
     target: &'x Target,
     nodes: &mut Nodes,
-) -> Result<u8, Fault> {
+) -> Result<u8, Fault>
+    ensures node { (name : List ℕ) → target.now ≡ named.Node name
+        → IfOk result (λ status. (status ≡ 0) × (nodes.new.names.items ≡ nodes.old.names.items ++ name ∷ [])) }
+{
     match target {
         Target::Node(name) => {
             if nodes.is_full() {
@@ -208,7 +213,11 @@ fn take_target<'x, R: Resolving>(
 }
 
 /// Adds the nodes to dial, and returns the first status that is not 0 of the hosts that were asked for their nodes.
-pub fn gather<R: Resolving>(context: &Context<'_, R>, nodes: &mut Nodes) -> Result<u8, Fault> {
+pub fn gather<R: Resolving>(context: &Context<'_, R>, nodes: &mut Nodes) -> Result<u8, Fault>
+    // Nodes that are named themselves are dialled as they stand there.
+    ensures nodes { (names : List (List ℕ)) → AreNodes context.now.wanted.now.targets.items names
+        → IfOk result (λ status. (status ≡ 0) × (nodes.new.names.items ≡ nodes.old.names.items ++ names)) }
+{
     let mut status = 0;
     for target in &context.wanted.targets {
         status = first_of(status, take_target(context, target, nodes)?);

@@ -15,8 +15,11 @@ mod reply;
 mod together;
 mod watching;
 
-ghost use Rattle.std.specs.Prelude.{◌≡◌, IfOk, None};
-ghost use Rattle.distping.specs.{Coming.EndsWith, Runs.RunEndsWith};
+ghost use Rattle.std.specs.Prelude.{◌≡◌, IfOk, IfSome, List, None, ℕ};
+ghost use Rattle.std.specs.Option.{ok_or};
+ghost use Rattle.distping.specs.{Coming.EndsWith, Coming.ListenEndsWith, Runs.AreNodes, Runs.RunEndsWith, Runs.why_none};
+ghost use Rattle.distping_capture.specs.Captures.{EndsWith as CaptureEndsWith};
+ghost use Rattle.distping_capture.specs.Exits.{terms_of};
 
 use common::Context;
 use comparing::compare;
@@ -130,7 +133,14 @@ fn carry_out<'x, R: Resolving + Sync>(
     resolver: &'x R,
     wanted: &'x Wanted<'x>,
     cookie: Option<&'x Cookie>,
-) -> Result<u8, Fault> {
+) -> Result<u8, Fault>
+    ensures capture { IfSome wanted.now.choices.capture (λ path. IfOk result (CaptureEndsWith (terms_of cookie.entry))) }
+    ensures listen { wanted.now.choices.capture ≡ None → IfSome wanted.now.choices.listen (λ port. IfSome wanted.now.name (λ name.
+        IfOk result (ListenEndsWith name (ok_or cookie.entry (why_none wanted.now.choices.cookie)) wanted.now.choices))) }
+    ensures nodes { (names : List (List ℕ)) → wanted.now.choices.capture ≡ None → wanted.now.choices.listen ≡ None → wanted.now.choices.watch ≡ None
+        → AreNodes wanted.now.targets.items names
+        → IfOk result (RunEndsWith (ok_or cookie.entry (why_none wanted.now.choices.cookie)) names 0) }
+{
     if let Some(path) = wanted.choices.capture {
         return read_capture(rt, path, &wanted.choices, cookie);
     }
@@ -156,7 +166,9 @@ fn cookie_read(rt: &HostRuntime, choices: &Choices<'_>) -> Result<Option<Cookie>
 }
 
 // Why there is no cookie, where there is none.
-fn no_cookie(choices: &Choices<'_>) -> NoCookie {
+fn no_cookie(choices: &Choices<'_>) -> NoCookie
+    ensures { result ≡ why_none choices.now.cookie }
+{
     match choices.cookie {
         CookieSource::Nowhere => NoCookie::Asked,
         _ => NoCookie::Missing,
@@ -189,7 +201,9 @@ fn place_of<R: Resolving>(context: &Context<'_, R>) -> Result<Option<SocketAddr>
 }
 
 // Takes one connection at this port as the node with this name, prints the result, and returns its status.
-fn listen<R: Resolving>(context: &Context<'_, R>, port: u16, name: &NodeName) -> Result<u8, Fault> {
+fn listen<R: Resolving>(context: &Context<'_, R>, port: u16, name: &NodeName) -> Result<u8, Fault>
+    ensures { IfOk result (ListenEndsWith name.now context.now.cookie context.now.wanted.now.choices) }
+{
     let choices = context.wanted.choices;
     let place = place_of(context)?;
     let fresh = draw_challenge(context.rt)?;
@@ -224,7 +238,10 @@ fn print_connection(rt: &HostRuntime, lines: LineSink<'_>, one: &Listen<'_>) -> 
 }
 
 // Finds the nodes, and watches them or probes each once.
-fn check_nodes<R: Resolving + Sync>(context: &Context<'_, R>) -> Result<u8, Fault> {
+fn check_nodes<R: Resolving + Sync>(context: &Context<'_, R>) -> Result<u8, Fault>
+    ensures once { (names : List (List ℕ)) → context.now.wanted.now.choices.watch ≡ None → AreNodes context.now.wanted.now.targets.items names
+        → IfOk result (RunEndsWith context.now.cookie names 0) }
+{
     let mut nodes = Nodes::new(context.rt.alloc());
     let status = gather(context, &mut nodes)?;
     check_all(context, &nodes.names, status)

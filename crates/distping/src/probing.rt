@@ -1,17 +1,19 @@
 //! Probes one node, and prints the result.
 
-ghost use Rattle.std.specs.Prelude.{◌≡◌, IfOk};
-ghost use Rattle.distping.specs.Coming.{ComesTo, ProbeComesTo};
+ghost use Rattle.std.specs.Prelude.{◌≡◌, IfOk, option_map};
+ghost use Rattle.dist_talk.specs.Described.{view_of};
+ghost use Rattle.distping.specs.Halves.{DialKeeps, HalfComes, IsKept, flags_kept, kinds_of, with_kind};
 
 use crate::common::Context;
 use crate::links::probe;
 use dist_cluster::{AddressKinds, Half, Target, USUAL};
-use dist_names::NodeName;
+use dist_names::{Flags, NodeName};
 use dist_program::{Addresses, Resolving};
-use dist_talk::{HandshakeVerdict, is_found};
+use dist_talk::{HandshakeVerdict, NodeDescription, is_found};
 use distping_report::{Dial, LineSink, ProbeOutcome};
 use distping_words::{Fault, Wanted, parse_name};
 use std::alloc::Global;
+use std::net::SocketAddr;
 
 // Our usual name at the node's host, so that both names are long or both short.
 fn usual_name(alloc: Global, node: &NodeName) -> Result<NodeName, Fault> {
@@ -29,30 +31,59 @@ fn own_name(alloc: Global, wanted: &Wanted<'_>, node: &NodeName) -> Result<NodeN
     }
 }
 
-// Whether the node is reached, or may be, by an address of this kind: one was not tried, or the node was found there.
-fn is_reached(outcome: &ProbeOutcome, is_ipv4: bool) -> bool {
-    let verdicts = &outcome.verdicts;
-    outcome.addresses.iter().enumerate().any(|(at, address)| {
-        address.is_ipv4() == is_ipv4 && verdicts.get(at).is_none_or(|verdict| is_found(*verdict))
-    })
+// With the kind of this address.
+fn with_kind(address: &SocketAddr, kinds: AddressKinds) -> AddressKinds
+    ensures { result ≡ with_kind address.now kinds }
+{
+    AddressKinds {
+        ipv4: address.is_ipv4() || kinds.ipv4,
+        ipv6: address.is_ipv6() || kinds.ipv6,
+    }
 }
 
-// What is kept of a probe. The flags of a node with another name are ignored, and so is the half of them that an older challenge has.
+// By which kinds of address the node is reached, or may be: of those at which it was found, or which were not tried.
+fn kinds_of(addresses: &[SocketAddr], verdicts: &[HandshakeVerdict]) -> AddressKinds
+    ensures { result ≡ kinds_of addresses.now verdicts.now }
+{
+    match (addresses, verdicts) {
+        ([], _) => AddressKinds {
+            ipv4: false,
+            ipv6: false,
+        },
+        ([address, others @ ..], []) => with_kind(address, kinds_of(others, &[])),
+        ([address, others @ ..], [verdict, later @ ..]) => {
+            let kinds = kinds_of(others, later);
+            if is_found(*verdict) {
+                with_kind(address, kinds)
+            } else {
+                kinds
+            }
+        }
+    }
+}
+
+// The flags that are kept of what a node says: none of a node with another name, and not the half of them that an older challenge has.
+fn flags_kept(verdict: HandshakeVerdict, said: Option<NodeDescription<'_>>) -> Option<Flags>
+    ensures { result ≡ flags_kept verdict (option_map view_of said.entry) }
+{
+    match (verdict, said) {
+        (HandshakeVerdict::OtherName(_), _) | (_, None) => None,
+        (_, Some(node)) => match node.creation {
+            Some(_) => Some(node.flags),
+            None => None,
+        },
+    }
+}
+
+// What is kept of a probe.
 fn half_of<'n>(node: &'n NodeName, outcome: &ProbeOutcome) -> Half<'n>
     ensures node { result.node.now ≡ node.now }
-    ensures verdict { result.verdict ≡ outcome.now.verdict }
+    ensures kept { IsKept outcome.now result }
 {
-    let flags = match (outcome.verdict, outcome.found.peer()) {
-        (HandshakeVerdict::OtherName(_), _) | (_, None) => None,
-        (_, Some(peer)) => peer.creation.map(|_| peer.flags),
-    };
     Half {
         node,
-        flags,
-        kinds: AddressKinds {
-            ipv4: is_reached(outcome, true),
-            ipv6: is_reached(outcome, false),
-        },
+        flags: flags_kept(outcome.verdict, outcome.found.peer()),
+        kinds: kinds_of(&outcome.addresses, &outcome.verdicts),
         verdict: outcome.verdict,
     }
 }
@@ -64,7 +95,7 @@ fn dial_silently<'n>(
     node: &'n NodeName,
 ) -> Result<Half<'n>, Fault>
     ensures node { IfOk result (λ half. half.node.now ≡ node.now) }
-    ensures comes { IfOk result (λ half. ComesTo dial.now half.verdict) }
+    ensures comes { IfOk result (DialKeeps dial.now) }
 {
     let outcome = probe(dial, addresses)?;
     Ok(half_of(node, &outcome))
@@ -77,7 +108,7 @@ fn dial_and_print<'n>(
     node: &'n NodeName,
 ) -> Result<Half<'n>, Fault>
     ensures node { IfOk result (λ half. half.node.now ≡ node.now) }
-    ensures comes { IfOk result (λ half. ComesTo dial.now half.verdict) }
+    ensures comes { IfOk result (DialKeeps dial.now) }
 {
     let outcome = probe(dial, addresses)?;
     dial.lines.put_probe(dial, &outcome)?;
@@ -91,7 +122,7 @@ pub fn print_probe<'n, R: Resolving>(
     node: &'n NodeName,
 ) -> Result<Half<'n>, Fault>
     ensures node { IfOk result (λ half. half.node.now ≡ node.now) }
-    ensures comes { IfOk result (λ half. ProbeComesTo node.now context.now.cookie half.verdict) }
+    ensures comes { IfOk result (HalfComes context.now.cookie) }
 {
     if !matches!(context.wanted.targets.as_slice(), [Target::Node(_)]) {
         lines.put_heading(node.bytes())?;
@@ -107,7 +138,7 @@ pub fn half_of_node<'n, R: Resolving>(
     node: &'n NodeName,
 ) -> Result<Half<'n>, Fault>
     ensures node { IfOk result (λ half. half.node.now ≡ node.now) }
-    ensures comes { IfOk result (λ half. ProbeComesTo node.now context.now.cookie half.verdict) }
+    ensures comes { IfOk result (HalfComes context.now.cookie) }
 {
     let own = own_name(context.rt.alloc(), context.wanted, node)?;
     let dial = context.make_dial(LineSink::on_screen(context.rt, true), &own, node);

@@ -9,7 +9,7 @@ ghost use Rattle.std.specs.Result.{ForOk};
 ghost use Rattle.dist_cluster.specs.Statuses.{first_of};
 ghost use Rattle.dist_talk.specs.Words.{status_of};
 ghost use Rattle.std.specs.List.{All};
-ghost use Rattle.distping.specs.{Order.first_status, Order.names_in, Order.names_of, Runs.HalfComes, Runs.ReplyComes};
+ghost use Rattle.distping.specs.{Order.first_status, Order.names_in, Order.names_of, Halves.HalfComes, Runs.ReplyComes};
 
 use crate::common::Context;
 use crate::grouping::split_group;

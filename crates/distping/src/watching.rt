@@ -1,7 +1,7 @@
 //! Probes all nodes again and again, several at once, and prints what changes, in their order.
 
 ghost use Rattle.std.specs.Prelude.{◌≡◌, ◌⊎◌, IfOk};
-ghost use Rattle.distping.specs.Runs.{HalfComes};
+ghost use Rattle.distping.specs.Halves.{HalfComes};
 
 use crate::common::Context;
 use crate::grouping::split_group;

@@ -3,7 +3,7 @@ use Rattle.std.proofs.lemmas.Result.{IfOk-weaker}
 use Rattle.std.proofs.lemmas.List.Elements.{All-nil}
 use Rattle.std.specs.List.{All}
 use Rattle.dist_cluster.specs.Statuses.{first_of}
-use Rattle.distping.specs.{Order.first_status, Order.names_of, Runs.HalfComes, Runs.pairs_status}
+use Rattle.distping.specs.{Order.first_status, Order.names_of, Halves.HalfComes, Runs.pairs_status}
 use Rattle.distping.proofs.Firsts.{first_of_assoc}
 use Rattle.distping.proofs.probe_all.Goals as goal
 

@@ -1,7 +1,7 @@
 //! Asks the port mapper at an address where the node listens, or for all names, and prints each step.
 
-ghost use Rattle.std.specs.Prelude.{◌≡◌, Ok, IfErr, IfSome};
-ghost use Rattle.distping.specs.{Coming.StopsOnWay, Places.lookup_verdict};
+ghost use Rattle.std.specs.Prelude.{◌≡◌, ◌<◌, Ok, IfErr, IfOk, IfSome};
+ghost use Rattle.distping.specs.{Coming.StopsOnWay, Places.IsPortOf, Places.IsRegistered, Places.lookup_verdict};
 
 use crate::links::attempt::{AddressAttempt, ProbeStream, Stop};
 use crate::links::front::FrontStream;
@@ -178,6 +178,7 @@ impl<'a> AddressAttempt<'a> {
     // Prints the node's registration, keeps it, and returns its port.
     fn take_registration(&mut self, info: PortInfo) -> Result<u16, Fault>
         ensures kept { (self.new.dial ≡ self.old.dial) × (self.new.found.handshake ≡ self.old.found.handshake) }
+        ensures registered { IfOk result (IsRegistered self.new.found.registration) }
     {
         let port = info.port;
         let lines = self.dial.lines;
@@ -190,6 +191,7 @@ impl<'a> AddressAttempt<'a> {
     #[tactic(auto, using(crate::proofs::Ways::way_of_lookup))]
     fn ask_for_port(&mut self) -> Result<u16, Stop>
         ensures kept { (self.new.dial ≡ self.old.dial) × (self.new.found.handshake ≡ self.old.found.handshake) }
+        ensures registered { IfOk result (λ port. IsRegistered self.new.found.registration port × (0 < port)) }
         ensures stops { IfErr result StopsOnWay }
     {
         let front = self.connect_to_mapper()?;
@@ -212,6 +214,7 @@ impl<'a> AddressAttempt<'a> {
     /// The node's port: the given one, or else that of its registration.
     pub fn find_port(&mut self) -> Result<u16, Stop>
         ensures given { IfSome self.old.dial.choices.port (λ port. result ≡ Ok port) }
+        ensures port { IfOk result (IsPortOf self.old.dial.choices.port self.new.found.registration) }
         ensures kept { (self.new.dial ≡ self.old.dial) × (self.new.found.handshake ≡ self.old.found.handshake) }
         ensures stops { IfErr result StopsOnWay }
     {

@@ -96,7 +96,7 @@ pub fn probe(dial: &Dial<'_>, addresses: Addresses) -> Result<ProbeOutcome, Faul
     // The verdict is that of what was said, or of the way.
     ensures comes { IfOk result (λ it. Comes dial.now it.found it.verdict) }
     ensures found { IfOk addresses (λ all. IfOk result (λ it. it.addresses ≡ all)) }
-    // Each address is tried in its order, until the node is found at one.
+    // Tries are made until one finds the node, or as many as there are addresses.
     ensures tried { IfOk addresses (λ all. IfOk result (λ it. AreTried (length all.items) it.verdicts.items)) }
     ensures no_host { IfErr addresses (λ error. IfOk result (λ it. it.verdict ≡ host_verdict (is_some dial.now.choices.address) error)) }
 {

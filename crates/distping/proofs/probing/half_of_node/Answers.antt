@@ -1,10 +1,6 @@
-use Rattle.std.proofs.lemmas.Result.{IfOk-weaker}
+use Rattle.distping.proofs.Halves.{half_comes}
 use Rattle.distping.proofs.probing.half_of_node.Goals as goal
 
 pub returns-clause-comes : goal.returns-clause-comes
-returns-clause-comes g c = IfOk-weaker c.dial_silently.result _ _ (λ half came. record {
-  dial = c.make_dial-dial.result;
-  node_is = c.make_dial-dial.ensures.node;
-  cookie_is = c.make_dial-dial.ensures.cookie;
-  comes = came;
-}) c.dial_silently.ensures.comes
+returns-clause-comes g c = half_comes c.dial_silently.result c.make_dial-dial.result _ _ c.make_dial-dial.ensures.node c.make_dial-dial.ensures.cookie
+    c.dial_silently.ensures.node c.dial_silently.ensures.comes

@@ -2,7 +2,7 @@
 use Rattle.std.proofs.Common.{◌≡◌, ◌++◌}
 use Rattle.std.specs.List.{All}
 use Rattle.dist_cluster.specs.Statuses.{first_of}
-use Rattle.distping.specs.{Order.first_status, Order.names_in, Order.names_of, Runs.HalfComes, Runs.ReplyComes}
+use Rattle.distping.specs.{Order.first_status, Order.names_in, Order.names_of, Halves.HalfComes, Runs.ReplyComes}
 use Rattle.distping.proofs.together.take_replies.Given as goal
 
 abbrev pub invariant-loop-reply : goal.invariant-loop-reply

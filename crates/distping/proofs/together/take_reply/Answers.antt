@@ -1,7 +1,7 @@
 use Rattle.std.proofs.Common.{rules, subst, sym}
 use Rattle.std.proofs.lemmas.List.Elements.{All-push}
 use Rattle.std.specs.List.{All}
-use Rattle.distping.specs.Runs.{HalfComes}
+use Rattle.distping.specs.Halves.{HalfComes}
 use Rattle.distping.proofs.together.take_reply.Goals as goal
 
 pub returns-clause-come : goal.returns-clause-come

@@ -1,5 +1,5 @@
 -- One address more.
-use Rattle.std.proofs.Common.{◌∙◌, ◌++◌, ◌∷◌, [], arith, ap, length, subst, sym}
+use Rattle.std.proofs.Common.{◌∙◌, ◌∷◌, [], arith, ap, length, subst, sym}
 use Rattle.std.proofs.lemmas.List.{Elements.All-push, length-append}
 use Rattle.std.specs.List.{All}
 use Rattle.distping.specs.Trying.{IsMissed}
