@@ -23,7 +23,8 @@ all_keys =
     ∷ (codes "-packet_timeout", Takes value.Seconds) ∷ (codes "-max_clients", Takes value.Clients)
     ∷ (codes "-systemd", Systemd) ∷ (codes "-names", Does task.Names) ∷ (codes "-quiet", Quiet)
     ∷ (codes "-log", Takes value.Log) ∷ (codes "-metrics", Takes value.Metrics)
-    ∷ (codes "--help", Does task.Help) ∷ (codes "-help", Does task.Help) ∷ (codes "--version", Does task.Version)
+    ∷ (codes "--help", Does task.Help) ∷ (codes "-help", Does task.Help) ∷ (codes "-h", Does task.Help)
+    ∷ (codes "--version", Does task.Version) ∷ (codes "-V", Does task.Version)
     ∷ (codes "-daemon", NotDone) ∷ (codes "-kill", NotDone) ∷ (codes "-stop", NotDone) ∷ (codes "-d", NotDone)
     ∷ (codes "-relaxed_command_check", NotDone) ∷ []
 

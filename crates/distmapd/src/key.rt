@@ -38,7 +38,7 @@ pub enum Key {
 }
 
 /// All words; some are spelled in two ways, as by `epmd` and as by the other programs.
-pub const KEYS: [(&str, Key); 19] = [
+pub const KEYS: [(&str, Key); 21] = [
     ("-port", Key::Takes(AwaitedValue::Port)),
     ("--epmd-port", Key::Takes(AwaitedValue::Port)),
     ("-address", Key::Takes(AwaitedValue::Addresses)),
@@ -52,7 +52,9 @@ pub const KEYS: [(&str, Key); 19] = [
     ("-metrics", Key::Takes(AwaitedValue::Metrics)),
     ("--help", Key::Does(Task::Help)),
     ("-help", Key::Does(Task::Help)),
+    ("-h", Key::Does(Task::Help)),
     ("--version", Key::Does(Task::Version)),
+    ("-V", Key::Does(Task::Version)),
     ("-daemon", Key::NotDone),
     ("-kill", Key::NotDone),
     ("-stop", Key::NotDone),

@@ -72,8 +72,8 @@ A port mapper for Erlang nodes, in place of epmd. It stays in the foreground.
   -quiet             it says nothing of that
   -metrics PORT      serves its figures to Prometheus at this port of 127.0.0.1; ADDRESS:PORT at another address
   -names             prints the names that the port mapper of this host knows
-  --help, -help      prints this
-  --version          prints the version
+  -h, --help, -help  prints this
+  -V, --version      prints the version
 
 Status: 0 done, 1 a fault here, 2 a bad command line.
 ";
