@@ -39,7 +39,7 @@ typedef struct {
 /* Goes up with each change of `kept`, of `shared`, of a function, or of what the library has behind a dn_node, that comes without a new
  * version. */
 #ifndef DISTNODE_LAYOUT
-#define DISTNODE_LAYOUT 2
+#define DISTNODE_LAYOUT 3
 #endif
 #define VERSION (DN_VERSION_MAJOR * 1000000 + DN_VERSION_MINOR * 1000 + DN_VERSION_PATCH)
 
@@ -52,7 +52,7 @@ typedef struct {
 } shared;
 
 static ErlNifResourceType *kept_type;
-static ERL_NIF_TERM a_ok, a_error, a_none, a_unknown, a_made, a_step, a_arrived, a_ready, a_held, a_other, a_changed;
+static ERL_NIF_TERM a_ok, a_error, a_none, a_unknown, a_made, a_step, a_arrived, a_ready, a_held, a_changed;
 
 static void kept_drop(ErlNifEnv *env, void *it) {
     kept *k = it;
@@ -379,37 +379,26 @@ static ERL_NIF_TERM own_body(ErlNifEnv *env, frame *f, ERL_NIF_TERM node, ERL_NI
     return own_step_term(env, f->k, node, code, &reply, what);
 }
 
-/* What the step would do: where that is not known, there is no step. */
-static uint32_t foresee(frame *f, dn_reply *reply) {
-    return dn_node_ready_body(&f->k->node, f->id, f->body.data, f->body.size, f->challenge, reply);
+/* take_body(Node, Id, Body, Challenge, Controller), by the end's process, with the controller of its socket; but {held, Shown}, and nothing
+ * done, where that would close this other end, which is up and is to be gone first */
+static ERL_NIF_TERM nif_take_body(ErlNifEnv *env, int argc, const ERL_NIF_TERM argv[]) {
+    frame f;
+    if (!frame_of(env, argv, &f)) return enif_make_badarg(env);
+    ERL_NIF_TERM term = own_body(env, &f, argv[0], argv[4]);
+    return done(env, f.k, "take_body", argc, argv, term);
 }
 
-/* early_body(Node, Id, Body, Challenge), by the end's process; but {ready, Up}, and nothing done, where that would bring the end up */
+/* early_body(Node, Id, Body, Challenge), by the end's process; but {ready, Up}, and nothing done, where that would bring the end up, or the
+ * error where it is not known whether it would */
 static ERL_NIF_TERM nif_early_body(ErlNifEnv *env, int argc, const ERL_NIF_TERM argv[]) {
     frame f;
     dn_reply reply = {0};
     if (!frame_of(env, argv, &f)) return enif_make_badarg(env);
-    uint32_t code = foresee(&f, &reply);
+    uint32_t code = dn_node_ready_body(&f.k->node, f.id, f.body.data, f.body.size, f.challenge, &reply);
     ERL_NIF_TERM term = code       ? step_term(env, f.k, code, &reply)
                         : reply.up ? enif_make_tuple2(env, a_ready, up_term(env, f.k, &reply))
                                    : own_body(env, &f, argv[0], a_step);
     return done(env, f.k, "early_body", argc, argv, term);
-}
-
-/* come_up(Node, Id, Body, Challenge, Common, Creation, Controller), by the end's process; but `other`, and nothing done, where that would
- * bring the end up with other flags or another creation, 0 where the peer has none; and {held, Shown}, and nothing done, where that
- * would close this end, which is up and is to be gone first */
-static ERL_NIF_TERM nif_come_up(ErlNifEnv *env, int argc, const ERL_NIF_TERM argv[]) {
-    frame f;
-    ErlNifUInt64 common;
-    unsigned creation;
-    dn_reply reply = {0};
-    if (!enif_get_uint64(env, argv[4], &common) || !enif_get_uint(env, argv[5], &creation) || !frame_of(env, argv, &f))
-        return enif_make_badarg(env);
-    uint32_t code = foresee(&f, &reply);
-    int is_other = reply.up && (reply.common != common || reply.creation != creation);
-    ERL_NIF_TERM term = code ? step_term(env, f.k, code, &reply) : is_other ? a_other : own_body(env, &f, argv[0], argv[6]);
-    return done(env, f.k, "come_up", argc, argv, term);
 }
 
 /* The end is there, so its owner has to know of it whatever becomes of the frame. */
@@ -560,7 +549,6 @@ static int begin(ErlNifEnv *env, ErlNifResourceFlags how) {
     a_arrived = enif_make_atom(env, "arrived");
     a_ready = enif_make_atom(env, "ready");
     a_held = enif_make_atom(env, "held");
-    a_other = enif_make_atom(env, "other");
     a_changed = enif_make_atom(env, "changed");
     return 0;
 }
@@ -603,7 +591,7 @@ static ErlNifFunc functions[] = {
     {"new", 6, nif_new, 0},           {"cookie", 3, nif_cookie, 0},   {"usual_cookie", 2, nif_usual_cookie, 0},
     {"allow", 2, nif_allow, 0},       {"disallow", 2, nif_disallow, 0}, {"changes", 1, nif_changes, 0},
     {"forget", 2, nif_forget, 0},     {"dial", 2, nif_dial, 0},       {"opened", 2, nif_opened, 0},
-    {"early_body", 4, nif_early_body, 0}, {"come_up", 7, nif_come_up, 0}, {"arrive", 5, nif_arrive, 0},
+    {"early_body", 4, nif_early_body, 0}, {"take_body", 5, nif_take_body, 0}, {"arrive", 5, nif_arrive, 0},
     {"lost", 3, nif_lost, 0},         {"cause", 2, nif_cause, 0},     {"up_end", 2, nif_up_end, 0},
     {"peers", 1, nif_peers, 0},       {"challenge", 0, nif_challenge, 0}, {"no_cookie", 2, nif_no_cookie, 0},
     {"give_up", 2, nif_give_up, 0},   {"gone", 2, nif_gone, 0},       {"drop", 1, nif_drop, 0},

@@ -5,7 +5,7 @@
 %% ends the distribution does, as it does where net_kernel ends.
 -module(distnode_core).
 -behaviour(gen_server).
--export([start_link/0, begun_anew/0, want/1, arrived/3, opened/1, early/2, come_up/2, refused/1, handed/1, done/1, lost/1]).
+-export([start_link/0, begun_anew/0, up_end/1, want/2, arrived/3, opened/1, take/1, early/2, refused/1, handed/1, lost/1]).
 -export([table/0, counts/0]).
 -export([init/1, handle_call/3, handle_cast/2, handle_info/2]).
 
@@ -43,11 +43,19 @@ start_link() ->
 -spec begun_anew() -> non_neg_integer().
 begun_anew() -> ets:lookup_element(?TABLE, begun_anew, 2).
 
-%% net_kernel has started the caller to set up a connection to this peer. It hears {distnode, {dial, own_end()}},
-%% {distnode, {closed, Id, Why}} of that dial, {distnode, {failed, Code}}, {distnode, again} or, from the process that has made
-%% an end ready, {distnode, {ready, ..}}.
--spec want(access()) -> ok.
-want(Access) -> gen_server:call(?MODULE, {want, Access}, infinity).
+%% The end that is up with this peer.
+-spec up_end(distnode_nif:peer()) -> id() | none.
+up_end(Peer) ->
+    case ets:lookup(?TABLE, node) of
+        [{node, Node, _, _, _}] -> distnode_nif:up_end(Node, Peer);
+        [] -> none
+    end.
+
+%% net_kernel has started the caller to set up a connection to this peer, with which this end was up by then. It hears
+%% {distnode, {dial, own_end()}}, {distnode, {closed, Id, Why}} of that dial, {distnode, {failed, Code}}, {distnode, again} or, from the
+%% process that has made an end ready, {distnode, {ready, ..}}.
+-spec want(access(), Over :: id() | none) -> ok.
+want(Access, Over) -> gen_server:call(?MODULE, {want, Access, Over}, infinity).
 
 %% The caller has accepted a connection, and this is its first frame, with what this emulator says of the name in it. The end
 %% that it gets, and what became of the frame; `Gone` where the node has begun anew since. Where the node has the very cookie, the caller
@@ -85,7 +93,23 @@ node_as(_) -> none.
 -spec opened(own_end()) -> received().
 opened(#{id := Id, node := Node}) -> outcome(distnode_nif:opened(Node, Id)).
 
-%% A frame came on the caller's end, which isn't up.
+%% A frame came on the caller's end, and this is the step. Where it brings the end up net_kernel has agreed, and the end is over if the node
+%% says other flags or another creation than net_kernel was told. Where an old connection of that peer is up in the node, the caller waits
+%% until its socket is gone; the caller's own timer limits that. On an accepted end the words are the acknowledgement. The controller is
+%% the port or process whose end is the end of the connection, for the emulator too.
+-spec take(own_end()) -> {up, [binary()]} | received().
+take(#{id := Id, node := Node, controller := Controller, frame := {Body, Challenge}} = End) ->
+    case distnode_nif:take_body(Node, Id, Body, Challenge, Controller) of
+        {step, Id, Bodies, _, _, {_, Common, Creation}} when Common =:= map_get(common, End), Creation =:= map_get(creation, End) ->
+            {up, Bodies};
+        {step, Id, _, _, _, {_, _, _}} -> {error, 'OtherFlags'};
+        {held, Shown} ->
+            ok = gen_server:call(?MODULE, {end_shown, Shown}, infinity),
+            take(End);
+        Step -> outcome(Step)
+    end.
+
+%% The same where net_kernel has not been asked yet.
 %% `ready`: it would bring the end up, and nothing was done yet; whoever keeps or gets the end asks net_kernel.
 -spec early(binary(), own_end()) -> received().
 early(Body, #{id := Id, node := Node} = End) ->
@@ -93,21 +117,6 @@ early(Body, #{id := Id, node := Node} = End) ->
     case distnode_nif:early_body(Node, Id, Body, Challenge) of
         {ready, {Peer, Common, Creation}} ->
             {ready, End#{peer => Peer, common => Common, creation => Creation, frame => {Body, Challenge}}};
-        Step -> outcome(Step)
-    end.
-
-%% net_kernel has agreed: the end comes up with the very peer, flags and creation for which it has, or not at all. Where an old
-%% connection of that peer is up in the node, the caller waits until its socket is gone; the caller's own timer limits that. On an
-%% accepted end the words are the acknowledgement. The controller is the port or process whose end is the end of the connection, for the
-%% emulator too.
--spec come_up(port() | pid(), info()) -> {ok, [binary()]} | received().
-come_up(Controller, #{id := Id, node := Node, frame := {Body, Challenge}, common := Common, creation := Creation} = Info) ->
-    case distnode_nif:come_up(Node, Id, Body, Challenge, Common, distnode_script:number(Creation), Controller) of
-        {step, Id, Bodies, _, _, {_, Common, Creation}} -> {ok, Bodies};
-        {held, Shown} ->
-            ok = gen_server:call(?MODULE, {end_shown, Shown}, infinity),
-            come_up(Controller, Info);
-        other -> {error, 'OtherFlags'};
         Step -> outcome(Step)
     end.
 
@@ -123,10 +132,6 @@ refused(Id) -> gen_server:call(?MODULE, {refused, Id}, infinity).
 %% The caller has handed the socket of this end to the process that it was given.
 -spec handed(id()) -> ok.
 handed(Id) -> gen_server:cast(?MODULE, {handed, Id, self()}).
-
-%% net_kernel counts the peer of the caller's end as up.
--spec done(id()) -> ok.
-done(Id) -> gen_server:cast(?MODULE, {done, Id, self()}).
 
 -spec lost(id()) -> ok | gone.
 lost(Id) -> gen_server:call(?MODULE, {lost, Id}, infinity).
@@ -149,9 +154,9 @@ init([]) ->
             {ok, #st{}}
     end.
 
-handle_call({want, Access}, {Pid, _}, St0) ->
+handle_call({want, Access, Over}, {Pid, _}, St0) ->
     case with_node(St0) of
-        {ok, St} -> {reply, ok, publish(after_report({want, Access, Pid}, watch(Pid, St)))};
+        {ok, St} -> {reply, ok, publish(after_report({want, Access, Over, Pid}, watch(Pid, St)))};
         {error, Code} ->
             Pid ! {distnode, {failed, Code}},
             {reply, ok, St0}
@@ -179,7 +184,7 @@ handle_call(table, _, St) -> {reply, table(St), St};
 handle_call(counts, _, St) -> {reply, St#st.counts, St};
 handle_call(_, _, St) -> {reply, {error, unknown_call}, St}.
 
-handle_cast({What, _, _} = Event, St) when What =:= handed; What =:= done -> {noreply, after_report(Event, note(What, St))};
+handle_cast({handed, _, _} = Event, St) -> {noreply, after_report(Event, note(handed, St))};
 handle_cast(_, St) -> {noreply, St}.
 
 handle_info({distnode_made, Node, Pid, What, Step}, #st{node = Node} = St) -> {noreply, follow(What, Pid, Step, St)};
@@ -331,7 +336,7 @@ begin_anew(#st{node = Node} = St0) ->
 
 %% Who came up before the node was dropped, and is not known here yet.
 came_up_last(#st{node = Node} = St) ->
-    receive {distnode_made, Node, Pid, Controller, Step} when is_port(Controller); is_pid(Controller) ->
+    receive {distnode_made, Node, Pid, Controller, {step, _, _, _, _, {_, _, _}} = Step} ->
             came_up_last(follow(Controller, Pid, Step, St))
     after 0 -> St
     end.

@@ -8,8 +8,7 @@
 %%
 %%   shaking    its owner reads the handshake, frame by frame, and asks net_kernel before the step that brings it up
 %%   ready      net_kernel wouldn't take it from the process that accepted it: whoever gets it makes the step that brings it up
-%%   admitted   that step was made, and its owner brings the emulator up
-%%   up         net_kernel counts its peer as up
+%%   up         that step was made: net_kernel had agreed, and its owner brings the emulator up, or has
 %%
 %% A setup is a process of net_kernel that wants a peer. Where net_kernel won't take an accepted end, since it has a setup for that
 %% peer, the setup gets that end: net_kernel's row and the end that comes up need not have begun together. Until then it
@@ -21,10 +20,11 @@
 -type id() :: distnode_nif:id().
 -type peer() :: distnode_nif:peer().
 -type access() :: distnode_access:access().
--type stage() :: shaking | ready | admitted | up.
+-type stage() :: shaking | ready | up.
 
 -record(link, {owner :: pid(), peer = none :: peer() | none, stage = shaking :: stage(), giver = none :: pid() | none}).
--record(want, {setup :: pid(), access :: access(), how = asking :: asking | {dialling, id()} | waiting}).
+%% over: the end with that peer that was up when net_kernel started the setup.
+-record(want, {setup :: pid(), access :: access(), over :: id() | none, how = asking :: asking | {dialling, id()} | waiting}).
 %% held: what a process has, so that its end is dealt with without a look at all ends.
 -record(links, {ends = #{} :: #{id() => #link{}},
                 wants = #{} :: #{peer() => #want{}},
@@ -32,7 +32,7 @@
 -opaque links() :: #links{}.
 
 -type event() ::
-    {want, access(), Setup :: pid()} |        % net_kernel wants the peer of this access; or a setup asks again
+    {want, access(), Over :: id() | none, Setup :: pid()} | % net_kernel wants the peer of this access; or a setup asks again
     {dialled, peer(), id()} |                 % what became of the action {dial, Peer}: a new end,
     {busy, peer(), Up :: id() | none} |       % no end, since the peer has one, and which one is up,
     {refused, peer(), Code :: atom()} |       % or no end, for another reason
@@ -41,7 +41,6 @@
                                               % has a setup of its own
     {handed, id(), pid()} |                   % the giver of this end has handed its socket to the owner
     {came_up, id(), pid()} |                  % its owner has made that step: net_kernel had agreed
-    {done, id(), pid()} |                     % net_kernel counts the peer as up
     {closed, id(), Why :: atom(), pid() | none} | % the node has closed this end, in a step of this process
     {given_up, id(), pid()} |                 % its owner gives it up
     {gone, id(), peer()} |                    % it came up, and its socket is gone
@@ -58,7 +57,7 @@
 new() -> #links{}.
 
 -spec event(event(), links()) -> {answer(), [action()], links()}.
-event({want, Access, Setup}, L) -> want(Access, Setup, L);
+event({want, Access, Over, Setup}, L) -> want(Access, Over, Setup, L);
 event({dialled, Peer, Id}, L) -> dialled(Peer, Id, L);
 event({busy, Peer, Up}, L) -> busy(Peer, Up, L);
 event({refused, Peer, Code}, L) -> refused(Peer, Code, L);
@@ -66,7 +65,6 @@ event({accepted, Id, Pid, Peer}, L) -> {ok, [], put_link(Id, #link{owner = Pid, 
 event({vetoed, Id, Pid}, L) -> vetoed(Id, Pid, L);
 event({handed, Id, Giver}, L) -> handed(Id, Giver, L);
 event({came_up, Id, Pid}, L) -> came_up(Id, Pid, L);
-event({done, Id, Pid}, L) -> done(Id, Pid, L);
 event({closed, Id, Why, By}, L) -> closed(Id, Why, By, L);
 event({given_up, Id, Pid}, L) -> given_up(Id, Pid, L);
 event({gone, Id, Peer}, L) -> gone(Id, Peer, L);
@@ -93,9 +91,9 @@ wanted(#links{wants = Wants}) -> [{Peer, Setup, How} || {Peer, #want{setup = Set
 %% ---- a setup wants a peer
 
 %% A setup that was given an end while it asked wants nothing more. One that another has replaced is over at net_kernel.
-want(#{peer := Peer} = Access, Setup, L) ->
+want(#{peer := Peer} = Access, Over, Setup, L) ->
     case [Id || {end_of, Id} <- holdings(Setup, L), peer(Id, L) =:= Peer, stage(Id, L) =/= shaking] of
-        [] -> {ok, [{dial, Access}], put_want(Peer, #want{setup = Setup, access = Access}, L)};
+        [] -> {ok, [{dial, Access}], put_want(Peer, #want{setup = Setup, access = Access, over = Over}, L)};
         [_ | _] -> {ok, [], L}
     end.
 
@@ -107,12 +105,12 @@ dialled(Peer, Id, L) ->
         none -> {ok, [{lose, Id, Peer, gave_up}], L}
     end.
 
-%% net_kernel starts a setup only where it counts the peer as down. So an end that it had counted as up is over there, and its socket
-%% goes with its process. Each end with that peer is one to wait for.
+%% net_kernel starts a setup only where it counts the peer as down. So an end that was up by then is over there, and its socket goes with
+%% its process. Each end with that peer is one to wait for.
 busy(Peer, Up, L) ->
     case want_of(Peer, L) of
         none -> {ok, [], L};
-        Want -> {ok, [{kill, owner(Up, L)} || stage(Up, L) =:= up], change_want(Peer, Want#want{how = waiting}, L)}
+        #want{over = Over} = Want -> {ok, [{kill, owner(Up, L)} || Up =/= none, Up =:= Over], change_want(Peer, Want#want{how = waiting}, L)}
     end.
 
 refused(Peer, Code, L) ->
@@ -162,18 +160,12 @@ handed(Id, Giver, L) ->
 came_up(Id, Pid, L) ->
     case link_of(Id, L) of
         #link{owner = Pid, stage = Stage, peer = Peer} = Link when Stage =:= shaking; Stage =:= ready ->
-            L1 = change(Id, Link#link{stage = admitted}, L),
+            L1 = change(Id, Link#link{stage = up}, L),
             case want_of(Peer, L1) of
                 #want{setup = Pid} -> {ok, [], drop_want(Peer, L1)};
                 _ -> {ok, [], L1}
             end;
         _ -> {gone, [{kill, Pid}], L}
-    end.
-
-done(Id, Pid, L) ->
-    case link_of(Id, L) of
-        #link{owner = Pid, stage = admitted} = Link -> {ok, [], change(Id, Link#link{stage = up}, L)};
-        _ -> {gone, [], L}
     end.
 
 %% ---- an end is over
@@ -211,7 +203,7 @@ down(Pid, L) ->
 left({want, Peer}, _, L) -> {[], drop_want(Peer, L)};
 left({end_of, Id}, _, L) ->
     case stage(Id, L) of
-        Stage when Stage =:= admitted; Stage =:= up -> {[], L};
+        up -> {[], L};
         _ -> lose(Id, ended, L)
     end;
 left({given_by, Id}, _, L) ->

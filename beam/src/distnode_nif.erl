@@ -3,7 +3,7 @@
 -module(distnode_nif).
 -export([load/0, new/6, drop/1, cookie/3, no_cookie/2, usual_cookie/2, allow/2, disallow/2, changes/1, forget/2]).
 -export([dial/2, lost/3, gone/2, give_up/2]).
--export([arrive/5, opened/2, early_body/4, come_up/7]).
+-export([arrive/5, opened/2, take_body/5, early_body/4]).
 -export([cause/2, up_end/2, peers/1, challenge/0, recording/1, connection/2]).
 -export_type([id/0, peer/0, closed/0, step/0, up/0, made/0]).
 
@@ -19,7 +19,7 @@
     {step, id(), Bodies :: [binary()], closed(), Received :: status(), up()} | {error, atom(), closed()}.
 %% The process that made the node gets such a message of each step of a connection's process that gave out an end, closed one or brought
 %% one up. The messages come in the order of the steps. One that arrived holds this peer, and Closed is the end that made room for it; a
-%% step that was to bring an end up comes with its controller.
+%% step of take_body comes with the controller of its end.
 -type made() :: {distnode_made, reference(), pid(), step | port() | pid() | {arrived, id(), peer() | none, Closed :: closed()}, step()}.
 
 %% Loads the library: from beside ebin, else from where the code server knows this application to be. It is called where the
@@ -126,15 +126,13 @@ arrive(Node, Changes, Body, Challenge, Pid) -> ?LATE([Node, Changes, Body, Chall
 -spec opened(reference(), id()) -> step().
 opened(Node, Id) -> ?LATE([Node, Id]).
 
+%% Nothing is done where the frame would close this other end, which is up until it is gone.
+-spec take_body(reference(), id(), binary(), Challenge :: non_neg_integer(), port() | pid()) -> step() | {held, id()}.
+take_body(Node, Id, Body, Challenge, Controller) -> ?LATE([Node, Id, Body, Challenge, Controller]).
+
 %% Nothing is done where the frame would bring the end up.
 -spec early_body(reference(), id(), binary(), Challenge :: non_neg_integer()) -> step() | {ready, up()}.
 early_body(Node, Id, Body, Challenge) -> ?LATE([Node, Id, Body, Challenge]).
-
-%% Nothing is done where the frame would bring the end up with other flags or another creation, 0 where the peer has none; or where it
-%% would close this other end, which is up until it is gone.
--spec come_up(reference(), id(), binary(), Challenge :: non_neg_integer(), Common :: non_neg_integer(),
-              Creation :: non_neg_integer(), port() | pid()) -> step() | other | {held, id()}.
-come_up(Node, Id, Body, Challenge, Common, Creation, Controller) -> ?LATE([Node, Id, Body, Challenge, Common, Creation, Controller]).
 
 %% ---- questions
 

@@ -8,7 +8,7 @@
 %% acknowledgement: net_kernel has agreed by then, an old connection is about to end, and dist_util refuses nobody any more.
 %% Of a dialled peer it is made where dist_util waits for the acknowledgement.
 -module(distnode_script).
--export([other_started/6, we_started/6, number/1]).
+-export([other_started/6, we_started/6]).
 
 -include_lib("kernel/include/dist_util.hrl").
 -include_lib("kernel/include/dist.hrl").
@@ -27,7 +27,7 @@
 %% instead of a frame, with which the dial is over; {distnode, {closed, Why, Status}} or {distnode, {failed, Why}}.
 -spec other_started(module(), pid(), term(), map(), {node(), [term()]}, pid()) -> no_return().
 other_started(Transport, Kernel, Socket, Info, {MyNode, Allowed}, Timer) ->
-    Data = data(Transport, Kernel, Socket, MyNode, Timer, Info),
+    Data = data(Transport, Kernel, Socket, MyNode, Timer),
     start(accepted, Transport, Socket, Info),
     try dist_util:handshake_other_started(Data#hs_data{allowed = Allowed})
     catch
@@ -40,14 +40,14 @@ other_started(Transport, Kernel, Socket, Info, {MyNode, Allowed}, Timer) ->
 
 -spec we_started(module(), pid(), term(), map(), {node(), node(), term()}, pid()) -> no_return().
 we_started(Transport, Kernel, Socket, Info, {MyNode, Node, Type}, Timer) ->
-    Data = data(Transport, Kernel, Socket, MyNode, Timer, Info),
-    start(dialled, Transport, Socket, Info#{timer => Timer}),
+    Data = data(Transport, Kernel, Socket, MyNode, Timer),
+    start(dialled, Transport, Socket, Info),
     try dist_util:handshake_we_started(Data#hs_data{other_node = Node, other_version = 6, request_type = Type})
     catch
         exit:shutdown -> exit(?ENDED)
     end.
 
-data(Transport, Kernel, Socket, MyNode, Timer, #{id := Id}) ->
+data(Transport, Kernel, Socket, MyNode, Timer) ->
     #hs_data{f_handshake_complete = Complete} = Data = distnode_carrier:hs_data(Transport, Socket),
     Data#hs_data{
       kernel_pid = Kernel, this_node = MyNode, timer = Timer, this_flags = 0,
@@ -56,14 +56,14 @@ data(Transport, Kernel, Socket, MyNode, Timer, #{id := Id}) ->
       f_handshake_complete =
           fun(Controller, Node, Handle) ->
                   erase(?KEY),
-                  distnode_core:done(Id),
                   Complete(Controller, Node, Handle)
           end}.
 
 %% ---- the script: what was sent and received so far decides what comes next
 
 start(Side, Transport, Socket, #{cookie := {ok, Cookie}} = Info) ->
-    put(?KEY, Info#{side => Side, transport => Transport, socket => Socket, said => [], cookie := Cookie}).
+    put(?KEY, Info#{side => Side, transport => Transport, socket => Socket, controller => Transport:controller(Socket), said => [],
+                    cookie := Cookie}).
 
 send(Words) ->
     #{side := Side, said := Said} = Before = get(?KEY),
@@ -111,7 +111,7 @@ recv(dialled, [<<$r, _/binary>> | _], Script) ->
 %% Until the node says the reply to the peer's challenge.
 await_challenge(Script) ->
     Body = next(activate(Script), Script),
-    Bodies = go_on(distnode_core:early(Body, Script), Script),
+    Bodies = go_on(take(Body, Script), Script),
     case {say(Bodies, Script), [reply || <<$r, _/binary>> <- Bodies]} of
         {ok, []} -> await_challenge(Script);
         {ok, _} ->
@@ -122,18 +122,17 @@ await_challenge(Script) ->
     end.
 
 await_acknowledgement(#{active := Active} = Script) ->
-    Body = next(Active, Script),
-    case come_up(Script#{frame => {Body, distnode_nif:challenge()}}) of
-        {ok, Bodies} -> say(Bodies, Script);
+    case take(next(Active, Script), Script) of
+        {up, Bodies} -> say(Bodies, Script);
         Other ->
             _ = say(go_on(Other, Script), Script),
             await_acknowledgement(Script#{active := activate(Script)})
     end.
 
+%% The timer of dist_util ends this process where none comes.
 next({error, _}, _) -> throw({distnode, {failed, ended}});
-next(ok, #{id := Id, timer := Timer, wait := Wait, transport := Transport, socket := Socket} = Script) ->
-    ok = dist_util:reset_timer(Timer),
-    case distnode_shake:frame(Transport, Socket, Wait) of
+next(ok, #{id := Id, transport := Transport, socket := Socket} = Script) ->
+    case distnode_shake:frame(Transport, Socket, infinity) of
         {frame, Body} -> Body;
         {distnode, {closed, Other, _}} when Other =/= Id -> next(ok, Script);
         {distnode, Message} -> throw({distnode, {message, Message}});
@@ -144,7 +143,7 @@ activate(#{transport := Transport, socket := Socket}) -> Transport:setopts(Socke
 
 say(Bodies, #{transport := Transport, socket := Socket}) -> distnode_shake:say(Transport, Socket, Bodies).
 
-come_up(#{transport := Transport, socket := Socket} = Script) -> distnode_core:come_up(Transport:controller(Socket), Script).
+take(Body, Script) -> distnode_core:take(Script#{frame => {Body, distnode_nif:challenge()}}).
 
 go_on({more, Bodies}, _) -> Bodies;
 go_on({closed, Bodies, Why, Status}, Script) ->
@@ -153,7 +152,7 @@ go_on({closed, Bodies, Why, Status}, Script) ->
 go_on({error, 'Gone'}, _) -> throw({distnode, gone});
 go_on({error, Code}, _) -> throw({distnode, {failed, Code}}).
 
-%% What the end will be up with, if the peer acknowledges: the node says so itself before it comes up (distnode_core:come_up/2).
+%% What the end will be up with, if the peer acknowledges: the node has the last word (distnode_core:take/1).
 foreseen(<<$N, Flags:64, _Challenge:32, Creation:32, _/binary>>, Script) -> foreseen(Flags, Creation, Script);
 foreseen(<<$n, _Version:16, Flags:32, _/binary>>, Script) -> foreseen(Flags, unknown, Script).
 
@@ -170,8 +169,8 @@ challenged(_, _, #{peer := Peer}) ->
     exit(distnode_other_flags).
 
 admitted(#{id := Id} = Script) ->
-    case come_up(Script) of
-        {ok, Bodies} -> say(Bodies, Script);
+    case distnode_core:take(Script) of
+        {up, Bodies} -> say(Bodies, Script);
         _ ->
             _ = distnode_core:lost(Id),
             throw({distnode, gone})
@@ -184,10 +183,8 @@ challenge(#{peer := Peer, common := Common} = Script) ->
     {ok, binary_to_list(<<$N, Common:64, 0:32, (creation(Script)):32, (byte_size(Peer)):16, Peer/binary>>)}.
 
 %% A peer of version 5 sends no creation, and OTP puts 0 in its place.
-creation(#{creation := Creation}) -> number(Creation).
-
-number(unknown) -> 0;
-number(Creation) -> Creation.
+creation(#{creation := unknown}) -> 0;
+creation(#{creation := Creation}) -> Creation.
 
 %% The digest that dist_util expects. That the peer has shown the right one is the node's decision, made already.
 digest(#{cookie := Cookie, challenge := Challenge}) -> binary_to_list(digest(Cookie, Challenge)).

@@ -3,7 +3,7 @@
 %% ready with that peer, its own dial or a connection that the peer made meanwhile; that one it holds to its end. A process
 %% beside it finds the peer and connects, so that another end can be reported to it at any time.
 -module(distnode_setup).
--export([start/7, setup/8, dial/3]).
+-export([start/7, setup/9, dial/3]).
 
 -include_lib("kernel/include/dist_util.hrl").
 
@@ -14,19 +14,21 @@
 -define(MOST_ATTEMPTS, 100).
 
 %% The own dial: `dialler` finds the peer until it has handed the socket over. end_of: its end, or one that another process has made
-%% ready, and socket: that end's {Transport, Socket}. cookie: the one with which the dial was wanted.
--record(setup, {transport, driver, kernel, node, peer, type, my_node, name, host, wait, cookie, dialler = none, end_of = none,
+%% ready, and socket: that end's {Transport, Socket}. cookie: the one with which the dial was wanted. over: the end that was up when
+%% net_kernel started this process.
+-record(setup, {transport, driver, kernel, node, peer, over, type, my_node, name, host, wait, cookie, dialler = none, end_of = none,
                 socket = none, left = ?MOST_ATTEMPTS}).
 
 start(Transport, Driver, Node, Type, MyNode, LongOrShort, SetupTime) ->
-    spawn_opt(?MODULE, setup, [Transport, Driver, self(), Node, Type, MyNode, LongOrShort, SetupTime],
+    Over = distnode_core:up_end(atom_to_binary(Node, utf8)),
+    spawn_opt(?MODULE, setup, [Transport, Driver, self(), Node, Over, Type, MyNode, LongOrShort, SetupTime],
               distnode_carrier:setup_options()).
 
-setup(Transport, Driver, Kernel, Node, Type, MyNode, LongOrShort, SetupTime) ->
+setup(Transport, Driver, Kernel, Node, Over, Type, MyNode, LongOrShort, SetupTime) ->
     {Name, Host} = distnode_address:parts(Driver, Node, LongOrShort),
     not_hidden(Type, Node),
-    want(#setup{transport = Transport, driver = Driver, kernel = Kernel, node = Node, peer = atom_to_binary(Node, utf8), type = Type,
-                my_node = MyNode, name = Name, host = Host, wait = SetupTime}).
+    want(#setup{transport = Transport, driver = Driver, kernel = Kernel, node = Node, peer = atom_to_binary(Node, utf8), over = Over,
+                type = Type, my_node = MyNode, name = Name, host = Host, wait = SetupTime}).
 
 %% The node has one set of flags for all its dials, so it can't hide from one peer.
 not_hidden(hidden, Node) ->
@@ -39,16 +41,16 @@ not_hidden(hidden, Node) ->
 not_hidden(_, _) -> ok.
 
 want(#setup{left = 0} = S) -> failed(S, gave_up);
-want(#setup{peer = Peer, left = Left, wait = Wait} = S0) ->
+want(#setup{peer = Peer, over = Over, left = Left, wait = Wait} = S0) ->
     #{cookie := Cookie} = Access = distnode_access:of_peer(Peer, []),
     S = S0#setup{left = Left - 1, cookie = Cookie},
-    ok = distnode_core:want(Access),
+    ok = distnode_core:want(Access, Over),
     receive
         {distnode, {dial, End}} -> dial_now(End, S)
     after 0 -> await(S, Wait)
     end.
 
-%% A dial has its times for the port mapper, the connection and each frame; without one this process waits for an end that
+%% A dial has its times for the port mapper, the connection and the handshake; without one this process waits for an end that
 %% somebody else has with that peer.
 dial_now(End, #setup{transport = Transport, driver = Driver, name = Name, host = Host, wait = Wait} = S) ->
     Dialler = spawn_opt(?MODULE, dial, [self(), End, {Transport, Driver, Name, Host, Wait}], distnode_carrier:setup_options()),
@@ -77,7 +79,7 @@ receive_message({closed, _, _}, S, Wait) -> await(S, Wait).
 %% this process makes the others, in distnode_script.
 bring_up(#setup{kernel = Kernel, socket = {Transport, Socket}, end_of = End, wait = Wait} = S) ->
     Timer = dist_util:start_timer(Wait),
-    try distnode_script:we_started(Transport, Kernel, Socket, End#{wait => Wait}, {S#setup.my_node, S#setup.node, S#setup.type}, Timer)
+    try distnode_script:we_started(Transport, Kernel, Socket, End, {S#setup.my_node, S#setup.node, S#setup.type}, Timer)
     catch
         throw:{distnode, Why} ->
             dist_util:cancel_timer(Timer),

@@ -210,7 +210,7 @@ line({_, Node, {_, Pid, opened, [Id], {step, Id, _, _, _, _} = Step}}, W) ->
     step(Node, Step, happen("opened ~b ~b", [Node, Id], reach(Node, Id, Pid, W)));
 line({_, Node, {_, _, arrive, [_, Body, Fresh, Pid], {arrived, Id, Step}}}, W) -> frame(Node, Body, Fresh, Step, accept(Node, Id, Pid, W));
 line({_, Node, {_, _, Call, [Id, Body, Fresh | _], {step, Id, _, _, _, _} = Step}}, W)
-  when Call =:= early_body; Call =:= come_up ->
+  when Call =:= early_body; Call =:= take_body ->
     frame(Node, Body, Fresh, Step, W);
 line({_, Node, {_, _, gone, [Id], {step, Id, _, {Id, Why}, _, _} = Step}}, W) ->
     step(Node, Step, happen("lose ~b ~b ~s", [Node, Id, Why], is_up(Node, Id, W)));
@@ -227,7 +227,7 @@ is_refusal({error, Code}) -> lists:member(Code, ['PeerInUse']);
 is_refusal({error, Code, none}) -> lists:member(Code, ['Busy', 'Gone', 'ShownEnd', 'Spent', 'NotANode']);
 is_refusal({ready, _}) -> true;
 is_refusal({held, _}) -> true;
-is_refusal(Answer) -> lists:member(Answer, [changed, other, none]).
+is_refusal(Answer) -> lists:member(Answer, [changed, none]).
 
 happen(Format, Arguments, #world{happened = Lines} = W) -> W#world{happened = [io_lib:format(Format ++ "~n", Arguments) | Lines]}.
 
@@ -322,7 +322,7 @@ changed(swapped, _, _, [{_, _, gone, _, _} | _]) -> false;
 changed(swapped, Line, Between, [Other | Rest]) ->
     [setelement(1, Other, element(1, Line)) | Between] ++ [setelement(1, Line, element(1, Other)) | Rest].
 
-is_frame({_, _, Call, [Id | _], {step, Id, _, _, _, _}}) -> Call =:= early_body orelse Call =:= come_up;
+is_frame({_, _, Call, [Id | _], {step, Id, _, _, _, _}}) -> Call =:= early_body orelse Call =:= take_body;
 is_frame(_) -> false.
 
 is_next({_, _, new, _, _}, _) -> true;

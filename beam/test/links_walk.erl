@@ -18,9 +18,10 @@
 -export([run/0, run/2]).
 
 %% rows: which process net_kernel counts as a peer's. mail: what was reported and asked, the first one first, as {Pid, Events}. casts:
-%% what each process has cast, or its end, and what has not arrived. node: each open end, as {Phase, Peer}.
+%% what each process has cast, or its end, and what has not arrived. node: each open end, as {Phase, Peer}. overs: the end with its peer that
+%% was up when a setup was started.
 -record(w, {links = distnode_links:new(), node = #{}, procs = #{}, inbox = #{}, socks = #{}, rows = #{}, mail = [], casts = #{},
-            next = 1, admitted = #{}}).
+            next = 1, admitted = #{}, overs = #{}}).
 
 -define(PEERS, [<<"lesser">>, <<"greater">>]).
 
@@ -102,7 +103,7 @@ emulator_up(_) -> false.
 start_setup(Peer, #w{rows = Rows} = W) when is_map_key(Peer, Rows) -> W;
 start_setup(Peer, W0) ->
     {Pid, W} = spawned({setup, Peer, {await, none}}, W0),
-    want(Pid, Peer, W#w{rows = (W#w.rows)#{Peer => Pid}}).
+    want(Pid, Peer, W#w{rows = (W#w.rows)#{Peer => Pid}, overs = (W#w.overs)#{Pid => up_end(Peer, W)}}).
 
 %% A connection came, and its first frame: a step of its process, which is reported, or one of the core, which is asked for it.
 start_accept(W0) ->
@@ -144,7 +145,7 @@ act({setup, Peer, {bring, Id}}, Pid, #w{node = Node} = W) ->
         #{Id := {in, Peer}} -> come_up({setup, Peer, {admitted, Id}}, Peer, Id, Pid, W);
         #{} -> again(Pid, Peer, mail(Pid, [{given_up, Id, Pid}], unsocket(Id, W)))
     end;
-act({setup, Peer, {admitted, Id}}, Pid, W) -> cast(Pid, {done, Id, Pid}, put_proc(Pid, {setup, Peer, {up, Id}}, W));
+act({setup, Peer, {admitted, Id}}, Pid, W) -> put_proc(Pid, {setup, Peer, {up, Id}}, W);
 act({dialler, Setup, Id}, Pid, #w{node = Node} = W) ->
     case {rand:uniform(6), maps:get(Id, Node, none)} of
         {1, _} -> die(Pid, send(Setup, {over, Pid, failed}, W));
@@ -168,17 +169,16 @@ act({accept, Id, {asked, Peer}}, Pid, #w{node = Node} = W) ->
         #{} -> die(Pid, mail(Pid, [{given_up, Id, Pid}], W))
     end;
 act({_, _, {ending, _}}, Pid, W) -> die(Pid, W);
-act({accept, Id, {admitted, Peer}}, Pid, W) -> cast(Pid, {done, Id, Pid}, put_proc(Pid, {accept, Id, {up, Peer}}, W));
+act({accept, Id, {admitted, Peer}}, Pid, W) -> put_proc(Pid, {accept, Id, {up, Peer}}, W);
 act(_, _, W) -> W.
 
 %% A process that isn't the owner, and an owner before its time, get nothing.
 misuse(Id, #w{links = Links} = W) ->
     Other = {pid, 0},
     Owner = distnode_links:owner(Id, Links),
-    [{gone, [], Links} = distnode_links:event(Event, Links) || Event <- [{vetoed, Id, Other}, {given_up, Id, Other}, {done, Id, Other}]],
+    [{gone, [], Links} = distnode_links:event(Event, Links) || Event <- [{vetoed, Id, Other}, {given_up, Id, Other}]],
     {gone, [{kill, Other}], Links} = distnode_links:event({came_up, Id, Other}, Links),
     {ok, [], Links} = distnode_links:event({handed, Id, Other}, Links),
-    [{gone, [], Links} = distnode_links:event({done, Id, Owner}, Links) || distnode_links:stage(Id, Links) =:= shaking],
     [{gone, [], Links} = distnode_links:event({vetoed, Id, Owner}, Links) || distnode_links:peer(Id, Links) =:= none],
     W.
 
@@ -205,7 +205,8 @@ end_dial({connecting, _, Dialler}, Pid, W0) ->
 
 again(Pid, Peer, W) -> want(Pid, Peer, put_proc(Pid, {setup, Peer, {await, none}}, W)).
 
-want(Pid, Peer, W) -> mail(Pid, [{want, #{peer => Peer, cookie => {ok, <<"test">>}, allowed => all}, Pid}], W).
+want(Pid, Peer, #w{overs = Overs} = W) ->
+    mail(Pid, [{want, #{peer => Peer, cookie => {ok, <<"test">>}, allowed => all}, map_get(Pid, Overs), Pid}], W).
 
 %% ---- a setup's own dial: it comes up with the peer's acknowledgement
 
@@ -251,7 +252,8 @@ without(Pid, Map) -> maps:filter(fun(_, Holder) -> Holder =/= Pid end, Map).
 forget_row(Peer, #w{rows = Rows} = W) ->
     #{Peer := Pid} = Rows,
     case maps:get(Pid, W#w.procs) of
-        {Kind, What, {up, Of}} -> put_proc(Pid, {Kind, What, {ending, Of}}, W#w{rows = maps:remove(Peer, Rows)});
+        {Kind, What, {Stage, Of}} when Stage =:= admitted; Stage =:= up ->
+            put_proc(Pid, {Kind, What, {ending, Of}}, W#w{rows = maps:remove(Peer, Rows)});
         _ -> W
     end.
 
@@ -304,12 +306,18 @@ frame({in, Peer}, Id, Pid, W) ->
 
 %% The step that brings an end up, by the process that holds its socket. Where an old one with that peer is up, it is held, and the
 %% process asks that the old one go.
-come_up(Next, Peer, Id, Pid, #w{node = Node, admitted = Admitted} = W) ->
+come_up(Next, Peer, Id, Pid, #w{admitted = Admitted} = W) ->
     false = is_map_key(Id, Admitted),
     true = maps:get(Id, W#w.socks) =:= Pid,
-    case [Old || {Old, {up, P}} <- maps:to_list(Node), P =:= Peer] of
-        [] -> put_proc(Pid, Next, mail(Pid, [{came_up, Id, Pid}], set(Id, {up, Peer}, W#w{admitted = Admitted#{Id => true}})));
-        [Old] -> mail(Pid, [{end_shown, Old}], W)
+    case up_end(Peer, W) of
+        none -> put_proc(Pid, Next, mail(Pid, [{came_up, Id, Pid}], set(Id, {up, Peer}, W#w{admitted = Admitted#{Id => true}})));
+        Old -> mail(Pid, [{end_shown, Old}], W)
+    end.
+
+up_end(Peer, #w{node = Node}) ->
+    case [Id || {Id, {up, P}} <- maps:to_list(Node), P =:= Peer] of
+        [] -> none;
+        [Up] -> Up
     end.
 
 pending(Peer, #w{node = Node}) ->
@@ -333,8 +341,14 @@ dial(Peer, #w{node = Node} = W0) ->
             {Room, W1} = make_room(W0),
             {Id, W} = fresh(W1),
             events(none, [{dialled, Peer, Id}] ++ Room, set(Id, {out, Peer}, W));
-        Held -> report_({busy, Peer, proplists:get_value(up, Held, none)}, W0)
+        Held -> busy(Peer, proplists:get_value(up, Held, none), W0)
     end.
+
+%% Who has net_kernel's row and has brought the emulator up is not killed.
+busy(Peer, Up, #w{rows = Rows, procs = Procs} = W0) ->
+    W = report_({busy, Peer, Up}, W0),
+    [true = is_alive(Pid, W) || #{Peer := Pid} <- [Rows], emulator_up(map_get(Pid, Procs)) =/= false],
+    W.
 
 %% ---- the machine, as distnode_core has it
 

@@ -6,7 +6,7 @@
 %%
 %% Where processes run side by side a play may not pass the point, and after three such plays that fault counts as not met.
 %%
-%% The core itself is stopped and never killed: with it the distribution ends (killed_core).
+%% The core itself is stopped and never killed, and so is net_kernel: with them the distribution ends (killed_core).
 -module(order_sweeps).
 -export([main/0, main/1, some/1]).
 -export([call/4, watch/0, arm/1, disarm/0, points/0, has_met/0, sizes/0, open_ends/1]).
@@ -291,7 +291,7 @@ pass(Site, Place) ->
     case ets:whereis(?TABLE) of
         undefined -> ok;
         _ ->
-            Who = case whereis(distnode_core) =:= self() of true -> core; false -> other end,
+            Who = case [Name || Name <- [distnode_core, net_kernel], whereis(Name) =:= self()] of [] -> other; [_] -> core end,
             Point = {{Site, Place}, Who},
             N = ets:update_counter(?TABLE, {seen, Point}, 1, {{seen, Point}, 0}),
             [meet(Fault) || {armed, {At, Fault}} <- ets:lookup(?TABLE, armed), At =:= {Point, N}]
