@@ -164,9 +164,14 @@ class Refused(Ended):
     """One that is over since what came is not what has to come."""
 
 
+@contextlib.contextmanager
 def turn(lock):
-    """What is held while whoever comes next has to wait."""
-    return lock if FAULT == "serial" else contextlib.nullcontext()
+    """The turn of whoever came first. Until its end nobody else is served, where one is served at a time."""
+    try:
+        yield
+    finally:
+        if FAULT == "serial":
+            lock.release()
 
 
 class Connection:
@@ -629,7 +634,7 @@ def register_at(port):
         if creation is None:
             return
         CREATION = CREATION if FAULT == "owncreation" else creation
-        threading.Thread(target=serve, args=(listener, accept), daemon=True).start()
+        threading.Thread(target=serve, args=(listener, accept, HANDSHAKE), daemon=True).start()
         if FAULT != "hangsup":
             while it.recv(64):
                 pass
@@ -770,19 +775,22 @@ def serve_client(stream):
         close(stream)
 
 
-def serve(listener, talk):
+def serve(listener, talk, lock):
     while True:
-        threading.Thread(target=talk, args=(listener.accept()[0],), daemon=True).start()
+        stream = listener.accept()[0]
+        if lock and FAULT == "serial":
+            lock.acquire()
+        threading.Thread(target=talk, args=(stream,), daemon=True).start()
 
 
 def main():
     if sys.argv[3:]:
         register_at(int(sys.argv[3]))
         return
-    talks = (accept, serve_client, obey)
+    talks = (accept, HANDSHAKE), (serve_client, CLIENT), (obey, None)
     listeners = [socket.create_server((HOST, 0), backlog=128) for _ in talks]
     for listener, talk in zip(listeners, talks):
-        threading.Thread(target=serve, args=(listener, talk), daemon=True).start()
+        threading.Thread(target=serve, args=(listener, *talk), daemon=True).start()
     print(*[it.getsockname()[1] for it in listeners], flush=True)
     sys.stdin.read()
 
