@@ -10,6 +10,7 @@ complete -c distmapd -o log -x -a 'text json' -d 'in which form it says what hap
 complete -c distmapd -o quiet -d 'say nothing of what happens'
 complete -c distmapd -o metrics -x -d 'the port, or ADDRESS:PORT, at which it serves its figures to Prometheus'
 complete -c distmapd -o names -d 'print the names that the port mapper of this host knows'
+complete -c distmapd -s h -d 'print the help'
 complete -c distmapd -o help -d 'print the help'
 complete -c distmapd -l help -d 'print the help'
-complete -c distmapd -l version -d 'print the version'
+complete -c distmapd -s V -l version -d 'print the version'
