@@ -5,6 +5,6 @@ mod Fronts
 mod Halves
 mod Named
 mod Order
-mod Replies
+mod Printing
 mod Trying
 mod Ways

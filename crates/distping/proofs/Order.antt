@@ -13,9 +13,13 @@ map_by_places f (x ∷ xs) [] e len each = absurd (omega (arith, len))
 map_by_places f (x ∷ xs) (y ∷ ys) e len each = rw (each 0 x (omega arith), map_by_places f xs ys e (omega (arith, len)) (λ i d l. each (suc i) d (omega (arith, l)))) refl
 
 -- what holds of all elements holds of those before the last one
-pub all_before : {X : Type 0} (P : X → Type 0) (xs : List X) (x : X) → All P (xs ++ x ∷ []) → All P xs
+all_before : {X : Type 0} (P : X → Type 0) (xs : List X) (x : X) → All P (xs ++ x ∷ []) → All P xs
 all_before P xs x all k d l = subst P (get_or_append_left xs (x ∷ []) d k l) (all k d (omega (arith, l, length-append xs (x ∷ []))))
 
 -- and of the last one
-pub all_last : {X : Type 0} (P : X → Type 0) (xs : List X) (x : X) → All P (xs ++ x ∷ []) → P x
+all_last : {X : Type 0} (P : X → Type 0) (xs : List X) (x : X) → All P (xs ++ x ∷ []) → P x
 all_last P xs x all = subst P (get_or-append_seam xs x [] x) (all (length xs) x (omega (arith, length-append xs (x ∷ []))))
+
+-- what comes of the elements of a list, one after another
+pub all_on : {X A B : Type 0} (P : X → Type 0) (xs : List X) (x : X) → (All P xs → A) → (A → P x → B) → All P (xs ++ x ∷ []) → B
+all_on P xs x before more all = more (before (all_before P xs x all)) (all_last P xs x all)

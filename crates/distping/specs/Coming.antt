@@ -14,7 +14,8 @@ use Rattle.dist_talk.specs.declared.verdict.HandshakeVerdict.TheVariants as verd
 use Rattle.distping.specs.declared.links.{attempt.Stop.Stop, tries.Tries.Tries}
 use Rattle.distping.specs.declared.links.attempt.Stop.TheVariants as stop
 use Rattle.distping_words.specs.declared.command.Choices.{Choices}
-use Rattle.distping_report.specs.declared.{asked.Dial.Dial, asked.Listen.Listen, found.Found.Found}
+use Rattle.distping_report.specs.{Results.IsCallerText, Sinks.Prints, Sinks.SinkState}
+use Rattle.distping_report.specs.declared.{asked.Dial.Dial, asked.Listen.Listen, found.Caller.Caller, found.Found.Found}
 
 -- both sides said the same; behind it at most an end was noted
 abbrev pub GoesOnAs : Handshake → Handshake → Type 0
@@ -126,12 +127,15 @@ abbrev pub ComesIn : Listen → Option Handshake → HandshakeVerdict → Type 0
 ComesIn l None v = v ≡ verdict.NoCaller
 ComesIn l (Some h) v = IsSpoken l.own (turns_of l.choices) h × (v ≡ verdict_of l.own.terms h)
 
--- the exit status is that of such a verdict
-pub record EndsWith (l : Listen) (status : ℕ) : Type 0 where
-  pub handshake : Option Handshake
+-- the exit status is that of such a verdict, and the text of the result was printed
+pub record EndsWith (l : Listen) (json : Bool) (old new : SinkState) (status : ℕ) : Type 0 where
+  pub caller : Caller
   pub verdict : HandshakeVerdict
-  pub comes : ComesIn l handshake verdict
+  pub comes : ComesIn l caller.handshake verdict
   pub is : status ≡ status_of verdict
+  pub text : List ℕ
+  pub shows : IsCallerText json l caller verdict text
+  pub printed : Prints text old new
 
 -- what is said and judged of a node that dials: this side has this name, and tries this cookie
 pub record IsListening (name : List ℕ) (cookie : Result (Bor (List ℕ)) NoCookie) (choices : Choices) (l : Listen) : Type 0 where
@@ -143,8 +147,9 @@ pub record IsListening (name : List ℕ) (cookie : Result (Bor (List ℕ)) NoCoo
   pub flags : l.own.setup.now.flags ≡ choices.flags
   pub choices_are : l.choices ≡ choices
 
--- THE EXIT STATUS OF A LISTENER of this name, with this cookie
-pub record ListenEndsWith (name : List ℕ) (cookie : Result (Bor (List ℕ)) NoCookie) (choices : Choices) (status : ℕ) : Type 0 where
+-- THE EXIT STATUS OF A LISTENER of this name, with this cookie, and what it printed
+pub record ListenEndsWith (name : List ℕ) (cookie : Result (Bor (List ℕ)) NoCookie) (choices : Choices) (old new : SinkState)
+    (status : ℕ) : Type 0 where
   pub listen : Listen
   pub listening : IsListening name cookie choices listen
-  pub ends : EndsWith listen status
+  pub ends : EndsWith listen choices.json old new status

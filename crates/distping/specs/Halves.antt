@@ -1,6 +1,6 @@
 -- WHAT IS KEPT OF A PROBE, to compare it with those of other nodes: the verdict, the flags that the node announced, and the kinds of address
 -- by which it is reached.
-use Rattle.std.specs.Prelude.{◌≡◌, ◌||◌, false, List, [], ◌∷◌, ℕ, Option, Some, None, Result, if◌then◌else◌}
+use Rattle.std.specs.Prelude.{◌≡◌, ◌||◌, Bool, false, List, [], ◌∷◌, ℕ, Option, Some, None, Result, if◌then◌else◌}
 use Rattle.std.specs.{Borrow.Bor, Net.Addr.is_ipv4, Net.Addr.is_ipv6, Net.Socket.socket_ip}
 use Rattle.std.specs.declared.net.socket_addr.SocketAddr.{SocketAddr}
 use Rattle.dist_names.specs.declared.flags.Flags.{Flags}
@@ -9,7 +9,7 @@ use Rattle.dist_messages.specs.declared.message.Side.TheVariants.{Acceptor}
 use Rattle.dist_talk.specs.{Described.Description, Reaching.is_found}
 use Rattle.dist_talk.specs.declared.verdict.{HandshakeVerdict.HandshakeVerdict, NoCookie.NoCookie}
 use Rattle.dist_talk.specs.declared.verdict.HandshakeVerdict.TheVariants as verdict
-use Rattle.distping_report.specs.{Found.described_in, declared.asked.Dial.Dial, declared.found.ProbeOutcome.ProbeOutcome}
+use Rattle.distping_report.specs.{Found.described_in, Results.IsNodeText, declared.asked.Dial.Dial, declared.found.ProbeOutcome.ProbeOutcome}
 use Rattle.distping.specs.Coming.{Comes}
 
 -- the flags of a node that said them whole: the older challenge has half of them, and no creation
@@ -44,9 +44,19 @@ pub record DialKeeps (d : Dial) (half : Half) : Type 0 where
   pub comes : Comes d outcome.found outcome.verdict
   pub kept : IsKept outcome half
 
+-- the same, and this text is printed of that result
+pub record DialShows (json : Bool) (d : Dial) (half : Half) (text : List ℕ) : Type 0 where
+  pub keeps : DialKeeps d half
+  pub shows : IsNodeText json d keeps.outcome text
+
 -- THIS IS KEPT OF A NODE: of a probe of the node of this name, with this cookie
 pub record HalfComes (cookie : Result (Bor (List ℕ)) NoCookie) (half : Half) : Type 0 where
   pub dial : Dial
   pub node_is : dial.node.now ≡ half.node.now
   pub cookie_is : dial.cookie ≡ cookie
   pub keeps : DialKeeps dial half
+
+-- THIS IS KEPT AND PRINTED OF A NODE: the text is that of the result of that probe, with `--json` its object
+pub record ResultComes (cookie : Result (Bor (List ℕ)) NoCookie) (json : Bool) (half : Half) (text : List ℕ) : Type 0 where
+  pub comes : HalfComes cookie half
+  pub shows : IsNodeText json comes.dial comes.keeps.outcome text

@@ -38,7 +38,9 @@ fn has_colors(rt: &HostRuntime) -> bool {
 
 impl<'a, R: Resolving> Context<'a, R> {
     /// Lines on the screen; with `--json` only those of objects.
-    pub fn screen(&self) -> LineSink<'static> {
+    pub fn screen(&self) -> LineSink<'static>
+        ensures { result.quiet ≡ self.now.wanted.now.choices.json }
+    {
         let choices = &self.wanted.choices;
         LineSink::on_screen(self.rt, choices.json).for_probe(choices, has_colors(self.rt))
     }

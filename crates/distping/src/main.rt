@@ -30,13 +30,14 @@ use dist_program::{HostError, Resolving, lookup_host, mapper_port, read_words, r
 use dist_secret::Cookie;
 use dist_talk::{NoCookie, OwnSide, Terms, Viewpoint};
 use distping_capture::read_capture;
-use distping_report::{Caller, LineSink, Listed, Listen};
+use distping_report::{Caller, LineSink, Listed, Listen, ResultSink};
 use distping_words::{
     Choices, CookieSource, Fault, Instead, Refusal, Wanted, cookie_of, read_roster, wanted_of,
 };
 use gathering::gather;
 use links::{draw_challenge, setup_of, take_connection};
 use nodes::Nodes;
+use std::io::Write;
 use std::net::SocketAddr;
 use std::process::ExitCode;
 use together::collect_halves;
@@ -124,22 +125,24 @@ fn follow<R: Resolving + Sync>(
 ) -> Result<u8, Refusal> {
     read_names(rt, wanted)?;
     let cookie = cookie_read(rt, &wanted.choices)?;
-    Ok(carry_out(rt, resolver, wanted, cookie.as_ref())?)
+    let mut out = ResultSink::new(rt.stdout());
+    Ok(carry_out(rt, resolver, wanted, cookie.as_ref(), &mut out)?)
 }
 
-// Reads a capture, listens, or checks nodes.
-fn carry_out<'x, R: Resolving + Sync>(
+// Reads a capture, listens, or checks nodes. The results of nodes and of a connection go to `out`.
+fn carry_out<'x, R: Resolving + Sync, W: Write>(
     rt: &'x HostRuntime,
     resolver: &'x R,
     wanted: &'x Wanted<'x>,
     cookie: Option<&'x Cookie>,
+    out: &mut ResultSink<W>,
 ) -> Result<u8, Fault>
     ensures capture { IfSome wanted.now.choices.capture (λ path. IfOk result (CaptureEndsWith (terms_of cookie.entry))) }
     ensures listen { wanted.now.choices.capture ≡ None → IfSome wanted.now.choices.listen (λ port. IfSome wanted.now.name (λ name.
-        IfOk result (ListenEndsWith name (ok_or cookie.entry (why_none wanted.now.choices.cookie)) wanted.now.choices))) }
+        IfOk result (ListenEndsWith name (ok_or cookie.entry (why_none wanted.now.choices.cookie)) wanted.now.choices out.old out.new))) }
     ensures nodes { (names : List (List ℕ)) → wanted.now.choices.capture ≡ None → wanted.now.choices.listen ≡ None → wanted.now.choices.watch ≡ None
         → AreNodes wanted.now.targets.items names
-        → IfOk result (RunEndsWith (ok_or cookie.entry (why_none wanted.now.choices.cookie)) names 0) }
+        → IfOk result (RunEndsWith (ok_or cookie.entry (why_none wanted.now.choices.cookie)) wanted.now.choices.json names 0 out.old out.new) }
 {
     if let Some(path) = wanted.choices.capture {
         return read_capture(rt, path, &wanted.choices, cookie);
@@ -152,8 +155,8 @@ fn carry_out<'x, R: Resolving + Sync>(
         cookie: cookie.ok_or(no_cookie(&wanted.choices)),
     };
     match (wanted.choices.listen, &wanted.name) {
-        (Some(port), Some(name)) => listen(&context, port, name),
-        _ => check_nodes(&context),
+        (Some(port), Some(name)) => listen(&context, port, name, out),
+        _ => check_nodes(&context, out),
     }
 }
 
@@ -201,8 +204,13 @@ fn place_of<R: Resolving>(context: &Context<'_, R>) -> Result<Option<SocketAddr>
 }
 
 // Takes one connection at this port as the node with this name, prints the result, and returns its status.
-fn listen<R: Resolving>(context: &Context<'_, R>, port: u16, name: &NodeName) -> Result<u8, Fault>
-    ensures { IfOk result (ListenEndsWith name.now context.now.cookie context.now.wanted.now.choices) }
+fn listen<R: Resolving, W: Write>(
+    context: &Context<'_, R>,
+    port: u16,
+    name: &NodeName,
+    out: &mut ResultSink<W>,
+) -> Result<u8, Fault>
+    ensures { IfOk result (ListenEndsWith name.now context.now.cookie context.now.wanted.now.choices out.old out.new) }
 {
     let choices = context.wanted.choices;
     let place = place_of(context)?;
@@ -224,41 +232,51 @@ fn listen<R: Resolving>(context: &Context<'_, R>, port: u16, name: &NodeName) ->
         place,
         choices,
     };
-    print_connection(context.rt, context.screen(), &one)
+    print_connection(context.rt, context.screen(), &one, out)
 }
 
 // Takes one connection, prints the result, and returns its status.
-fn print_connection(rt: &HostRuntime, lines: LineSink<'_>, one: &Listen<'_>) -> Result<u8, Fault>
-    ensures { IfOk result (EndsWith one.now) }
+fn print_connection<W: Write>(
+    rt: &HostRuntime,
+    lines: LineSink<'_>,
+    one: &Listen<'_>,
+    out: &mut ResultSink<W>,
+) -> Result<u8, Fault>
+    ensures { IfOk result (EndsWith one.now lines.entry.quiet out.old out.new) }
 {
     let mut caller = Caller::nobody();
     let verdict = take_connection(rt, one, lines, &mut caller)?;
-    lines.put_connection(one, &caller, verdict)?;
+    lines.put_details(verdict)?;
+    out.print(&lines.caller_text(one, &caller, verdict)?)?;
     Ok(verdict.status())
 }
 
 // Finds the nodes, and watches them or probes each once.
-fn check_nodes<R: Resolving + Sync>(context: &Context<'_, R>) -> Result<u8, Fault>
+fn check_nodes<R: Resolving + Sync, W: Write>(
+    context: &Context<'_, R>,
+    out: &mut ResultSink<W>,
+) -> Result<u8, Fault>
     ensures once { (names : List (List ℕ)) → context.now.wanted.now.choices.watch ≡ None → AreNodes context.now.wanted.now.targets.items names
-        → IfOk result (RunEndsWith context.now.cookie names 0) }
+        → IfOk result (RunEndsWith context.now.cookie context.now.wanted.now.choices.json names 0 out.old out.new) }
 {
     let mut nodes = Nodes::new(context.rt.alloc());
     let status = gather(context, &mut nodes)?;
-    check_all(context, &nodes.names, status)
+    check_all(context, &nodes.names, status, out)
 }
 
 // Probes each of these nodes once, prints what can be said of each pair, and returns the exit status. `status` is that of the hosts that
 // were asked for nodes.
 #[tactic(auto, using(crate::proofs::Firsts::first_of_assoc))]
-fn probe_all<R: Resolving + Sync>(
+fn probe_all<R: Resolving + Sync, W: Write>(
     context: &Context<'_, R>,
     names: &[NodeName],
     status: u8,
+    out: &mut ResultSink<W>,
 ) -> Result<u8, Fault>
-    ensures { IfOk result (RunEndsWith context.now.cookie names.now status) }
+    ensures { IfOk result (RunEndsWith context.now.cookie context.now.wanted.now.choices.json names.now status out.old out.new) }
 {
     let mut halves = Vec::new(context.rt.alloc());
-    let status = first_of(status, collect_halves(context, names, &mut halves)?);
+    let status = first_of(status, collect_halves(context, names, &mut halves, out)?);
     compare(
         context.screen(),
         context.wanted.choices.all_pairs,
@@ -269,12 +287,14 @@ fn probe_all<R: Resolving + Sync>(
 
 // Watches these nodes, or probes each once and prints what can be said of each pair. `status` is that of the hosts that were asked for
 // nodes.
-fn check_all<R: Resolving + Sync>(
+fn check_all<R: Resolving + Sync, W: Write>(
     context: &Context<'_, R>,
     names: &[NodeName],
     status: u8,
+    out: &mut ResultSink<W>,
 ) -> Result<u8, Fault>
-    ensures once { context.now.wanted.now.choices.watch ≡ None → IfOk result (RunEndsWith context.now.cookie names.now status) }
+    ensures once { context.now.wanted.now.choices.watch ≡ None
+        → IfOk result (RunEndsWith context.now.cookie context.now.wanted.now.choices.json names.now status out.old out.new) }
 {
     let listed = &Listed::new(context.rt.alloc(), names)?;
     let context = &Context { listed, ..*context };
@@ -284,5 +304,5 @@ fn check_all<R: Resolving + Sync>(
     {
         return watch_all(context, names, rhythm);
     }
-    probe_all(context, names, status)
+    probe_all(context, names, status, out)
 }

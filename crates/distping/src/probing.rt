@@ -1,11 +1,12 @@
-//! Probes one node, and prints the result.
+//! Probes one node, and prints its steps.
 
-ghost use Rattle.std.specs.Prelude.{◌≡◌, IfOk, option_map};
+ghost use Rattle.std.specs.Prelude.{◌≡◌, IfOk, option_map, string_bytes};
 ghost use Rattle.dist_talk.specs.Described.{view_of};
-ghost use Rattle.distping.specs.Halves.{DialKeeps, HalfComes, IsKept, flags_kept, kinds_of, with_kind};
+ghost use Rattle.distping.specs.Halves.{DialKeeps, DialShows, HalfComes, IsKept, ResultComes, flags_kept, kinds_of, with_kind};
 
 use crate::common::Context;
 use crate::links::probe;
+use crate::reply::NodeResult;
 use dist_cluster::{AddressKinds, Half, Target, USUAL};
 use dist_names::{Flags, NodeName};
 use dist_program::{Addresses, Resolving};
@@ -101,28 +102,32 @@ fn dial_silently<'n>(
     Ok(half_of(node, &outcome))
 }
 
-// The same, and prints the result.
+// The same, and prints what belongs before the result.
 fn dial_and_print<'n>(
     dial: &Dial<'_>,
     addresses: Addresses,
     node: &'n NodeName,
-) -> Result<Half<'n>, Fault>
-    ensures node { IfOk result (λ half. half.node.now ≡ node.now) }
-    ensures comes { IfOk result (DialKeeps dial.now) }
+) -> Result<NodeResult<'n>, Fault>
+    ensures node { IfOk result (λ it. it.half.node.now ≡ node.now) }
+    ensures shows { IfOk result (λ it. DialShows dial.now.lines.quiet dial.now it.half (string_bytes it.text)) }
 {
     let outcome = probe(dial, addresses)?;
-    dial.lines.put_probe(dial, &outcome)?;
-    Ok(half_of(node, &outcome))
+    dial.lines.put_before_result(dial, &outcome)?;
+    Ok(NodeResult {
+        half: half_of(node, &outcome),
+        text: dial.lines.node_text(dial, &outcome)?,
+    })
 }
 
-/// Prints the heading of a node (all have one unless a single node is asked for), probes the node, prints the result, and returns what is kept of it.
+/// Prints the heading of a node (all have one unless a single node is asked for), probes the node, prints what belongs before the
+/// result, and returns the result.
 pub fn print_probe<'n, R: Resolving>(
     context: &Context<'_, R>,
     lines: LineSink<'_>,
     node: &'n NodeName,
-) -> Result<Half<'n>, Fault>
-    ensures node { IfOk result (λ half. half.node.now ≡ node.now) }
-    ensures comes { IfOk result (HalfComes context.now.cookie) }
+) -> Result<NodeResult<'n>, Fault>
+    ensures node { IfOk result (λ it. it.half.node.now ≡ node.now) }
+    ensures comes { IfOk result (λ it. ResultComes context.now.cookie lines.entry.quiet it.half (string_bytes it.text)) }
 {
     if !matches!(context.wanted.targets.as_slice(), [Target::Node(_)]) {
         lines.put_heading(node.bytes())?;

@@ -1,4 +1,4 @@
-//! The result for one of several nodes that were dialled at once.
+//! The results for nodes that were dialled.
 
 ghost use Rattle.std.specs.{Prelude.◌≡◌, Result.ForOk};
 
@@ -6,15 +6,24 @@ use dist_cluster::Half;
 use dist_names::NodeName;
 use distping_words::Fault;
 
+/// The result for a node.
+#[derive(Drop)]
+pub struct NodeResult<'n> {
+    /// What is kept of the probe.
+    pub half: Half<'n>,
+    /// What is printed of it.
+    pub text: String,
+}
+
 /// What a thread returns that dialled a node.
 #[derive(Drop)]
 pub struct DialReply<'n> {
     /// The node.
     pub node: &'n NodeName,
-    /// The lines that are still to be printed.
-    pub text: String,
-    /// What is kept of the probe, or the fault that stopped it.
-    pub half: Result<Half<'n>, Fault>,
-    // It is kept of that node.
-    pub ghost own: { ForOk half (λ h. h.node.now ≡ node.now) },
+    /// The lines of its steps that are still to be printed.
+    pub steps: String,
+    /// Its result, or the fault that stopped the probe.
+    pub found: Result<NodeResult<'n>, Fault>,
+    // It is that of this node.
+    pub ghost own: { ForOk found (λ it. it.half.node.now ≡ node.now) },
 }

@@ -1,48 +1,55 @@
 //! Probes several nodes at once, each in a thread, and prints the results in the order of the nodes.
 //!
-//! The lines of the first node of a group go to the screen step by step. Those of each other node wait on a page until the group is
-//! done, since lines of two nodes would mix. A fault has the same effect as if the nodes were probed one after another: what comes
-//! before it is printed.
+//! The steps of the first node of a group go to the screen one by one. Those of each other node wait on a page until the group is
+//! done, since lines of two nodes would mix, and so does each result. A fault has the same effect as if the nodes were probed one
+//! after another: what comes before it is printed.
 
 ghost use Rattle.std.specs.Prelude.{◌≡◌, ◌++◌, ◌∷◌, [], ◌<◌, length, IfOk, OnOk, slice_index_or};
 ghost use Rattle.std.specs.Result.{ForOk};
 ghost use Rattle.dist_cluster.specs.Statuses.{first_of};
 ghost use Rattle.dist_talk.specs.Words.{status_of};
 ghost use Rattle.std.specs.List.{All};
-ghost use Rattle.distping.specs.{Order.first_status, Order.names_in, Order.names_of, Halves.HalfComes, Runs.ReplyComes};
+ghost use Rattle.distping.specs.{Order.first_status, Order.names_in, Order.names_of, Runs.PrintsResults, Runs.ReplyComes};
 
 use crate::common::Context;
 use crate::grouping::split_group;
 use crate::probing::print_probe;
-use crate::reply::DialReply;
+use crate::reply::{DialReply, NodeResult};
 use dist_cluster::{Half, first_of};
 use dist_names::NodeName;
 use dist_program::Resolving;
-use distping_report::{LineSink, Page};
+use distping_report::{LineSink, Page, ResultSink};
 use distping_words::Fault;
+use std::io::Write;
 use std::thread::map_indices;
 
-// Probes the node at this place of its group. The lines of the first go to the screen, those of any other to a page.
+// The lines of the node at this place of its group: those of the first go to the screen, those of any other to this page.
+fn sink_in_group<'p>(screen: LineSink<'static>, place: usize, page: &'p Page) -> LineSink<'p>
+    ensures { result.quiet ≡ screen.entry.quiet }
+{
+    if place == 0 {
+        screen
+    } else {
+        screen.on_page(page)
+    }
+}
+
+// Probes the node at this place of its group.
 fn make_reply<'n, R: Resolving>(
     context: &Context<'_, R>,
     place: usize,
     node: &'n NodeName,
 ) -> DialReply<'n>
     ensures node { result.node.now ≡ node.now }
-    ensures comes { ReplyComes context.now.cookie result }
+    ensures comes { ReplyComes context.now.cookie context.now.wanted.now.choices.json result }
 {
     let page = Page::new(context.rt.alloc());
-    let screen = context.screen();
-    let lines = if place == 0 {
-        screen
-    } else {
-        screen.on_page(&page)
-    };
-    let half = print_probe(context, lines, node);
+    let lines = sink_in_group(context.screen(), place, &page);
+    let found = print_probe(context, lines, node);
     DialReply {
         node,
-        text: page.into_text(),
-        half,
+        steps: page.into_text(),
+        found,
     }
 }
 
@@ -52,7 +59,7 @@ fn probe_group<'n, R: Resolving + Sync>(
     group: &'n [NodeName],
 ) -> Result<Vec<DialReply<'n>>, Fault>
     ensures names { IfOk result (λ replies. names_in replies.items ≡ group.now) }
-    ensures come { IfOk result (λ replies. All (ReplyComes context.now.cookie) replies.items) }
+    ensures come { IfOk result (λ replies. All (ReplyComes context.now.cookie context.now.wanted.now.choices.json) replies.items) }
 {
     let replies = map_indices(
         context.resolver,
@@ -61,48 +68,53 @@ fn probe_group<'n, R: Resolving + Sync>(
         &|place: usize| -> DialReply<'_>
             requires { place < length group.now }
             ensures node { result.node.now ≡ slice_index_or group.entry.now place [] }
-            ensures comes { ReplyComes context.entry.now.cookie result }
+            ensures comes { ReplyComes context.entry.now.cookie context.entry.now.wanted.now.choices.json result }
         { make_reply(context, place, &group[place]) },
     )?;
     Ok(replies)
 }
 
-// Prints the lines that a node still has, keeps its result, and returns its status.
+// Prints the lines that a node still has and its result, keeps that, and returns its status.
 #[tactic(auto, using(crate::proofs::Firsts::first_status_push))]
-fn take_reply<'n>(
+fn take_reply<'n, W: Write>(
     lines: LineSink<'_>,
     reply: DialReply<'n>,
     halves: &mut Vec<Half<'n>>,
+    out: &mut ResultSink<W>,
 ) -> Result<u8, Fault>
     ensures names { OnOk result (names_of halves.new.items ≡ names_of halves.old.items ++ reply.entry.node.now ∷ []) }
-    ensures half { OnOk result (ForOk reply.entry.half (λ half. halves.new.items ≡ halves.old.items ++ half ∷ [])) }
-    ensures come { OnOk result ((c : _) → All (HalfComes c) halves.old.items → ReplyComes c reply.entry → All (HalfComes c) halves.new.items) }
-    ensures status { IfOk result (λ status. ForOk reply.entry.half (λ half. status ≡ status_of half.verdict)) }
+    ensures half { OnOk result (ForOk reply.entry.found (λ it. halves.new.items ≡ halves.old.items ++ it.half ∷ [])) }
+    ensures printed { OnOk result ((c : _) (json : _) (start : _) → PrintsResults c json halves.old.items start out.old
+        → ReplyComes c json reply.entry → PrintsResults c json halves.new.items start out.new) }
+    ensures status { IfOk result (λ status. ForOk reply.entry.found (λ it. status ≡ status_of it.half.verdict)) }
     ensures first { IfOk result (λ status. first_status halves.new.items ≡ first_of (first_status halves.old.items) status) }
 {
-    let DialReply { text, half, .. } = reply;
-    if !text.is_empty() {
-        lines.write(&text)?;
+    let DialReply { steps, found, .. } = reply;
+    if !steps.is_empty() {
+        lines.write(&steps)?;
     }
-    let half = half?;
+    let NodeResult { half, text } = found?;
+    out.print(&text)?;
     halves.push(half)?;
     Ok(half.verdict.status())
 }
 
-// Takes the results of a group, in the order of its nodes, and returns the first status that is not 0.
+// Prints and keeps the results of a group, in the order of its nodes, and returns the first status that is not 0.
 #[tactic(auto, using(crate::proofs::Firsts::first_of_assoc, crate::proofs::Firsts::first_of_none))]
-fn take_replies<'n>(
+fn take_replies<'n, W: Write>(
     lines: LineSink<'_>,
     replies: Vec<DialReply<'n>>,
     halves: &mut Vec<Half<'n>>,
+    out: &mut ResultSink<W>,
 ) -> Result<u8, Fault>
     ensures names { OnOk result (names_of halves.new.items ≡ names_of halves.old.items ++ names_in replies.entry.items) }
-    ensures come { OnOk result ((c : _) → All (HalfComes c) halves.old.items → All (ReplyComes c) replies.entry.items → All (HalfComes c) halves.new.items) }
+    ensures printed { OnOk result ((c : _) (json : _) (start : _) → PrintsResults c json halves.old.items start out.old
+        → All (ReplyComes c json) replies.entry.items → PrintsResults c json halves.new.items start out.new) }
     ensures first { IfOk result (λ status. first_status halves.new.items ≡ first_of (first_status halves.old.items) status) }
 {
     let mut status = 0;
     for reply in replies {
-        status = first_of(status, take_reply(lines, reply, halves)?);
+        status = first_of(status, take_reply(lines, reply, halves, out)?);
     }
     Ok(status)
 }
@@ -110,13 +122,15 @@ fn take_replies<'n>(
 /// Probes all nodes, group by group, prints the results, appends them to `halves` in the order of the nodes, and returns the first
 /// status that is not 0.
 #[tactic(auto, using(crate::proofs::Firsts::first_of_assoc, crate::proofs::Firsts::first_of_none))]
-pub fn collect_halves<'n, R: Resolving + Sync>(
+pub fn collect_halves<'n, R: Resolving + Sync, W: Write>(
     context: &Context<'_, R>,
     nodes: &'n [NodeName],
     halves: &mut Vec<Half<'n>>,
+    out: &mut ResultSink<W>,
 ) -> Result<u8, Fault>
     ensures names { OnOk result (names_of halves.new.items ≡ names_of halves.old.items ++ nodes.now) }
-    ensures come { OnOk result (All (HalfComes context.now.cookie) halves.old.items → All (HalfComes context.now.cookie) halves.new.items) }
+    ensures printed { OnOk result ((start : _) → PrintsResults context.now.cookie context.now.wanted.now.choices.json halves.old.items start out.old
+        → PrintsResults context.now.cookie context.now.wanted.now.choices.json halves.new.items start out.new) }
     // If there were no results before, the status is the first of these results' that is not 0.
     ensures first { IfOk result (λ status. first_status halves.new.items ≡ first_of (first_status halves.old.items) status) }
 {
@@ -125,6 +139,6 @@ pub fn collect_halves<'n, R: Resolving + Sync>(
     }
     let (group, others) = split_group(nodes);
     let replies = probe_group(context, group)?;
-    let status = take_replies(context.screen(), replies, halves)?;
-    Ok(first_of(status, collect_halves(context, others, halves)?))
+    let status = take_replies(context.screen(), replies, halves, out)?;
+    Ok(first_of(status, collect_halves(context, others, halves, out)?))
 }

@@ -4,3 +4,5 @@ pub mod Shown
 pub mod Objects
 pub mod Found
 pub mod Layouts
+pub mod Sinks
+pub mod Results

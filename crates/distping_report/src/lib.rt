@@ -16,6 +16,7 @@ mod objects;
 mod page;
 mod piece;
 mod shown;
+mod sink;
 mod watched;
 
 pub use asked::{Dial, Listen};
@@ -29,4 +30,5 @@ pub use objects::{FORM, Value, object_line};
 pub use page::Page;
 pub use piece::LinePiece;
 pub use shown::MOST_SHOWN;
+pub use sink::ResultSink;
 pub use watched::{Answers, Seen};

@@ -6,10 +6,11 @@ ghost use Rattle.std.specs.Prelude.{◌≡◌};
 use crate::page::Page;
 use crate::piece::LinePiece::{self, Names, Number, Text};
 use crate::piece::line_of;
+use crate::sink::ResultSink;
 use dist_names::Flags;
 use distping_words::{Choices, Detail, Fault};
 use std::alloc::{AllocError, Global};
-use std::io::{self, ErrorKind, Stdout, Write};
+use std::io::Stdout;
 
 mod many;
 mod steps;
@@ -41,16 +42,17 @@ pub struct LineSink<'p> {
     has_colors: bool,
 }
 
-// The marks at the front of a line, and each in its colour: green, red, yellow.
-const COLORS: [(&str, &str); 3] = [
-    ("✓", "\x1b[32m✓\x1b[0m"),
-    ("✗", "\x1b[31m✗\x1b[0m"),
-    ("!", "\x1b[33m!\x1b[0m"),
-];
+// A check mark and a cross, and each in its colour: green and red.
+const CHECK: (&str, &str) = ("✓", "\x1b[32m✓\x1b[0m");
+
+const CROSS: (&str, &str) = ("✗", "\x1b[31m✗\x1b[0m");
+
+// The marks at the front of a line, and each in its colour. That of a warning is yellow.
+const MARKS: [(&str, &str); 3] = [CHECK, CROSS, ("!", "\x1b[33m!\x1b[0m")];
 
 // Appends a line, with its mark in colour.
 fn push_colored(text: &mut String, line: &str) -> Result<(), AllocError> {
-    for (mark, colored) in &COLORS {
+    for (mark, colored) in &MARKS {
         if let Some(rest) = line.strip_prefix(*mark) {
             text.push_str(colored)?;
             return text.push_str(rest);
@@ -67,13 +69,6 @@ fn with_colors(alloc: Global, text: &str) -> Result<String, AllocError> {
         made.push('\n')?;
     }
     Ok(made)
-}
-
-// Prints a text at once.
-fn print(screen: Stdout, text: &str) -> io::Result<()> {
-    let mut screen = screen;
-    screen.write_all(text.as_bytes())?;
-    screen.flush()
 }
 
 impl<'p> LineSink<'p> {
@@ -126,17 +121,12 @@ impl<'p> LineSink<'p> {
 
     // Writes a text to the screen, and flushes.
     fn show(self, screen: Stdout, text: &str) -> Result<(), Fault> {
-        match print(screen, text) {
-            Ok(()) => Ok(()),
-            Err(error) if error.kind() == ErrorKind::BrokenPipe => {
-                if self.ends_when_closed {
-                    Err(Fault::OutputClosed)
-                } else {
-                    Ok(())
-                }
-            }
-            Err(error) => Err(error.into()),
+        let mut sink = ResultSink::new(screen);
+        sink.print(text)?;
+        if sink.is_closed() && self.ends_when_closed {
+            return Err(Fault::OutputClosed);
         }
+        Ok(())
     }
 
     /// Writes a text, if there was memory for it.

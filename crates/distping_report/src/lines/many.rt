@@ -117,7 +117,7 @@ impl LineSink<'_> {
         self.put_result(&[
             Escaped(time),
             Text(" "),
-            Text(exit_mark(verdict.status())),
+            Text(exit_mark(verdict.status(), false)),
             Text("  "),
             Name(node.bytes()),
             Text(": "),

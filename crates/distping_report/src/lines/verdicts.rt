@@ -1,48 +1,66 @@
-//! The lines of the result of a probe, and of a connection that was taken, or their objects.
+//! The texts of the results of a probe, of a connection that was taken, and of a host without nodes, and what is printed before them.
 
 ghost use Rattle.std.specs.Prelude.{◌≡◌, IfOk, string_bytes};
-ghost use Rattle.distping_report.specs.Texts.{IsVerdictText, mark_of};
+ghost use Rattle.distping_report.specs.{Results.IsCallerText, Results.IsNodeText, Texts.IsVerdictText, Texts.mark_of};
 
 use crate::asked::{Dial, Listen};
 use crate::found::{Caller, ProbeOutcome};
-use crate::lines::LineSink;
+use crate::lines::{CHECK, CROSS, LineSink};
 use crate::objects::{caller_object, group_object, object_of};
 use crate::piece::LinePiece::{Host, Name, Number, Text};
 use dist_cluster::Group;
 use dist_names::NodeName;
 use dist_talk::HandshakeVerdict;
 use distping_words::{Detail, Fault};
-use std::alloc::{AllocError, Global};
+use std::alloc::AllocError;
 use std::net::SocketAddr;
 
-/// The mark of an exit status.
-pub fn exit_mark(status: u8) -> &'static str
-    ensures { result.now ≡ mark_of status }
+/// The mark of an exit status, plain or in its colour.
+pub fn exit_mark(status: u8, has_colors: bool) -> &'static str
+    ensures { result.now ≡ mark_of has_colors status }
 {
-    if status == 0 { "✓" } else { "✗" }
-}
-
-// The two lines of a verdict: word and cause, then the remedy.
-fn verdict_lines(alloc: Global, verdict: HandshakeVerdict) -> Result<String, AllocError>
-    ensures { IfOk result (λ text. IsVerdictText verdict (string_bytes text)) }
-{
-    let mark = exit_mark(verdict.status());
-    let (name, cause, remedy) = (verdict.name(), verdict.cause(), verdict.remedy());
-    format!(in alloc; "{mark}  {name}: {cause}\n   remedy    {remedy}\n")
+    let (plain, colored) = if status == 0 { CHECK } else { CROSS };
+    if has_colors { colored } else { plain }
 }
 
 impl LineSink<'_> {
-    /// Prints the result of a connection that was taken.
-    pub fn put_connection(
+    // The lines of a verdict: word and cause, and the remedy, unless the verdict alone is printed.
+    fn verdict_lines(self, verdict: HandshakeVerdict) -> Result<String, AllocError>
+        ensures { IfOk result (λ text. IsVerdictText verdict (string_bytes text)) }
+    {
+        let mark = exit_mark(verdict.status(), self.has_colors);
+        let (name, cause) = (verdict.name(), verdict.cause());
+        if self.detail == Detail::Verdict {
+            return format!(in self.alloc; "{mark}  {name}: {cause}\n");
+        }
+        let remedy = verdict.remedy();
+        format!(in self.alloc; "{mark}  {name}: {cause}\n   remedy    {remedy}\n")
+    }
+
+    /// The text of the result of a probe.
+    pub fn node_text(self, dial: &Dial<'_>, outcome: &ProbeOutcome) -> Result<String, AllocError>
+        ensures { IfOk result (λ text. IsNodeText self.entry.quiet dial.now outcome.now (string_bytes text)) }
+    {
+        if self.quiet {
+            object_of(self.alloc, dial, outcome)
+        } else {
+            self.verdict_lines(outcome.verdict)
+        }
+    }
+
+    /// The text of the result of a connection that was taken.
+    pub fn caller_text(
         self,
         listen: &Listen<'_>,
         caller: &Caller,
         verdict: HandshakeVerdict,
-    ) -> Result<(), Fault> {
+    ) -> Result<String, AllocError>
+        ensures { IfOk result (λ text. IsCallerText self.entry.quiet listen.now caller.now verdict (string_bytes text)) }
+    {
         if self.quiet {
-            self.write_made(caller_object(self.alloc, listen, caller, verdict))
+            caller_object(self.alloc, listen, caller, verdict)
         } else {
-            self.put_verdict(verdict)
+            self.verdict_lines(verdict)
         }
     }
 
@@ -66,8 +84,8 @@ impl LineSink<'_> {
         ])
     }
 
-    // Prints what belongs before the lines of a verdict: the missing flags, or how many bytes arrived without a whole message.
-    fn put_details(self, verdict: HandshakeVerdict) -> Result<(), Fault> {
+    /// Prints what belongs before the text of a verdict: the missing flags, or how many bytes arrived without a whole message.
+    pub fn put_details(self, verdict: HandshakeVerdict) -> Result<(), Fault> {
         match verdict {
             HandshakeVerdict::LacksFlags(_, flags) => self.put_flags("   lacking  ", flags),
             HandshakeVerdict::Silent(_, count) if count > 0 => {
@@ -80,21 +98,13 @@ impl LineSink<'_> {
 
     /// Prints the lines of a verdict.
     pub fn put_verdict(self, verdict: HandshakeVerdict) -> Result<(), Fault> {
-        if self.detail == Detail::Verdict {
-            let mark = exit_mark(verdict.status());
-            let (name, cause) = (verdict.name(), verdict.cause());
-            return self.put_result(&[Text(mark), Text("  "), Text(name), Text(": "), Text(cause)]);
-        }
         self.put_details(verdict)?;
-        self.write_made(verdict_lines(self.alloc, verdict))
+        self.write_made(self.verdict_lines(verdict))
     }
 
-    /// Prints the result of a probe; of several addresses also which got furthest; and if the node was found by `--address`, that nodes
-    /// don't use it.
-    pub fn put_probe(self, dial: &Dial<'_>, outcome: &ProbeOutcome) -> Result<(), Fault> {
-        if self.quiet {
-            return self.write_made(object_of(self.alloc, dial, outcome));
-        }
+    /// Prints what belongs before the text of the result of a probe: of several addresses which got furthest; if the node was found by
+    /// `--address`, that nodes don't use it; and the details of the verdict.
+    pub fn put_before_result(self, dial: &Dial<'_>, outcome: &ProbeOutcome) -> Result<(), Fault> {
         let count = u32::try_from(outcome.verdicts.len()).unwrap_or(u32::MAX);
         if let Some(address) = &outcome.found.address
             && count > 1
@@ -108,7 +118,7 @@ impl LineSink<'_> {
         {
             self.put_other_way(dial.node)?;
         }
-        self.put_verdict(outcome.verdict)
+        self.put_details(outcome.verdict)
     }
 
     /// Prints the result for a host that gave no node.

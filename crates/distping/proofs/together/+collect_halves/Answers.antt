@@ -1,5 +1,5 @@
 use Rattle.distping.proofs.together.+collect_halves.Goals as goal
 
-pub returns-clause-come : goal.returns-clause-come
-returns-clause-come g t c = λ old.
-    c.in_ok-collect_halves.ensures.come (c.in_ok-status.ensures.come c.args.context.now.cookie old c.in_ok-replies.ensures.come)
+pub returns-clause-printed : goal.returns-clause-printed
+returns-clause-printed g t c = λ start old. c.in_ok-collect_halves.ensures.printed start
+    (c.in_ok-status.ensures.printed c.args.context.now.cookie c.args.context.now.wanted.now.choices.json start old c.in_ok-replies.ensures.come)

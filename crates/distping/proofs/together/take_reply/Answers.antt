@@ -1,9 +1,10 @@
-use Rattle.std.proofs.Common.{rules, subst, sym}
-use Rattle.std.proofs.lemmas.List.Elements.{All-push}
-use Rattle.std.specs.List.{All}
-use Rattle.distping.specs.Halves.{HalfComes}
+use Rattle.std.proofs.Common.{rules, string_bytes, subst}
+use Rattle.distping_report.specs.Sinks.{Prints}
+use Rattle.distping.proofs.Printing.{one_more}
 use Rattle.distping.proofs.together.take_reply.Goals as goal
 
-pub returns-clause-come : goal.returns-clause-come
-returns-clause-come c = λ k old comes. subst (All (HalfComes k)) (sym c.in_ok-push.ensures.items)
-    (All-push (HalfComes k) c.args.halves.now.items c.in_ok-half.half old (comes c.in_ok-half.half (search rules)))
+pub returns-clause-printed : goal.returns-clause-printed
+returns-clause-printed g c = λ k json start old comes.
+    let it = c.in_ok-half.field-0 in
+    one_more k json c.args.halves.now.items c.push.new.self.items it.half (string_bytes it.text) start c.args.out.now c.print.new.self
+    c.in_ok-push.ensures.items old (comes it (search rules)) (subst (λ t. Prints t c.args.out.now c.print.new.self) (search rules) c.in_ok-print.ensures)
