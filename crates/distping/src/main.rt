@@ -137,7 +137,8 @@ fn carry_out<'x, R: Resolving + Sync, W: Write>(
     cookie: Option<&'x Cookie>,
     out: &mut ResultSink<W>,
 ) -> Result<u8, Fault>
-    ensures capture { IfSome wanted.now.choices.capture (λ path. IfOk result (CaptureEndsWith (terms_of cookie.entry))) }
+    ensures capture { IfSome wanted.now.choices.capture (λ path.
+        IfOk result (λ status. (bytes : List ℕ) × CaptureEndsWith (terms_of cookie.entry) bytes status)) }
     ensures listen { wanted.now.choices.capture ≡ None → IfSome wanted.now.choices.listen (λ port. IfSome wanted.now.name (λ name.
         IfOk result (ListenEndsWith name (ok_or cookie.entry (why_none wanted.now.choices.cookie)) wanted.now.choices out.old out.new))) }
     ensures nodes { (names : List (List ℕ)) → wanted.now.choices.capture ≡ None → wanted.now.choices.listen ≡ None → wanted.now.choices.watch ≡ None

@@ -1,5 +1,6 @@
 pub mod Agreeing
 pub mod Counting
+pub mod Ending
 pub mod Frames
 pub mod Meeting
 pub mod Pieces

@@ -1,14 +1,12 @@
 -- All connections of a capture, segment by segment.
-use Rattle.std.proofs.Common.{◌≡◌, ℕ, suc, ◌<◌, ◌≤◌, List, [], ◌∷◌, ◌++◌, length, take, drop, map, get_or, set, Option, Some, None, refl, sym, ap, subst, ◌∙◌, append-nil, append_assoc, arith, slice_get, ◌+◌, IfSome, Result}
+use Rattle.std.proofs.Common.{◌≡◌, ℕ, suc, ◌<◌, ◌≤◌, List, [], ◌∷◌, ◌++◌, length, take, drop, map, get_or, set, Option, Some, None, Ok, refl, sym, ap, subst, ◌∙◌, append-nil, append_assoc, arith, slice_get, ◌+◌, IfSome}
 use Rattle.std.specs.List.{All, Contains, insert, remove}
 use Rattle.std.proofs.lemmas.List.Edits.{get_or-insert_at, length-insert}
 use Rattle.std.proofs.lemmas.List.Elements.{All-append, All-cons, All-drop, All-get_or, All-nil, All-set, All-take, All-weaker}
 use Rattle.std.proofs.lemmas.Option.{slice_get-get_or}
-use Rattle.dist_capture.specs.Reading.{Done, EndsAt, Next, Reading, Reads, Was, Opened, Fed, Asked, unread, view_of, with_bytes}
+use Rattle.dist_capture.specs.Reading.{Done, EndsAt, Next, Reading, Reads, Was, Opened, Fed, Asked, unread, view_of, whole, with_bytes}
 use Rattle.dist_capture.specs.{Tcp.Said, declared.segment.Endpoint.Endpoint, declared.segment.Segment.Segment}
-use Rattle.std.specs.Borrow.{Bor}
-use Rattle.dist_talk.specs.declared.{terms.Terms.Terms, verdict.NoCookie.NoCookie}
-use Rattle.dist_talk.specs.declared.terms.Viewpoint.TheVariants as viewpoint
+use Rattle.dist_talk.specs.declared.terms.Terms.{Terms}
 use Rattle.std.specs.declared.boxed.Box.{Box}
 use Rattle.std.specs.Global.{Global}
 use Rattle.distping_capture.specs.Captures.{CountsTo, EndsWith, IsAt, ReadsIn, TakesIn, Tracks, TracksNext}
@@ -120,33 +118,26 @@ rests r mid later f reads ends t stream p =
 pub takes_then : (r s u : Reading) (f g k : Finder) → TakesIn r f s g → TakesIn s g u k → TakesIn r f u k
 takes_then r s u f g k p q t stream w = q t stream (p t stream w)
 
--- a piece is read
-pub reads_then : (r s fed u : Reading) (f g k : Finder) (piece : List ℕ) → ReadsIn r f s g → fed ≡ with_bytes s piece → TakesIn fed g u k → ReadsIn r f u k
-reads_then r s fed u f g k piece p e q t stream w =
+-- all segments of the bytes that were read are taken, and then a piece is read
+pub reads_taken : (r s u : Reading) (f g k : Finder) (bytes : List ℕ) → ReadsIn bytes r f s g → TakesIn s g u k → ReadsIn bytes r f u k
+reads_taken r s u f g k bytes p q t stream w = q t (stream ++ bytes) (p t stream w)
+
+pub reads_fed : (r s fed : Reading) (f g : Finder) (bytes piece : List ℕ) → ReadsIn bytes r f s g → fed ≡ with_bytes s piece → ReadsIn (bytes ++ piece) r f fed g
+reads_fed r s fed f g bytes piece p e t stream w =
     let before = p t stream w in
-    let more : IsAt t ((stream ++ before.0) ++ piece) (with_bytes s piece) g = record {
-      segments = before.1.segments;
-      was = Fed s (stream ++ before.0) (map view_of before.1.segments) piece before.1.was;
-      tracks = before.1.tracks;
+    let more : IsAt t ((stream ++ bytes) ++ piece) (with_bytes s piece) g = record {
+      segments = before.segments;
+      was = Fed s (stream ++ bytes) (map view_of before.segments) piece before.was;
+      tracks = before.tracks;
     } in
-    (before.0 ++ piece, subst (λ (l : List ℕ). IsAt t l u k) (append_assoc stream before.0 piece) (q t ((stream ++ before.0) ++ piece) (subst (λ (x : Reading). IsAt t ((stream ++ before.0) ++ piece) x g) (sym e) more)))
+    subst (λ (l : List ℕ). IsAt t l fed g) (append_assoc stream bytes piece) (subst (λ (x : Reading). IsAt t ((stream ++ bytes) ++ piece) x g) (sym e) more)
 
-pub reads_none : (r : Reading) (f : Finder) → ReadsIn r f r f
-reads_none r f t stream p = ([], subst (λ (l : List ℕ). IsAt t l r f) (sym (append-nil stream)) p)
+pub reads_none : (r : Reading) (f : Finder) → ReadsIn [] r f r f
+reads_none r f t stream p = subst (λ (l : List ℕ). IsAt t l r f) (sym (append-nil stream)) p
 
--- what is judged by a cookie, or without one
-abbrev pub with_cookie : Result (Bor (List ℕ)) NoCookie → Terms
-with_cookie cookie = record { viewpoint = viewpoint.Capture; target = None; cookie = cookie }
-
-pub read_ends : (t u : Terms) (r s : Reading) (f g : Finder) (status : ℕ) → t ≡ u → Tracks t [] f → r ≡ unread → ReadsIn r f s g → ((t : Terms) (segments : List Segment) → Tracks t segments g → CountsTo t segments status)
-    → EndsWith u status
-read_ends t u r s f g status same tracks new reads ends =
+pub read_ends : (t : Terms) (r s : Reading) (f g : Finder) (bytes : List ℕ) (status : ℕ) → Tracks t [] f → r ≡ unread → ReadsIn bytes r f s g → whole s ≡ Ok None
+    → ((t : Terms) (segments : List Segment) → Tracks t segments g → CountsTo t segments status) → EndsWith t bytes status
+read_ends t r s f g bytes status tracks new reads no_more ends =
     let begun : IsAt t [] r f = record { segments = []; was = subst (λ (x : Reading). Was x [] []) (sym new) Opened; tracks = tracks } in
     let all = reads t [] begun in
-    subst (λ (x : Terms). EndsWith x status) same (record {
-      stream = all.0;
-      segments = all.1.segments;
-      reading = s;
-      was = all.1.was;
-      counts = ends t all.1.segments all.1.tracks;
-    })
+    record { segments = all.segments; reading = s; was = all.was; no_more = no_more; counts = ends t all.segments all.tracks }

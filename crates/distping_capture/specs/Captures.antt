@@ -1,11 +1,12 @@
 -- A WHOLE CAPTURE: the attempts that its segments show, and its exit status.
-use Rattle.std.specs.Prelude.{ℕ, List, [], ◌∷◌, ◌++◌, map, slice_get, IfSome}
+use Rattle.std.specs.Prelude.{◌≡◌, ℕ, List, [], ◌∷◌, ◌++◌, map, slice_get, Option, None, Ok, IfSome}
 use Rattle.std.specs.List.{All, Contains}
-use Rattle.dist_capture.specs.Reading.{Reading, Was, view_of}
+use Rattle.dist_capture.specs.Reading.{Reading, Was, view_of, whole}
 use Rattle.dist_capture.specs.declared.segment.Segment.{Segment}
 use Rattle.dist_talk.specs.declared.terms.Terms.{Terms}
-use Rattle.distping_capture.specs.{Carried.StandsOn, Connections.EndsOf, Exits.Counts, Exits.History, Exits.IsExit}
-use Rattle.distping_capture.specs.declared.{dials.PastDial.PastDial, finder.Finder.Finder}
+use Rattle.distping_capture.specs.{Carried.StandsOn, Connections.EndsOf, Exits.Counts, Exits.EndsAll, Exits.History, Exits.IsExit, Exits.exit_now}
+use Rattle.distping_capture.specs.declared.{connection.CapturedConnection.CapturedConnection, dials.PastDial.PastDial}
+use Rattle.distping_capture.specs.declared.{finder.Finder.Finder, register.Register.Register}
 
 -- THE EXIT STATUS after attempts that were judged by these terms, of what these segments show
 pub record CountsTo (t : Terms) (segments : List Segment) (status : ℕ) : Type 0 where
@@ -13,13 +14,27 @@ pub record CountsTo (t : Terms) (segments : List Segment) (status : ℕ) : Type 
   pub history : History t segments attempts
   pub exit : IsExit attempts status
 
--- THE EXIT STATUS OF A CAPTURE of these bytes, which have these segments
-pub record EndsWith (t : Terms) (status : ℕ) : Type 0 where
-  pub stream : List ℕ
+-- THE EXIT STATUS OF A CAPTURE of these bytes, which have these segments and no other one that is whole
+pub record EndsWith (t : Terms) (bytes : List ℕ) (status : ℕ) : Type 0 where
   pub segments : List Segment
   pub reading : Reading
-  pub was : Was reading stream (map view_of segments)
+  pub was : Was reading bytes (map view_of segments)
+  pub no_more : whole reading ≡ Ok None
   pub counts : CountsTo t segments status
+
+-- these are all bytes that a reader had, where those are known
+abbrev pub AreAll : Option (List ℕ) → List ℕ → Type 0
+AreAll known bytes = IfSome known (λ all. bytes ≡ all)
+
+-- the connections that are remembered
+abbrev pub connections_of : Finder → List CapturedConnection
+connections_of f = map (λ b. b.value) f.connections.items
+
+-- THE EXIT STATUS once all connections that are remembered ended
+pub record FinishesWith (f : Finder) (status : ℕ) : Type 0 where
+  pub last : Register
+  pub ends : EndsAll (connections_of f) f.register last
+  pub exit : status ≡ exit_now last
 
 -- ---- segment by segment
 
@@ -53,6 +68,6 @@ pub record IsAt (t : Terms) (stream : List ℕ) (reading : Reading) (f : Finder)
 abbrev pub TakesIn : Reading → Finder → Reading → Finder → Type 0
 TakesIn r f s g = (t : Terms) (stream : List ℕ) → IsAt t stream r f → IsAt t stream s g
 
--- more bytes were read, and segments taken
-abbrev pub ReadsIn : Reading → Finder → Reading → Finder → Type 0
-ReadsIn r f s g = (t : Terms) (stream : List ℕ) → IsAt t stream r f → (more : List ℕ) × IsAt t (stream ++ more) s g
+-- these bytes were read, and segments taken
+abbrev pub ReadsIn : List ℕ → Reading → Finder → Reading → Finder → Type 0
+ReadsIn bytes r f s g = (t : Terms) (stream : List ℕ) → IsAt t stream r f → IsAt t (stream ++ bytes) s g

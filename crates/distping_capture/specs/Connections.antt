@@ -1,8 +1,8 @@
 -- WHAT A CONNECTION SAYS, by the bytes that were delivered of its two sides.
-use Rattle.std.specs.Prelude.{◌≡◌, ◌↔◌, ◌⊎◌, ℕ, List, [], ◌++◌, Some}
+use Rattle.std.specs.Prelude.{◌≡◌, ◌↔◌, ◌⊎◌, ℕ, false, List, [], ◌++◌, Option, Some, None}
 use Rattle.dist_capture.specs.declared.segment.{Endpoint.Endpoint, Segment.Segment}
 use Rattle.dist_messages.specs.declared.message.Side.{Side, TheVariants.Dialler, TheVariants.Acceptor}
-use Rattle.dist_talk.specs.{Speaking.other_side, declared.terms.Terms.Terms}
+use Rattle.dist_talk.specs.{Speaking.other_side, declared.terms.Terms.Terms, declared.verdict.HandshakeVerdict.HandshakeVerdict}
 use Rattle.distping_capture.specs.Attempts.{verdict_on}
 use Rattle.distping_capture.specs.{Delivered.IsRead, Delivered.SaidIn, Flows.Brings, Flows.IsReadOn, Flows.SameBehind, Flows.SameBytes, Flows.bytes_of}
 use Rattle.distping_capture.specs.declared.{connection.CapturedConnection.CapturedConnection, flow.Flow.Flow, traffic.Traffic.Traffic}
@@ -121,6 +121,22 @@ pub record SameConnection (c e : CapturedConnection) : Type 0 where
 pub record Judges (t : Terms) (c e : CapturedConnection) : Type 0 where
   pub stays : Stays c e
   pub verdict : e.verdict ≡ Some (verdict_on t e.is_at_mapper e.content)
+
+-- an attempt is carried: a handshake, or the cause why there was none
+abbrev pub IsAttempt : Traffic → Type 0
+IsAttempt (traffic.Handshake h) = Unit {0}
+IsAttempt (traffic.Unreached u) = Unit {0}
+IsAttempt any = ⊥
+
+-- A CONNECTION HAS TO BE JUDGED at its end: it carries an attempt, and was not judged before
+pub record IsDue (c : CapturedConnection) : Type 0 where
+  pub open_yet : c.is_reported ≡ false
+  pub not_judged : c.verdict ≡ None
+  pub carries : IsAttempt c.content
+
+-- this is the verdict on what it carried
+abbrev pub IsJudgedBy : Terms → CapturedConnection → Option HandshakeVerdict → Type 0
+IsJudgedBy t c verdict = (e : CapturedConnection) × Judges t c e × (verdict ≡ e.verdict)
 
 -- ---- the inner steps
 

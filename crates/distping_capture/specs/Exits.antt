@@ -1,11 +1,12 @@
 -- THE EXIT STATUS of a capture: the first that is not 0 of the attempts, in the order in which they ended; 12 if nothing was found.
 use Rattle.std.specs.Prelude.{◌≡◌, ◌⊎◌, ℕ, Bool, false, List, [], ◌∷◌, ◌++◌, Option, Some, None, ◌==◌, if◌then◌else◌}
-use Rattle.std.specs.{Borrow.Bor, List.Contains, Option.ok_or}
+use Rattle.std.specs.{Borrow.Bor, List.Contains, List.FoldsTo, List.Sorted.IsPermutation, Option.ok_or}
 use Rattle.dist_capture.specs.declared.segment.Segment.{Segment}
 use Rattle.dist_talk.specs.declared.terms.Viewpoint.TheVariants as viewpoint
 use Rattle.dist_talk.specs.declared.verdict.NoCookie.TheVariants as without
 use Rattle.dist_talk.specs.{Words.status_of, declared.terms.Terms.Terms, declared.verdict.HandshakeVerdict.HandshakeVerdict}
-use Rattle.distping_capture.specs.{Attempts.verdict_on, Carried.IsShown, Carried.IsShownYet, Carried.StandsOn, Connections.EndsOf, Crossings.Meets}
+use Rattle.distping_capture.specs.{Attempts.verdict_on, Carried.IsShown, Carried.IsShownYet, Carried.StandsOn, Crossings.Meets}
+use Rattle.distping_capture.specs.Connections.{EndsOf, IsDue, IsJudgedBy}
 use Rattle.distping_capture.specs.declared.{connection.CapturedConnection.CapturedConnection, dials.PastDial.PastDial, register.Register.Register}
 use Rattle.distping_capture.specs.declared.traffic.Traffic.{Traffic}
 
@@ -97,6 +98,16 @@ NotesBy c before after r s = (after ≡ before) × SameAttempts r s
 pub record NotesOnce (c e : CapturedConnection) (r s : Register) : Type 0 where
   pub once : NotesBy c c.verdict e.verdict r s
   pub counting : CountsBy c r s
+
+-- A CONNECTION ENDED, and so it came from this register to that: its attempt is added, if it was due.
+pub record Ends (c : CapturedConnection) (r s : Register) : Type 0 where
+  pub ended : CapturedConnection
+  pub once : NotesOnce c ended r s
+  pub judged : IsDue c → IsJudgedBy r.terms c ended.verdict
+
+-- ALL OF THESE CONNECTIONS ENDED, one after another in some order
+abbrev pub EndsAll : List CapturedConnection → Register → Register → Type 0
+EndsAll connections r s = (order : List CapturedConnection) × IsPermutation connections order × FoldsTo (λ p c q. Ends c p q) r order s
 
 -- ---- segment by segment
 

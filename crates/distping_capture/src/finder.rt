@@ -1,8 +1,9 @@
 //! All connections of a capture.
 
-ghost use Rattle.std.specs.Prelude.{◌≡◌, ◌<◌, ◌≤◌, [], IfOk, List, remove, OnOk, vec_len};
+ghost use Rattle.std.specs.Prelude.{◌≡◌, ◌<◌, ◌≤◌, [], IfOk, IfSome, List, remove, OnOk, slice_get, vec_len};
 ghost use Rattle.dist_talk.specs.declared.terms.Terms.{Terms};
-ghost use Rattle.distping_capture.specs.Captures.{CountsTo, GoesOnTracking, HandsOn, IsPlaceOf, Tracks, TracksNext};
+ghost use Rattle.distping_capture.specs.Captures.{CountsTo, FinishesWith, GoesOnTracking, HandsOn, IsPlaceOf};
+ghost use Rattle.distping_capture.specs.{Captures.Tracks, Captures.TracksNext, Captures.connections_of, Exits.Ends, Exits.EndsAll};
 ghost use Rattle.dist_capture.specs.declared.segment.Segment.{Segment};
 
 use crate::connection::{CapturedConnection, ends_of};
@@ -79,6 +80,7 @@ impl<'x> Finder<'x> {
     fn give_up(&mut self, place: usize) -> Result<(), Fault>
         ensures tracking { OnOk result (GoesOnTracking self.old self.new) }
         ensures given_up { place < vec_len self.old.connections → self.new.connections.items ≡ remove self.old.connections.items place }
+        ensures ends { OnOk result (IfSome (slice_get self.old.connections.items place) (λ it. Ends it.value self.old.register self.new.register)) }
     {
         if place >= self.connections.len() {
             return Ok(());
@@ -168,6 +170,7 @@ impl<'x> Finder<'x> {
     /// Prints what is open, the longest quiet first.
     pub fn give_up_all(&mut self) -> Result<(), Fault>
         ensures tracking { OnOk result (GoesOnTracking self.old self.new) }
+        ensures ends { OnOk result (EndsAll (connections_of self.old) self.old.register self.new.register) }
         ensures none { OnOk result (self.new.connections.items ≡ []) }
     {
         'open: while !self.connections.is_empty() {
@@ -179,7 +182,8 @@ impl<'x> Finder<'x> {
     /// Ends the capture, of which so many packets gave no segment: prints what is open, then the summary by pair, and what was left out.
     /// Returns the exit status: the first that is not 0 of the attempts.
     pub fn finish(&mut self, counts: SkippedCounts, is_cut_off: bool) -> Result<u8, Fault>
-        ensures { IfOk result (λ status. (t : Terms) (segments : List Segment) → Tracks t segments self.old → CountsTo t segments status) }
+        ensures counts { IfOk result (λ status. (t : Terms) (segments : List Segment) → Tracks t segments self.old → CountsTo t segments status) }
+        ensures all { IfOk result (FinishesWith self.old) }
     {
         self.give_up_all()?;
         self.register.finish(&PacketsLeftOut {

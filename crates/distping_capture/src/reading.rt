@@ -1,7 +1,8 @@
 //! Reads a capture, and prints what it shows.
 
-ghost use Rattle.std.specs.Prelude.{IfOk, OnOk};
-ghost use Rattle.distping_capture.specs.{Captures.EndsWith, Captures.ReadsIn, Captures.TakesIn, Exits.terms_of};
+ghost use Rattle.std.specs.Prelude.{◌≡◌, ℕ, List, IfOk, OnOk};
+ghost use Rattle.dist_capture.specs.Reading.{whole};
+ghost use Rattle.distping_capture.specs.{Captures.AreAll, Captures.EndsWith, Captures.ReadsIn, Captures.TakesIn, Exits.terms_of};
 
 use crate::finder::Finder;
 use dist_capture::{Capture, CaptureFault};
@@ -9,7 +10,6 @@ use dist_secret::Cookie;
 use dist_talk::{NoCookie, Terms, Viewpoint};
 use distping_report::LineSink;
 use distping_words::{Choices, Fault};
-use std::alloc::Global;
 use std::fs::{self, File};
 use std::io::{ErrorKind, Read};
 
@@ -18,7 +18,8 @@ const PIECE: usize = 65_536;
 
 // Takes the segments that are whole in what was read.
 fn take_segments(capture: &mut Capture, finder: &mut Finder<'_>) -> Result<(), Fault>
-    ensures { OnOk result (TakesIn capture.old finder.old capture.new finder.new) }
+    ensures taken { OnOk result (TakesIn capture.old finder.old capture.new finder.new) }
+    ensures no_more { OnOk result (whole capture.new ≡ Ok None) }
 {
     'segments: for _ in 0..u64::MAX {
         match capture.next() {
@@ -28,36 +29,54 @@ fn take_segments(capture: &mut Capture, finder: &mut Finder<'_>) -> Result<(), F
             Err(_) => return Err(Fault::NoCapture),
         }
     }
-    Ok(())
+    Err(Fault::CaptureUnread)
 }
 
 // Takes all segments of a capture, each as soon as it is read.
 fn take_all<F: Read + Drop>(
-    alloc: Global,
     file: F,
     capture: &mut Capture,
     finder: &mut Finder<'_>,
 ) -> Result<(), Fault>
-    ensures { OnOk result (ReadsIn capture.old finder.old capture.new finder.new) }
+    ensures all { OnOk result ((bytes : List ℕ) × AreAll (F.remaining file) bytes
+        × ReadsIn bytes capture.old finder.old capture.new finder.new) }
+    ensures no_more { OnOk result (whole capture.new ≡ Ok None) }
 {
     let mut file = file;
-    let mut room = vec![in alloc; 0u8; PIECE]?;
+    let mut room = [0u8; PIECE];
     'pieces: for _ in 0..u64::MAX {
+        take_segments(capture, finder)?;
         let count = match file.read(&mut room) {
             Ok(count) => count,
             Err(error) if error.kind() == ErrorKind::Interrupted => continue,
             Err(_) => return Err(Fault::CaptureUnread),
         };
         if count == 0 {
-            break;
+            return Ok(());
         }
-        match room.get(..count) {
-            Some(piece) => capture.feed(piece)?,
-            None => return Err(Fault::CaptureUnread),
-        }
-        take_segments(capture, finder)?;
+        capture.feed(&room[..count])?;
     }
-    Ok(())
+    Err(Fault::CaptureUnread)
+}
+
+// Reads a capture whole, prints what it shows, and returns the exit status: the first that is not 0 of the attempts.
+fn read_whole<F: Read + Drop>(
+    lines: LineSink<'_>,
+    terms: Terms<'_>,
+    mapper_port: u16,
+    file: F,
+) -> Result<u8, Fault>
+    ensures { IfOk result (λ status. (bytes : List ℕ) × AreAll (F.remaining file) bytes × EndsWith terms.entry bytes status) }
+{
+    let mut finder = Finder::new(lines, terms, mapper_port);
+    let mut capture = Capture::new(lines.alloc);
+    match take_all(file, &mut capture, &mut finder) {
+        Ok(()) => finder.finish(capture.counts(), capture.is_cut_off()),
+        Err(fault) => {
+            finder.give_up_all()?;
+            Err(fault)
+        }
+    }
 }
 
 // Opens the file at this path, if it stands on a disk: a named pipe cannot even be opened before somebody writes into it, and a device
@@ -74,22 +93,6 @@ fn open_stored(rt: &HostRuntime, path: &str) -> Result<File, Fault> {
     }
 }
 
-// Takes what can be read of the capture at this path.
-fn take_path(
-    rt: &HostRuntime,
-    path: &str,
-    capture: &mut Capture,
-    finder: &mut Finder<'_>,
-) -> Result<(), Fault>
-    ensures { OnOk result (ReadsIn capture.old finder.old capture.new finder.new) }
-{
-    if path == "-" {
-        take_all(rt.alloc(), rt.stdin(), capture, finder)
-    } else {
-        take_all(rt.alloc(), open_stored(rt, path)?, capture, finder)
-    }
-}
-
 /// Reads the capture at this path (`-` is standard input), prints what it shows, and returns the exit status: the first that is not 0 of
 /// the attempts.
 pub fn read_capture(
@@ -98,7 +101,7 @@ pub fn read_capture(
     choices: &Choices<'_>,
     cookie: Option<&Cookie>,
 ) -> Result<u8, Fault>
-    ensures { IfOk result (λ status. EndsWith (terms_of cookie.entry) status) }
+    ensures { IfOk result (λ status. (bytes : List ℕ) × EndsWith (terms_of cookie.entry) bytes status) }
 {
     let lines = LineSink::on_screen(rt, choices.json);
     let terms = Terms {
@@ -106,13 +109,9 @@ pub fn read_capture(
         target: None,
         cookie: cookie.ok_or(NoCookie::Missing),
     };
-    let mut finder = Finder::new(lines, terms, choices.mapper_port);
-    let mut capture = Capture::new(rt.alloc());
-    match take_path(rt, path, &mut capture, &mut finder) {
-        Ok(()) => finder.finish(capture.counts(), capture.is_cut_off()),
-        Err(fault) => {
-            finder.give_up_all()?;
-            Err(fault)
-        }
+    if path == "-" {
+        read_whole(lines, terms, choices.mapper_port, rt.stdin())
+    } else {
+        read_whole(lines, terms, choices.mapper_port, open_stored(rt, path)?)
     }
 }

@@ -1,12 +1,13 @@
 //! What is printed of connections, and what several of them show together: how often which pair of nodes came to what, restarts, names
 //! that two hosts use, dials that cross, lookups that lead elsewhere, and what leaves a wrong cookie in doubt.
 
-ghost use Rattle.std.specs.Prelude.{◌≡◌, ◌++◌, [], ◌∷◌, ◌==◌, IfOk, IsSome, List, OnOk, true, if◌then◌else◌};
-ghost use Rattle.distping_capture.specs.Connections.{EndsOf, Judges, SameConnection, SameEnds, SaysNoMore};
+ghost use Rattle.std.specs.Prelude.{◌≡◌, ◌++◌, [], ◌∷◌, ◌==◌, IfOk, IsSome, List, None, OnOk, true, if◌then◌else◌};
+ghost use Rattle.distping_capture.specs.Connections.{EndsOf, IsAttempt, Judges};
+ghost use Rattle.distping_capture.specs.Connections.{SameConnection, SameEnds, SaysNoMore, Stays};
 ghost use Rattle.dist_capture.specs.declared.segment.Segment.{Segment};
 ghost use Rattle.distping_capture.specs.{Attempts.verdict_on, declared.dials.PastDial.PastDial};
 ghost use Rattle.dist_talk.specs.{Words.status_of, declared.terms.Terms.Terms};
-ghost use Rattle.distping_capture.specs.Exits.{Adds, Counts, GoesOnCounting, GoesOnWatching, Notes, NotesOnce, SameAttempts, StandsFor};
+ghost use Rattle.distping_capture.specs.Exits.{Adds, Counts, Ends, GoesOnCounting, GoesOnWatching, Notes, NotesOnce, SameAttempts, StandsFor};
 ghost use Rattle.distping_capture.specs.Exits.{TakesOn, exit_now, exit_of, first_exit};
 
 use crate::connection::CapturedConnection;
@@ -213,6 +214,7 @@ impl<'x> Register<'x> {
     fn put_attempt_once(&mut self, connection: &mut CapturedConnection) -> Result<(), Fault>
         ensures connection { SameConnection connection.old connection.new }
         ensures verdict { OnOk result (IsSome connection.new.verdict) }
+        ensures judges { OnOk result (connection.old.verdict ≡ None → Judges self.old.terms connection.old connection.new) }
         ensures once { OnOk result (NotesOnce connection.old connection.new self.old self.new) }
     {
         if connection.verdict.is_some() {
@@ -239,6 +241,7 @@ impl<'x> Register<'x> {
     // Prints what there is to say of an attempt at the end of its connection.
     fn end_attempt(&mut self, connection: &mut CapturedConnection) -> Result<(), Fault>
         ensures connection { SameConnection connection.old connection.new }
+        ensures judges { OnOk result (connection.old.verdict ≡ None → Judges self.old.terms connection.old connection.new) }
         ensures once { OnOk result (NotesOnce connection.old connection.new self.old self.new) }
     {
         self.put_attempt_once(connection)?;
@@ -362,6 +365,7 @@ impl<'x> Register<'x> {
     fn conclude_content(&self, connection: &mut CapturedConnection)
         ensures connection { connection.new ≡ record connection.old { content = connection.new.content } }
         ensures says { SaysNoMore connection.old connection.new }
+        ensures attempt { IsAttempt connection.old.content → IsAttempt connection.new.content × Stays connection.old connection.new }
     {
         if connection.verdict.is_some() {
             return;
@@ -393,6 +397,8 @@ impl<'x> Register<'x> {
     // Prints what there is to say of what a connection carries, at its end.
     fn end_content(&mut self, connection: &mut CapturedConnection) -> Result<(), Fault>
         ensures connection { SameConnection connection.old connection.new }
+        ensures judges { OnOk result (IsAttempt connection.old.content → connection.old.verdict ≡ None
+            → Judges self.old.terms connection.old connection.new) }
         ensures once { OnOk result (NotesOnce connection.old connection.new self.old self.new) }
     {
         match &connection.content {
@@ -407,7 +413,7 @@ impl<'x> Register<'x> {
     pub fn end(&mut self, connection: &mut CapturedConnection) -> Result<(), Fault>
         ensures reported { OnOk result (connection.new.is_reported ≡ true) }
         ensures ends { OnOk result (SameEnds connection.old connection.new) }
-        ensures once { OnOk result (NotesOnce connection.old connection.new self.old self.new) }
+        ensures ended { OnOk result (Ends connection.old self.old self.new) }
         ensures watching { OnOk result (GoesOnWatching self.old connection.old self.new connection.new) }
     {
         if connection.is_reported {

@@ -1,6 +1,9 @@
--- The segments of the bytes that were read were taken.
+-- Of the bytes that were read the segments were taken.
+use Rattle.std.proofs.Common.{ℕ, List}
+use Rattle.std.specs.Io.KnownBytes.{Consumes}
 use Rattle.distping_capture.specs.Captures.{ReadsIn}
 use Rattle.distping_capture.proofs.reading.take_all.Given as goal
 
 abbrev pub invariant-pieces : goal.invariant-pieces
-invariant-pieces g l = ReadsIn l.initial.capture l.initial.finder l.capture l.finder
+invariant-pieces g l =
+    (bytes : List ℕ) × Consumes (g.F.Read.remaining l.fn.file) (g.F.Read.remaining l.file) bytes × ReadsIn bytes l.initial.capture l.initial.finder l.capture l.finder

@@ -1,10 +1,14 @@
--- What is counted was judged; each turn gives one connection up.
+-- What is counted was judged; each turn ends one connection.
 use Rattle.std.proofs.Common.{length}
 use Rattle.distping_capture.specs.Captures.{GoesOnTracking}
+use Rattle.distping_capture.proofs.Ending.{EndsSome}
 use Rattle.distping_capture.proofs.finder.Finder.give_up_all.Given as goal
 
 abbrev pub invariant-open : goal.invariant-open
-invariant-open l = GoesOnTracking l.initial.self l.self
+invariant-open l = record {
+  tracking : GoesOnTracking l.initial.self l.self;
+  ends : EndsSome l.initial.self.connections.items l.initial.self.register l.self.connections.items l.self.register;
+}
 
 abbrev pub decreases-open : goal.decreases-open
 decreases-open l = length l.self.connections.items

@@ -12,3 +12,6 @@ returns-clause-once c =
 pub returns-clause-verdict : goal.returns-clause-verdict
 returns-clause-verdict c =
     IfOk-weaker c.put_attempt.result _ _ (λ _ p. settled_by c.args.self.now c.args.connection.now c.put_attempt.new.connection p.0) c.put_attempt.ensures.judges
+
+pub returns-clause-judges : goal.returns-clause-judges
+returns-clause-judges c = IfOk-weaker c.put_attempt.result _ _ (λ _ p _. p.0) c.put_attempt.ensures.judges
