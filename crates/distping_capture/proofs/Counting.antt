@@ -5,8 +5,8 @@ use Rattle.std.proofs.lemmas.Bool.{false≢true}
 use Rattle.std.specs.List.{remove}
 use Rattle.dist_talk.specs.{Words.status_of, declared.terms.Terms.Terms, declared.verdict.HandshakeVerdict.HandshakeVerdict}
 use Rattle.dist_capture.specs.declared.segment.{Endpoint.Endpoint, Segment.Segment}
-use Rattle.distping_capture.specs.{Attempts.verdict_on, Captures.CountsTo, Carried.IsShown, Crossings.Meets, Flows.IsGone, Flows.IsUnbegun}
-use Rattle.distping_capture.specs.Connections.{AreEnds, Follows, Holds, Judges, SameConnection, SameEnds, SaysNoMore, Tells, nothing_sent}
+use Rattle.distping_capture.specs.{Attempts.verdict_on, Captures.CountsTo, Carried.IsShown, Crossings.Meets, Endings.IsConcluded, Flows.IsGone}
+use Rattle.distping_capture.specs.Connections.{Follows, IsAttempt, IsNew, Judges, SameConnection, SameEnds, SaysNoMore}
 use Rattle.distping_capture.specs.Exits.{Adds, Counts, GoesOnCounting, GoesOnWatching, History, IsExit, IsJudged, NextAttempt, NoAttempt, Notes, NotesBy, NotesOnce, SameAttempts, StandsFor, TakesOn, Watches, exit_of, first_exit}
 use Rattle.distping_capture.specs.declared.{connection.CapturedConnection.CapturedConnection, dials.PastDial.PastDial, register.Register.Register}
 use Rattle.distping_capture.specs.declared.traffic.Traffic.{Traffic}
@@ -87,7 +87,7 @@ stands_same r s same attempts p = record {
   nothing = λ e. p.nothing (same.found e);
 }
 
-same_then : (r s u : Register) → SameAttempts r s → SameAttempts s u → SameAttempts r u
+pub same_then : (r s u : Register) → SameAttempts r s → SameAttempts s u → SameAttempts r u
 same_then r s u p q = record {
   terms = q.terms ∙ p.terms;
   dials = q.dials ∙ p.dials;
@@ -189,7 +189,7 @@ by_then c None (Some v) r s u p q = notes_then c v r s u p q
 by_then c (Some w) None r s u p q = (p.0, same_then r s u p.1 q)
 by_then c (Some w) (Some v) r s u p q = (p.0, same_then r s u p.1 q)
 
-then_by : (c : CapturedConnection) (before after : Option HandshakeVerdict) (r s u : Register) → SameAttempts r s → NotesBy c before after s u → NotesBy c before after r u
+pub then_by : (c : CapturedConnection) (before after : Option HandshakeVerdict) (r s u : Register) → SameAttempts r s → NotesBy c before after s u → NotesBy c before after r u
 then_by c None None r s u p q = (q.0, same_then r s u p q.1)
 then_by c None (Some v) r s u p q = then_notes c v r s u p q
 then_by c (Some w) None r s u p q = (q.0, same_then r s u p q.1)
@@ -208,13 +208,13 @@ notes_at c d v r s ends p = record {
   adds = p.adds;
 }
 
-by_at : (c d : CapturedConnection) (before after : Option HandshakeVerdict) (r s : Register) → SameEnds c d → NotesBy d before after r s → NotesBy c before after r s
+pub by_at : (c d : CapturedConnection) (before after : Option HandshakeVerdict) (r s : Register) → SameEnds c d → NotesBy d before after r s → NotesBy c before after r s
 by_at c d None None r s ends p = p
 by_at c d None (Some v) r s ends p = notes_at c d v r s ends p
 by_at c d (Some w) None r s ends p = p
 by_at c d (Some w) (Some v) r s ends p = p
 
-none_before : (c : CapturedConnection) (before after : Option HandshakeVerdict) (r s : Register) → NotesBy c before after r s → after ≡ None → before ≡ None
+pub none_before : (c : CapturedConnection) (before after : Option HandshakeVerdict) (r s : Register) → NotesBy c before after r s → after ≡ None → before ≡ None
 none_before c None after r s p e = refl
 none_before c (Some w) None r s p e = absurd (let no : None ≡ Some w = p.0 in cc)
 none_before c (Some w) (Some v) r s p e = absurd cc
@@ -243,6 +243,11 @@ once_new c e r s open_ judges p = record {
       counts_more c r s e.is_at_mapper e.content p t segments (shown_stays segments c.dialler c.acceptor c e judges.stays (shown (none_of c.verdict open_))) x;
 }
 
+-- how a handshake ended is noted in it
+pub concluded_attempt : (t : Terms) (c : CapturedConnection) (now : ℕ) (before after : Traffic) → IsConcluded t c now before after → IsAttempt before → IsAttempt after
+concluded_attempt t c now (traffic.Handshake h) (traffic.Handshake k) p q = tt
+concluded_attempt t c now before after p q = subst IsAttempt (sym p) q
+
 pub settled_by : (r : Register) (c e : CapturedConnection) → Judges r.terms c e → IsSome e.verdict
 settled_by r c e judges = subst IsSome (sym judges.verdict) refl
 
@@ -251,7 +256,7 @@ pub once_judged : (c : CapturedConnection) (v : HandshakeVerdict) (r s : Registe
     → Notes c (verdict_on r.terms c.is_at_mapper c.content) r s → NotesOnce c (record c { verdict = Some v }) r s
 once_judged c v r s open_ is p =
     once_new c (record c { verdict = Some v }) r s open_
-    (record { stays = record { ends = (refl, refl, refl); tells = λ b q. q }; verdict = ap (λ (w : HandshakeVerdict). Some w) is }) p
+    (record { stays = record { ends = (refl, refl, refl); tells = λ b q. q }; attempt = λ q. q; verdict = ap (λ (w : HandshakeVerdict). Some w) is }) p
 
 -- before and behind what was added the connection says no more
 pub once_between : (c d e k : CapturedConnection) (r s : Register) → d.verdict ≡ c.verdict → SameEnds c d → SaysNoMore c d → NotesOnce d e r s → k.verdict ≡ e.verdict → NotesOnce c k r s
@@ -294,9 +299,8 @@ pub ended_between : (c d e k : CapturedConnection) → SameEnds c d → SameConn
 ended_between c d e k p q r = (r.0 ∙ q.ends.0 ∙ p.0, r.1 ∙ q.ends.1 ∙ p.1, r.2 ∙ q.ends.2 ∙ p.2)
 
 -- another one takes its place
-pub watches_new : (c : CapturedConnection) (t : Terms) (segments : List Segment) (r : Register) → AreEnds c → Holds c nothing_sent → Tells c nothing_sent → IsUnbegun c.from_dialler → IsUnbegun c.from_acceptor
-    → Counts t segments r → Watches t segments r c
-watches_new c t segments r ends holds tells one other counts = record { counts = counts; stands = stands_new segments c ends holds tells one other }
+pub watches_new : (s : Segment) (c : CapturedConnection) (t : Terms) (segments : List Segment) (r : Register) → IsNew s c → Counts t segments r → Watches t segments r c
+watches_new s c t segments r new counts = record { counts = counts; stands = stands_new segments s c new }
 
 pub takes_segment : (c e : CapturedConnection) (r : Register) (next : Segment) → Follows c next e → e.verdict ≡ c.verdict → TakesOn next r c r e
 takes_segment c e r next follows same t segments among ends w = record {

@@ -1,15 +1,18 @@
 -- All connections of a capture, segment by segment.
-use Rattle.std.proofs.Common.{◌≡◌, ℕ, suc, ◌<◌, ◌≤◌, List, [], ◌∷◌, ◌++◌, length, take, drop, map, get_or, set, Option, Some, None, Ok, refl, sym, ap, subst, ◌∙◌, append-nil, append_assoc, arith, slice_get, ◌+◌, IfSome}
+use Rattle.std.proofs.Common.{◌≡◌, ℕ, suc, ◌<◌, ◌≤◌, List, [], ◌∷◌, ◌++◌, length, take, drop, map, get_or, set, Option, Some, None, Ok, Err, Result, refl, sym, ap, subst, ◌∙◌, append-nil, append_assoc, arith, slice_get, ◌+◌, IfSome}
 use Rattle.std.specs.List.{All, Contains, insert, remove}
+use Rattle.std.specs.Io.KnownBytes.{Consumes, IsAtEnd}
+use Rattle.std.proofs.KnownBytes.{Consumes-trans, Consumes-whole}
 use Rattle.std.proofs.lemmas.List.Edits.{get_or-insert_at, length-insert}
 use Rattle.std.proofs.lemmas.List.Elements.{All-append, All-cons, All-drop, All-get_or, All-nil, All-set, All-take, All-weaker}
-use Rattle.std.proofs.lemmas.Option.{slice_get-get_or}
+use Rattle.std.specs.Result.{IfOk}
+use Rattle.std.proofs.lemmas.{Fn.FoldsTo-push, Option.slice_get-get_or}
 use Rattle.dist_capture.specs.Reading.{Done, EndsAt, Next, Reading, Reads, Was, Opened, Fed, Asked, unread, view_of, whole, with_bytes}
 use Rattle.dist_capture.specs.{Tcp.Said, declared.segment.Endpoint.Endpoint, declared.segment.Segment.Segment}
 use Rattle.dist_talk.specs.declared.terms.Terms.{Terms}
 use Rattle.std.specs.declared.boxed.Box.{Box}
 use Rattle.std.specs.Global.{Global}
-use Rattle.distping_capture.specs.Captures.{CountsTo, EndsWith, IsAt, ReadsIn, TakesIn, Tracks, TracksNext}
+use Rattle.distping_capture.specs.Captures.{AreAll, CountsTo, EndsWith, FinishesWith, IsAt, IsFresh, ReadsIn, TakesIn, TakesOne, Tracks, TracksNext}
 use Rattle.distping_capture.specs.{Carried.StandsOn, Connections.EndsOf}
 use Rattle.distping_capture.specs.Exits.{Counts, GoesOnCounting, GoesOnWatching, TakesOn}
 use Rattle.distping_capture.specs.declared.{connection.CapturedConnection.CapturedConnection, finder.Finder.Finder, register.Register.Register}
@@ -72,6 +75,9 @@ place_made s xs ys place b c within items value ends =
     let at : get_or ys place b ≡ b = ap (λ (l : List Boxed). get_or l place b) items ∙ get_or-insert_at xs place b b within in
     place_found s ys place b c.ends (here_is ys place b (omega (arith, n)) (sym at)) (ap (λ (x : CapturedConnection). x.ends) value) ends
 
+pub made_within : (xs ys : List Boxed) (place : ℕ) (b : Boxed) → place ≤ length xs → ys ≡ insert xs place b → place < length ys
+made_within xs ys place b within items = let n : length ys ≡ length xs + 1 = ap length items ∙ length-insert xs place b within in omega (arith, n, within)
+
 -- one takes a segment
 pub hands_on : (s : Segment) (r between u : Register) (xs : List Boxed) (place : ℕ) (b b' : Boxed) (c mid e : CapturedConnection) → place < length xs → b ≡ get_or xs place b → c ≡ b.value → b'.value ≡ e
     → (EndsOf s c.ends → EndsOf s mid.ends) → GoesOnWatching r c between mid → TakesOn s between mid u e → IsPlaceIn s xs place
@@ -100,44 +106,68 @@ said_behind (x ∷ xs) s = ap (λ (l : List (ℕ × Said)). view_of x ∷ l) (sa
 was_on : (r mid : Reading) (stream : List ℕ) (segments : List (ℕ × Said)) → Was r stream segments → Reads r [] mid → Was mid stream segments
 was_on r mid stream segments was reads = subst (Was mid stream) (append-nil segments) (Asked r mid stream segments [] was reads)
 
-pub took : (r mid later : Reading) (f g : Finder) (s : Segment) → Reads r [] mid → EndsAt mid (Some (view_of s)) later → TracksNext s f g → TakesIn r f later g
-took r mid later f g s reads gives tracks t stream p =
+pub took : (r mid later : Reading) (f g : Finder) (s : Segment) → Reads r [] mid → EndsAt mid (Some (view_of s)) later → TakesOne s f g → TracksNext s f g → TakesIn r f later g
+took r mid later f g s reads gives takes tracks t first stream p =
     let one : Reads mid (view_of s ∷ []) later = Next mid later later (Some (view_of s)) [] (view_of s ∷ []) gives (Done later) refl in
     let was = Asked mid later stream (map view_of p.segments) (view_of s ∷ []) (was_on r mid stream (map view_of p.segments) p.was reads) one in
     record {
       segments = p.segments ++ s ∷ [];
       was = subst (Was later stream) (sym (said_behind p.segments s)) was;
+      took = FoldsTo-push (λ (h : Finder) (x : Segment) (k : Finder). TakesOne x h k) first p.segments f s g p.took takes;
       tracks = tracks t p.segments p.tracks;
     }
 
 pub rests : (r mid later : Reading) (f : Finder) → Reads r [] mid → EndsAt mid None later → TakesIn r f later f
-rests r mid later f reads ends t stream p =
+rests r mid later f reads ends t first stream p =
     let was : Was later stream (map view_of p.segments) = subst (λ (x : Reading). Was x stream (map view_of p.segments)) (sym ends.1) (was_on r mid stream (map view_of p.segments) p.was reads) in
-    record { segments = p.segments; was = was; tracks = p.tracks }
+    record { segments = p.segments; was = was; took = p.took; tracks = p.tracks }
 
 pub takes_then : (r s u : Reading) (f g k : Finder) → TakesIn r f s g → TakesIn s g u k → TakesIn r f u k
-takes_then r s u f g k p q t stream w = q t stream (p t stream w)
+takes_then r s u f g k p q t first stream w = q t first stream (p t first stream w)
 
 -- all segments of the bytes that were read are taken, and then a piece is read
 pub reads_taken : (r s u : Reading) (f g k : Finder) (bytes : List ℕ) → ReadsIn bytes r f s g → TakesIn s g u k → ReadsIn bytes r f u k
-reads_taken r s u f g k bytes p q t stream w = q t (stream ++ bytes) (p t stream w)
+reads_taken r s u f g k bytes p q t first stream w = q t first (stream ++ bytes) (p t first stream w)
 
 pub reads_fed : (r s fed : Reading) (f g : Finder) (bytes piece : List ℕ) → ReadsIn bytes r f s g → fed ≡ with_bytes s piece → ReadsIn (bytes ++ piece) r f fed g
-reads_fed r s fed f g bytes piece p e t stream w =
-    let before = p t stream w in
-    let more : IsAt t ((stream ++ bytes) ++ piece) (with_bytes s piece) g = record {
+reads_fed r s fed f g bytes piece p e t first stream w =
+    let before = p t first stream w in
+    let more : IsAt t first ((stream ++ bytes) ++ piece) (with_bytes s piece) g = record {
       segments = before.segments;
       was = Fed s (stream ++ bytes) (map view_of before.segments) piece before.was;
+      took = before.took;
       tracks = before.tracks;
     } in
-    subst (λ (l : List ℕ). IsAt t l fed g) (append_assoc stream bytes piece) (subst (λ (x : Reading). IsAt t ((stream ++ bytes) ++ piece) x g) (sym e) more)
+    subst (λ (l : List ℕ). IsAt t first l fed g) (append_assoc stream bytes piece) (subst (λ (x : Reading). IsAt t first ((stream ++ bytes) ++ piece) x g) (sym e) more)
 
 pub reads_none : (r : Reading) (f : Finder) → ReadsIn [] r f r f
-reads_none r f t stream p = subst (λ (l : List ℕ). IsAt t l r f) (sym (append-nil stream)) p
+reads_none r f t first stream p = subst (λ (l : List ℕ). IsAt t first l r f) (sym (append-nil stream)) p
 
-pub read_ends : (t : Terms) (r s : Reading) (f g : Finder) (bytes : List ℕ) (status : ℕ) → Tracks t [] f → r ≡ unread → ReadsIn bytes r f s g → whole s ≡ Ok None
-    → ((t : Terms) (segments : List Segment) → Tracks t segments g → CountsTo t segments status) → EndsWith t bytes status
-read_ends t r s f g bytes status tracks new reads no_more ends =
-    let begun : IsAt t [] r f = record { segments = []; was = subst (λ (x : Reading). Was x [] []) (sym new) Opened; tracks = tracks } in
-    let all = reads t [] begun in
-    record { segments = all.segments; reading = s; was = all.was; no_more = no_more; counts = ends t all.segments all.tracks }
+pub both_ok : {T E : Type 0} (r : Result T E) (P Q : T → Type 0) → IfOk r P → IfOk r Q → IfOk r (λ x. P x × Q x)
+both_ok (Ok x) P Q p q = (p, q)
+both_ok (Err e) P Q p q = tt
+
+pub read_ends : (t : Terms) (r s : Reading) (f g : Finder) (bytes : List ℕ) (status : ℕ) → Tracks t [] f → IsFresh t f → r ≡ unread → ReadsIn bytes r f s g → whole s ≡ Ok None
+    → FinishesWith g status → ((t : Terms) (segments : List Segment) → Tracks t segments g → CountsTo t segments status) → EndsWith t bytes status
+read_ends t r s f g bytes status tracks fresh new reads no_more finishes ends =
+    let begun : IsAt t f [] r f = record { segments = []; was = subst (λ (x : Reading). Was x [] []) (sym new) Opened; took = refl; tracks = tracks } in
+    let all = reads t f [] begun in
+    record {
+      segments = all.segments;
+      reading = s;
+      was = all.was;
+      no_more = no_more;
+      begun = f;
+      fresh = fresh;
+      last = g;
+      took = all.took;
+      finishes = finishes;
+      counts = ends t all.segments all.tracks;
+    }
+
+-- a read that gives no byte shows that these were all
+pub all_read : (a b c : Option (List ℕ)) (bytes room : List ℕ) (count : ℕ) → Consumes a b bytes → Consumes b c (take count room) → count ≡ 0 → IsAtEnd c → AreAll a bytes
+all_read a b c bytes room count p q none end =
+    let rest : Consumes b c [] = subst (λ (n : ℕ). Consumes b c (take n room)) none q in
+    let last : Consumes a c bytes = subst (Consumes a c) (append-nil bytes) (Consumes-trans a b c bytes [] p rest) in
+    Consumes-whole a c bytes (λ (all : List ℕ). bytes ≡ all) last end refl

@@ -8,9 +8,9 @@ use Rattle.dist_frames.proofs.Streams.{bodies_none}
 use Rattle.dist_messages.specs.declared.message.Side.{Side, TheVariants.Dialler, TheVariants.Acceptor}
 use Rattle.dist_talk.specs.{Handshake.said_by, declared.handshake.Handshake.Handshake, declared.handshake.SentMessage.SentMessage}
 use Rattle.distping_capture.specs.Carried.{AwaitsBy, Carried, IsBacked, IsShown, IsShownYet, Stands, StandsAt, StandsOn}
-use Rattle.distping_capture.specs.Connections.{AreEnds, EndsOf, Follows, Gathers, Goes, GoesOn, Holds, IsFrom, IsOf, KeepsEnds, NothingSaid, SaidBoth, SameEnds, SaysNoMore, Sent, Stays, Tells, nothing_sent, with_piece}
+use Rattle.distping_capture.specs.Connections.{AreEnds, EndsOf, Follows, Gathers, Goes, GoesOn, IsFrom, IsNew, IsOf, KeepsEnds, NothingSaid, SaidBoth, SameEnds, SaysNoMore, Sent, Stays, nothing_sent, with_piece}
 use Rattle.distping_capture.specs.Delivered.{AreSaid, NoneFollows, SaidIn}
-use Rattle.distping_capture.specs.Flows.{IsGone, IsUnbegun, behind_in}
+use Rattle.distping_capture.specs.Flows.{IsGone, behind_in}
 use Rattle.distping_capture.specs.declared.{connection.CapturedConnection.CapturedConnection, flow.Flow.Flow, traffic.Traffic.Traffic}
 use Rattle.distping_capture.specs.declared.traffic.Traffic.TheVariants as traffic
 use Rattle.distping_capture.proofs.Standing.{nothing_carried, stands_brings, stands_gone, stands_on, stands_same, stands_unbegun}
@@ -105,15 +105,15 @@ stands_follows segments c e s among ends p same q = record {
 
 -- ---- a connection begins and ends
 
-pub stands_new : (segments : List Segment) (c : CapturedConnection) → AreEnds c → Holds c nothing_sent → Tells c nothing_sent → IsUnbegun c.from_dialler → IsUnbegun c.from_acceptor → StandsOn segments c
-stands_new segments c ends holds tells one other = record {
-  ends = ends;
+pub stands_new : (segments : List Segment) (s : Segment) (c : CapturedConnection) → IsNew s c → StandsOn segments c
+stands_new segments s c new = record {
+  ends = new.ends.0;
   backed = λ none. record {
     bytes = nothing_sent;
-    holds = holds;
-    tells = tells;
-    of_dialler = stands_unbegun segments c.dialler c.acceptor c.from_dialler one;
-    of_acceptor = stands_unbegun segments c.acceptor c.dialler c.from_acceptor other;
+    holds = new.holds;
+    tells = new.tells;
+    of_dialler = stands_unbegun segments c.dialler c.acceptor c.from_dialler new.unbegun.0;
+    of_acceptor = stands_unbegun segments c.acceptor c.dialler c.from_acceptor new.unbegun.1;
   };
 }
 

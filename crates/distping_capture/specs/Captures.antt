@@ -1,10 +1,12 @@
 -- A WHOLE CAPTURE: the attempts that its segments show, and its exit status.
-use Rattle.std.specs.Prelude.{◌≡◌, ℕ, List, [], ◌∷◌, ◌++◌, map, slice_get, Option, None, Ok, IfSome}
-use Rattle.std.specs.List.{All, Contains}
+use Rattle.std.specs.Prelude.{◌≡◌, ◌⊎◌, ◌<◌, ◌≤◌, ℕ, false, List, length, [], ◌∷◌, ◌++◌, map, set, slice_get, Option, None, Ok, IfSome}
+use Rattle.std.specs.{Global.Global, List.All, List.Contains, List.FoldsTo, List.insert, List.remove}
+use Rattle.std.specs.declared.boxed.Box.{Box}
 use Rattle.dist_capture.specs.Reading.{Reading, Was, view_of, whole}
 use Rattle.dist_capture.specs.declared.segment.Segment.{Segment}
 use Rattle.dist_talk.specs.declared.terms.Terms.{Terms}
-use Rattle.distping_capture.specs.{Carried.StandsOn, Connections.EndsOf, Exits.Counts, Exits.EndsAll, Exits.History, Exits.IsExit, Exits.exit_now}
+use Rattle.distping_capture.specs.{Carried.StandsOn, Connections.EndsOf, Connections.IsNew}
+use Rattle.distping_capture.specs.Exits.{Counts, Ends, EndsAll, History, IsExit, Renews, SameAttempts, TakesYet, exit_now}
 use Rattle.distping_capture.specs.declared.{connection.CapturedConnection.CapturedConnection, dials.PastDial.PastDial}
 use Rattle.distping_capture.specs.declared.{finder.Finder.Finder, register.Register.Register}
 
@@ -13,14 +15,6 @@ pub record CountsTo (t : Terms) (segments : List Segment) (status : ℕ) : Type 
   pub attempts : List PastDial
   pub history : History t segments attempts
   pub exit : IsExit attempts status
-
--- THE EXIT STATUS OF A CAPTURE of these bytes, which have these segments and no other one that is whole
-pub record EndsWith (t : Terms) (bytes : List ℕ) (status : ℕ) : Type 0 where
-  pub segments : List Segment
-  pub reading : Reading
-  pub was : Was reading bytes (map view_of segments)
-  pub no_more : whole reading ≡ Ok None
-  pub counts : CountsTo t segments status
 
 -- these are all bytes that a reader had, where those are known
 abbrev pub AreAll : Option (List ℕ) → List ℕ → Type 0
@@ -35,6 +29,14 @@ pub record FinishesWith (f : Finder) (status : ℕ) : Type 0 where
   pub last : Register
   pub ends : EndsAll (connections_of f) f.register last
   pub exit : status ≡ exit_now last
+
+-- nothing is remembered yet, and no attempt was judged
+pub record IsFresh (t : Terms) (f : Finder) : Type 0 where
+  pub terms : f.register.terms ≡ t
+  pub connections : f.connections.items ≡ []
+  pub attempts : f.register.dials.items ≡ []
+  pub status : f.register.status ≡ 0
+  pub found : f.register.has_found ≡ false
 
 -- ---- segment by segment
 
@@ -53,21 +55,77 @@ TracksNext next f g = (t : Terms) (segments : List Segment) → Tracks t segment
 abbrev pub IsPlaceOf : Segment → Finder → ℕ → Type 0
 IsPlaceOf s f place = IfSome (slice_get f.connections.items place) (λ c. EndsOf s c.value.ends)
 
+-- a connection was forgotten, and ended
+abbrev pub Forgets : Finder → Finder → Type 0
+Forgets f g =
+    (place : ℕ) × (place < length f.connections.items) × IfSome (slice_get f.connections.items place) (λ c. Ends c.value f.register g.register)
+    × (g.connections.items ≡ remove f.connections.items place)
+
+-- the same connections are remembered, and the same attempts
+abbrev pub Rests : Finder → Finder → Type 0
+Rests f g = (g.connections.items ≡ f.connections.items) × SameAttempts f.register g.register
+
+-- none, or one if there is no room
+abbrev pub MakesRoom : Finder → Finder → Type 0
+MakesRoom f g = Rests f g ⊎ ((1024 ≤ length f.connections.items) × Forgets f g)
+
+-- THERE IS A CONNECTION for this segment: it was remembered, or is a new one
+abbrev pub MakesPlace : Segment → Finder → Finder → Type 0
+MakesPlace s f g = Rests f g
+    ⊎ ((room : Finder) × MakesRoom f room × (at : ℕ) × (c : Box CapturedConnection Global)
+    × (g.connections.items ≡ insert room.connections.items at c) × IsNew s c.value × (g.register ≡ room.register))
+
+-- the connection at this place took the segment, or the one that was renewed by it
+abbrev pub TakesAt : Segment → ℕ → Finder → Finder → Type 0
+TakesAt s place f g = IfSome (slice_get f.connections.items place)
+    (λ c. (now : CapturedConnection) × (between : Register) × (later : Box CapturedConnection Global)
+    × Renews s c.value now f.register between × TakesYet s now later.value between g.register × (g.connections.items ≡ set f.connections.items place later))
+
+-- A SEGMENT WAS TAKEN, by a connection between its two ports; then one may be forgotten that keeps too much
+pub record TakesOne (s : Segment) (f g : Finder) : Type 0 where
+  pub placed : Finder
+  pub makes : MakesPlace s f placed
+  pub place : ℕ
+  pub within : place < length placed.connections.items
+  pub between : IsPlaceOf s placed place
+  pub taken : Finder
+  pub takes : TakesAt s place placed taken
+  pub leaves : (g ≡ taken) ⊎ Forgets taken g
+
+-- all of these were taken, each in turn
+abbrev pub TakesAll : Finder → List Segment → Finder → Type 0
+TakesAll = FoldsTo (λ f s g. TakesOne s f g)
+
+-- THE EXIT STATUS OF A CAPTURE of these bytes, which have these segments and no other one that is whole: all of them are taken, and then all
+-- connections end
+pub record EndsWith (t : Terms) (bytes : List ℕ) (status : ℕ) : Type 0 where
+  pub segments : List Segment
+  pub reading : Reading
+  pub was : Was reading bytes (map view_of segments)
+  pub no_more : whole reading ≡ Ok None
+  pub begun : Finder
+  pub fresh : IsFresh t begun
+  pub last : Finder
+  pub took : TakesAll begun segments last
+  pub finishes : FinishesWith last status
+  pub counts : CountsTo t segments status
+
 -- a segment that is one of them was handed on to the connection at this place
 abbrev pub HandsOn : Segment → ℕ → Finder → Finder → Type 0
 HandsOn next place f g =
     IsPlaceOf next f place → (t : Terms) (segments : List Segment) → Contains segments next → Tracks t segments f → Tracks t segments g
 
--- of these bytes, which were read, all segments were taken that the reader returned
-pub record IsAt (t : Terms) (stream : List ℕ) (reading : Reading) (f : Finder) : Type 0 where
+-- of these bytes, which were read, all segments were taken that the reader returned, each in turn since the first finder
+pub record IsAt (t : Terms) (first : Finder) (stream : List ℕ) (reading : Reading) (f : Finder) : Type 0 where
   pub segments : List Segment
   pub was : Was reading stream (map view_of segments)
+  pub took : TakesAll first segments f
   pub tracks : Tracks t segments f
 
 -- segments were taken
 abbrev pub TakesIn : Reading → Finder → Reading → Finder → Type 0
-TakesIn r f s g = (t : Terms) (stream : List ℕ) → IsAt t stream r f → IsAt t stream s g
+TakesIn r f s g = (t : Terms) (first : Finder) (stream : List ℕ) → IsAt t first stream r f → IsAt t first stream s g
 
 -- these bytes were read, and segments taken
 abbrev pub ReadsIn : List ℕ → Reading → Finder → Reading → Finder → Type 0
-ReadsIn bytes r f s g = (t : Terms) (stream : List ℕ) → IsAt t stream r f → IsAt t (stream ++ bytes) s g
+ReadsIn bytes r f s g = (t : Terms) (first : Finder) (stream : List ℕ) → IsAt t first stream r f → IsAt t first (stream ++ bytes) s g

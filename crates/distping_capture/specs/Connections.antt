@@ -4,7 +4,8 @@ use Rattle.dist_capture.specs.declared.segment.{Endpoint.Endpoint, Segment.Segme
 use Rattle.dist_messages.specs.declared.message.Side.{Side, TheVariants.Dialler, TheVariants.Acceptor}
 use Rattle.dist_talk.specs.{Speaking.other_side, declared.terms.Terms.Terms, declared.verdict.HandshakeVerdict.HandshakeVerdict}
 use Rattle.distping_capture.specs.Attempts.{verdict_on}
-use Rattle.distping_capture.specs.{Delivered.IsRead, Delivered.SaidIn, Flows.Brings, Flows.IsReadOn, Flows.SameBehind, Flows.SameBytes, Flows.bytes_of}
+use Rattle.distping_capture.specs.{Delivered.IsRead, Delivered.SaidIn, Flows.Brings, Flows.IsReadOn, Flows.IsUnbegun}
+use Rattle.distping_capture.specs.Flows.{SameBehind, SameBytes, bytes_of}
 use Rattle.distping_capture.specs.declared.{connection.CapturedConnection.CapturedConnection, flow.Flow.Flow, traffic.Traffic.Traffic}
 use Rattle.distping_capture.specs.declared.traffic.Traffic.TheVariants as traffic
 
@@ -106,6 +107,14 @@ pub record Follows (c : CapturedConnection) (s : Segment) (e : CapturedConnectio
   pub ends : KeepsEnds unread e
   pub goes_on : (b : Sent) → Holds c b → GoesOn unread e (with_piece side gathers.piece b)
 
+-- A NEW CONNECTION of a segment: nothing was delivered on it, and it was not judged
+pub record IsNew (s : Segment) (c : CapturedConnection) : Type 0 where
+  pub ends : AreEnds c × EndsOf s c.ends
+  pub holds : Holds c nothing_sent
+  pub tells : Tells c nothing_sent
+  pub unbegun : IsUnbegun c.from_dialler × IsUnbegun c.from_acceptor
+  pub open_yet : (c.is_reported ≡ false) × (c.verdict ≡ None)
+
 -- The connection says the same, or what it says is forgotten; what else is known of it may change.
 pub record Stays (c e : CapturedConnection) : Type 0 where
   pub ends : SameEnds c e
@@ -117,16 +126,17 @@ pub record SameConnection (c e : CapturedConnection) : Type 0 where
   pub at_mapper : e.is_at_mapper ≡ c.is_at_mapper
   pub reported : e.is_reported ≡ c.is_reported
 
--- AN ATTEMPT WAS JUDGED: its verdict is that on what the connection carries, which says the same as before.
-pub record Judges (t : Terms) (c e : CapturedConnection) : Type 0 where
-  pub stays : Stays c e
-  pub verdict : e.verdict ≡ Some (verdict_on t e.is_at_mapper e.content)
-
 -- an attempt is carried: a handshake, or the cause why there was none
 abbrev pub IsAttempt : Traffic → Type 0
 IsAttempt (traffic.Handshake h) = Unit {0}
 IsAttempt (traffic.Unreached u) = Unit {0}
 IsAttempt any = ⊥
+
+-- AN ATTEMPT WAS JUDGED: its verdict is that on what the connection carries, which says the same as before.
+pub record Judges (t : Terms) (c e : CapturedConnection) : Type 0 where
+  pub stays : Stays c e
+  pub attempt : IsAttempt c.content → IsAttempt e.content
+  pub verdict : e.verdict ≡ Some (verdict_on t e.is_at_mapper e.content)
 
 -- A CONNECTION HAS TO BE JUDGED at its end: it carries an attempt, and was not judged before
 pub record IsDue (c : CapturedConnection) : Type 0 where

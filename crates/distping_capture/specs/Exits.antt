@@ -1,12 +1,12 @@
 -- THE EXIT STATUS of a capture: the first that is not 0 of the attempts, in the order in which they ended; 12 if nothing was found.
-use Rattle.std.specs.Prelude.{◌≡◌, ◌⊎◌, ℕ, Bool, false, List, [], ◌∷◌, ◌++◌, Option, Some, None, ◌==◌, if◌then◌else◌}
+use Rattle.std.specs.Prelude.{◌≡◌, ◌⊎◌, ℕ, Bool, true, false, List, [], ◌∷◌, ◌++◌, Option, Some, None, IsSome, ◌==◌, if◌then◌else◌}
 use Rattle.std.specs.{Borrow.Bor, List.Contains, List.FoldsTo, List.Sorted.IsPermutation, Option.ok_or}
 use Rattle.dist_capture.specs.declared.segment.Segment.{Segment}
 use Rattle.dist_talk.specs.declared.terms.Viewpoint.TheVariants as viewpoint
 use Rattle.dist_talk.specs.declared.verdict.NoCookie.TheVariants as without
 use Rattle.dist_talk.specs.{Words.status_of, declared.terms.Terms.Terms, declared.verdict.HandshakeVerdict.HandshakeVerdict}
 use Rattle.distping_capture.specs.{Attempts.verdict_on, Carried.IsShown, Carried.IsShownYet, Carried.StandsOn, Crossings.Meets}
-use Rattle.distping_capture.specs.Connections.{EndsOf, IsDue, IsJudgedBy}
+use Rattle.distping_capture.specs.Connections.{EndsOf, Follows, IsDue, IsJudgedBy, IsNew, SameEnds}
 use Rattle.distping_capture.specs.declared.{connection.CapturedConnection.CapturedConnection, dials.PastDial.PastDial, register.Register.Register}
 use Rattle.distping_capture.specs.declared.traffic.Traffic.{Traffic}
 
@@ -104,6 +104,22 @@ pub record Ends (c : CapturedConnection) (r s : Register) : Type 0 where
   pub ended : CapturedConnection
   pub once : NotesOnce c ended r s
   pub judged : IsDue c → IsJudgedBy r.terms c ended.verdict
+
+-- it goes on, or it ended and another one begins with this segment, which opens one (SYN)
+abbrev pub Renews : Segment → CapturedConnection → CapturedConnection → Register → Register → Type 0
+Renews next c e r s = (e ≡ c) ⊎ ((next.is_syn ≡ true) × IsNew next e × Ends c r s)
+
+-- A SEGMENT WAS TAKEN of a connection: it follows it, and stays so until it is judged, when its attempt is added, or ends, judged if it was due.
+pub record Takes (next : Segment) (c e : CapturedConnection) (r s : Register) : Type 0 where
+  pub later : CapturedConnection
+  pub follows : Follows c next later
+  pub ends : SameEnds later e
+  pub noted : NotesBy later later.verdict e.verdict r s
+  pub stays : (e ≡ later) ⊎ (IsSome e.verdict ⊎ ((e.is_reported ≡ true) × (IsDue later → IsSome e.verdict)))
+
+-- the same, unless it ended before: then it takes no more
+abbrev pub TakesYet : Segment → CapturedConnection → CapturedConnection → Register → Register → Type 0
+TakesYet next c e r s = ((c.is_reported ≡ true) × (e ≡ c) × SameAttempts r s) ⊎ Takes next c e r s
 
 -- ALL OF THESE CONNECTIONS ENDED, one after another in some order
 abbrev pub EndsAll : List CapturedConnection → Register → Register → Type 0

@@ -1,10 +1,10 @@
 //! One connection of TCP, as far as a capture shows it.
 
-ghost use Rattle.std.specs.Prelude.{◌≡◌, ℕ, List, IfNone, IfSome, IsTrue, OnOk};
+ghost use Rattle.std.specs.Prelude.{◌≡◌, ℕ, List, IfNone, IfSome, IsTrue, OnOk, true};
 ghost use Rattle.distping_capture.specs.Endings.{IsFirstEnd, NeitherEnded, WasNeverMade};
-ghost use Rattle.distping_capture.specs.Connections.{AreEnds, EndsOf, Finds, Follows, Gathers, GoesOn, Holds, IsFrom, IsLeft, Keeps, KeepsEnds};
-ghost use Rattle.distping_capture.specs.Connections.{ReadsBoth, SameEnds, Sent, Stays, Still, Tells, flow_of, nothing_sent};
-ghost use Rattle.distping_capture.specs.Flows.{Brings, IsGone, IsUnbegun, SameBytes};
+ghost use Rattle.distping_capture.specs.Connections.{EndsOf, Finds, Follows, Gathers, GoesOn, Holds, IsFrom, IsLeft, IsNew, Keeps, KeepsEnds};
+ghost use Rattle.distping_capture.specs.Connections.{ReadsBoth, SameEnds, Sent, Stays, Still, Tells, flow_of};
+ghost use Rattle.distping_capture.specs.Flows.{Brings, IsGone, SameBytes};
 
 use crate::flow::{Flow, FlowEnd};
 use crate::messages::read_messages;
@@ -83,10 +83,7 @@ pub fn ends_of(segment: &Segment) -> (Endpoint, Endpoint)
 impl CapturedConnection {
     /// The connection of this segment, which was not taken yet.
     pub fn new(segment: &Segment, mapper_port: u16) -> CapturedConnection
-        ensures holds { Holds result nothing_sent }
-        ensures tells { Tells result nothing_sent }
-        ensures ends { AreEnds result × EndsOf segment.now result.ends }
-        ensures unbegun { IsUnbegun result.from_dialler × IsUnbegun result.from_acceptor }
+        ensures { IsNew segment.now result }
     {
         let (dialler, acceptor) = if is_from_dialler(segment, mapper_port) {
             (segment.from, segment.to)
@@ -172,7 +169,9 @@ impl CapturedConnection {
     }
 
     /// Whether this segment begins a new connection between the same two ports: it is no copy of the one that began this one.
-    pub fn is_before(&self, segment: &Segment) -> bool {
+    pub fn is_before(&self, segment: &Segment) -> bool
+        ensures { IsTrue result → segment.now.is_syn ≡ true }
+    {
         let is_idle = segment.time.saturating_sub(self.latest) >= PATIENCE;
         segment.is_syn
             && !segment.is_ack

@@ -1,9 +1,10 @@
 //! All connections of a capture.
 
-ghost use Rattle.std.specs.Prelude.{◌≡◌, ◌<◌, ◌≤◌, [], IfOk, IfSome, List, remove, OnOk, slice_get, vec_len};
+ghost use Rattle.std.specs.Prelude.{◌≡◌, ◌<◌, ◌≤◌, [], IfOk, IfSome, List, length, remove, OnOk, slice_get, vec_len};
 ghost use Rattle.dist_talk.specs.declared.terms.Terms.{Terms};
 ghost use Rattle.distping_capture.specs.Captures.{CountsTo, FinishesWith, GoesOnTracking, HandsOn, IsPlaceOf};
-ghost use Rattle.distping_capture.specs.{Captures.Tracks, Captures.TracksNext, Captures.connections_of, Exits.Ends, Exits.EndsAll};
+ghost use Rattle.distping_capture.specs.Captures.{Forgets, IsFresh, MakesPlace, MakesRoom, TakesAt, TakesOne, Tracks, TracksNext, connections_of};
+ghost use Rattle.distping_capture.specs.Exits.{Ends, EndsAll};
 ghost use Rattle.dist_capture.specs.declared.segment.Segment.{Segment};
 
 use crate::connection::{CapturedConnection, ends_of};
@@ -38,7 +39,8 @@ pub struct Finder<'x> {
 impl<'x> Finder<'x> {
     /// A finder that has seen nothing.
     pub fn new(lines: LineSink<'x>, terms: Terms<'x>, mapper_port: u16) -> Finder<'x>
-        ensures { Tracks terms.entry [] result }
+        ensures tracks { Tracks terms.entry [] result }
+        ensures fresh { IsFresh terms.entry result }
     {
         Finder {
             register: Register::new(lines, terms),
@@ -65,7 +67,9 @@ impl<'x> Finder<'x> {
     }
 
     // The connection that keeps most.
-    fn largest(&self) -> usize {
+    fn largest(&self) -> usize
+        ensures { 0 < vec_len self.now.connections → result < vec_len self.now.connections }
+    {
         let (mut place, mut most) = (0, 0);
         for (at, connection) in self.connections.iter().enumerate() {
             if connection.kept_bytes() > most {
@@ -79,7 +83,7 @@ impl<'x> Finder<'x> {
     // Forgets the connection at this place, and prints what there is to say of it.
     fn give_up(&mut self, place: usize) -> Result<(), Fault>
         ensures tracking { OnOk result (GoesOnTracking self.old self.new) }
-        ensures given_up { place < vec_len self.old.connections → self.new.connections.items ≡ remove self.old.connections.items place }
+        ensures given_up { OnOk result (self.new.connections.items ≡ remove self.old.connections.items place) }
         ensures ends { OnOk result (IfSome (slice_get self.old.connections.items place) (λ it. Ends it.value self.old.register self.new.register)) }
     {
         if place >= self.connections.len() {
@@ -92,7 +96,8 @@ impl<'x> Finder<'x> {
 
     // The same to have room for another one.
     fn forget(&mut self, place: usize) -> Result<(), Fault>
-        ensures { OnOk result (GoesOnTracking self.old self.new) }
+        ensures tracking { OnOk result (GoesOnTracking self.old self.new) }
+        ensures forgets { OnOk result (place < length self.old.connections.items → Forgets self.old self.new) }
     {
         let is_open = self
             .connections
@@ -104,7 +109,8 @@ impl<'x> Finder<'x> {
 
     // Forgets a connection if there is no room for another one.
     fn make_room(&mut self) -> Result<(), Fault>
-        ensures { OnOk result (GoesOnTracking self.old self.new) }
+        ensures tracking { OnOk result (GoesOnTracking self.old self.new) }
+        ensures room { OnOk result (MakesRoom self.old self.new) }
     {
         if self.connections.len() < MOST_CONNECTIONS {
             return Ok(());
@@ -122,7 +128,9 @@ impl<'x> Finder<'x> {
     // Where the connection of a segment is. If there is none, it is made.
     fn place_for(&mut self, segment: &Segment) -> Result<usize, Fault>
         ensures tracking { OnOk result (GoesOnTracking self.old self.new) }
+        ensures within { IfOk result (λ place. place < length self.new.connections.items) }
         ensures place { IfOk result (λ place. IsPlaceOf segment.now self.new place) }
+        ensures makes { OnOk result (MakesPlace segment.now self.old self.new) }
     {
         let ends = ends_of(segment);
         let place = self.place_of(ends);
@@ -140,7 +148,9 @@ impl<'x> Finder<'x> {
 
     // Takes a segment of the connection at this place.
     fn hand_on(&mut self, place: usize, segment: &Segment) -> Result<(), Fault>
-        ensures { OnOk result (HandsOn segment.now place self.old self.new) }
+        ensures hands { OnOk result (HandsOn segment.now place self.old self.new) }
+        ensures takes { OnOk result (TakesAt segment.now place self.old self.new) }
+        ensures count { OnOk result (length self.new.connections.items ≡ length self.old.connections.items) }
     {
         let Some(connection) = self.connections.get_mut(place) else {
             return Ok(());
@@ -156,7 +166,8 @@ impl<'x> Finder<'x> {
 
     /// Takes the next segment of the capture.
     pub fn take(&mut self, segment: &Segment) -> Result<(), Fault>
-        ensures { OnOk result (TracksNext segment.now self.old self.new) }
+        ensures tracking { OnOk result (TracksNext segment.now self.old self.new) }
+        ensures takes { OnOk result (TakesOne segment.now self.old self.new) }
     {
         self.register.note_time(segment.time);
         let place = self.place_for(segment)?;

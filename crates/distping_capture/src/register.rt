@@ -1,14 +1,13 @@
 //! What is printed of connections, and what several of them show together: how often which pair of nodes came to what, restarts, names
 //! that two hosts use, dials that cross, lookups that lead elsewhere, and what leaves a wrong cookie in doubt.
 
-ghost use Rattle.std.specs.Prelude.{◌≡◌, ◌++◌, [], ◌∷◌, ◌==◌, IfOk, IsSome, List, None, OnOk, true, if◌then◌else◌};
-ghost use Rattle.distping_capture.specs.Connections.{EndsOf, IsAttempt, Judges};
-ghost use Rattle.distping_capture.specs.Connections.{SameConnection, SameEnds, SaysNoMore, Stays};
+ghost use Rattle.std.specs.Prelude.{◌≡◌, ◌⊎◌, ◌++◌, [], ◌∷◌, ◌==◌, IfOk, IsSome, List, None, OnOk, false, true, if◌then◌else◌};
+ghost use Rattle.distping_capture.specs.Connections.{IsAttempt, IsDue, Judges, SameConnection, SameEnds, SaysNoMore, Stays};
 ghost use Rattle.dist_capture.specs.declared.segment.Segment.{Segment};
 ghost use Rattle.distping_capture.specs.{Attempts.verdict_on, declared.dials.PastDial.PastDial};
 ghost use Rattle.dist_talk.specs.{Words.status_of, declared.terms.Terms.Terms};
 ghost use Rattle.distping_capture.specs.Exits.{Adds, Counts, Ends, GoesOnCounting, GoesOnWatching, Notes, NotesOnce, SameAttempts, StandsFor};
-ghost use Rattle.distping_capture.specs.Exits.{TakesOn, exit_now, exit_of, first_exit};
+ghost use Rattle.distping_capture.specs.Exits.{NotesBy, Renews, Takes, TakesOn, TakesYet, exit_now, exit_of, first_exit};
 
 use crate::connection::CapturedConnection;
 use crate::dials::{PastDial, add, by_pairs};
@@ -78,7 +77,9 @@ fn first_exit(dials: &[PastDial]) -> u8
 impl<'x> Register<'x> {
     /// Nothing is remembered.
     pub fn new(lines: LineSink<'x>, terms: Terms<'x>) -> Register<'x>
-        ensures { (segments : List Segment) → Counts terms.entry segments result }
+        ensures counts { (segments : List Segment) → Counts terms.entry segments result }
+        ensures terms { result.terms ≡ terms.entry }
+        ensures none { (result.dials.items ≡ []) × (result.status ≡ 0) × (result.has_found ≡ false) }
     {
         let alloc = lines.alloc;
         Register {
@@ -414,6 +415,8 @@ impl<'x> Register<'x> {
         ensures reported { OnOk result (connection.new.is_reported ≡ true) }
         ensures ends { OnOk result (SameEnds connection.old connection.new) }
         ensures ended { OnOk result (Ends connection.old self.old self.new) }
+        ensures noted { OnOk result (NotesBy connection.old connection.old.verdict connection.new.verdict self.old self.new) }
+        ensures judged { OnOk result (IsDue connection.old → IsSome connection.new.verdict) }
         ensures watching { OnOk result (GoesOnWatching self.old connection.old self.new connection.new) }
     {
         if connection.is_reported {
@@ -428,7 +431,7 @@ impl<'x> Register<'x> {
 
     /// Notes the time of the latest segment.
     pub fn note_time(&mut self, time: u64)
-        ensures { GoesOnCounting self.old self.new }
+        ensures { SameAttempts self.old self.new }
     {
         self.time = time;
     }
@@ -441,7 +444,7 @@ impl<'x> Register<'x> {
         segment: &Segment,
         mapper_port: u16,
     ) -> Result<(), Fault>
-        ensures ends { OnOk result (EndsOf segment.now connection.old.ends → EndsOf segment.now connection.new.ends) }
+        ensures begins { OnOk result (Renews segment.now connection.old connection.new self.old self.new) }
         ensures watching { OnOk result (GoesOnWatching self.old connection.old self.new connection.new) }
     {
         if !connection.is_before(segment) {
@@ -474,7 +477,8 @@ impl<'x> Register<'x> {
 
     // Reads a segment of a connection, and prints what a port mapper answered by it.
     fn read(&mut self, connection: &mut CapturedConnection, segment: &Segment) -> Result<(), Fault>
-        ensures { OnOk result (TakesOn segment.now self.old connection.old self.new connection.new) }
+        ensures takes { OnOk result (Takes segment.now connection.old connection.new self.old self.new) }
+        ensures watching { OnOk result (TakesOn segment.now self.old connection.old self.new connection.new) }
     {
         if connection.take(self.lines.alloc, segment)? {
             return self.take_answer(connection);
@@ -484,7 +488,10 @@ impl<'x> Register<'x> {
 
     // Prints an attempt that came up.
     fn put_settled(&mut self, connection: &mut CapturedConnection) -> Result<(), Fault>
-        ensures { OnOk result (GoesOnWatching self.old connection.old self.new connection.new) }
+        ensures stays { OnOk result ((connection.new ≡ connection.old) ⊎ IsSome connection.new.verdict) }
+        ensures ends { OnOk result (SameEnds connection.old connection.new) }
+        ensures noted { OnOk result (NotesBy connection.old connection.old.verdict connection.new.verdict self.old self.new) }
+        ensures watching { OnOk result (GoesOnWatching self.old connection.old self.new connection.new) }
     {
         if connection.is_settled() {
             return self.put_attempt_once(connection);
@@ -498,7 +505,8 @@ impl<'x> Register<'x> {
         connection: &mut CapturedConnection,
         segment: &Segment,
     ) -> Result<(), Fault>
-        ensures { OnOk result (TakesOn segment.now self.old connection.old self.new connection.new) }
+        ensures takes { OnOk result (TakesYet segment.now connection.old connection.new self.old self.new) }
+        ensures watching { OnOk result (TakesOn segment.now self.old connection.old self.new connection.new) }
     {
         if connection.is_reported {
             return Ok(());

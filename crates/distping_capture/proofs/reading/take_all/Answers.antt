@@ -1,6 +1,6 @@
-use Rattle.std.proofs.Common.{[], ◌++◌, take}
-use Rattle.std.proofs.KnownBytes.{Consumes-nil, Consumes-trans}
-use Rattle.distping_capture.proofs.Tracking.{reads_fed, reads_none, reads_taken}
+use Rattle.std.proofs.Common.{[], ◌++◌, ◌<◌, length, take, arith}
+use Rattle.std.proofs.KnownBytes.{Consumes-kept, Consumes-nil, Consumes-trans}
+use Rattle.distping_capture.proofs.Tracking.{all_read, reads_fed, reads_none, reads_taken}
 use Rattle.distping_capture.proofs.reading.take_all.Goals as goal
 
 pub pieces-init : goal.pieces-init
@@ -17,4 +17,21 @@ pieces-preserved g c =
       p.0 ++ piece,
       Consumes-trans _ _ _ p.0 piece p.1 c.in-Ok.ensures.bytes.0,
       reads_fed r s c.feed.new.self f k p.0 piece (reads_taken r c.pieces.capture s f c.pieces.finder k p.0 p.2 c.in_ok-take_segments.ensures.taken) c.in_ok-feed.ensures.ok,
+    )
+
+pub pieces-preserved-in-Err : goal.pieces-preserved-in-Err
+pieces-preserved-in-Err g c =
+    let p = c.pieces.invariant in (
+      p.0,
+      Consumes-kept _ _ _ p.0 p.1 c.in-Err.ensures.bytes,
+      reads_taken c.args.capture.now c.pieces.capture c.take_segments.new.capture c.args.finder.now c.pieces.finder c.take_segments.new.finder p.0 p.2 c.in_ok-take_segments.ensures.taken,
+    )
+
+pub returns-then-count-eq0-clause-all : goal.returns-then-count-eq0-clause-all
+returns-then-count-eq0-clause-all g c =
+    let p = c.pieces.invariant in
+    let some : 0 < length c.read.new.buf = omega arith in (
+      p.0,
+      all_read _ _ _ p.0 c.read.new.buf c.in-Ok.count p.1 c.in-Ok.ensures.bytes.0 c.if-count-eq0.true (c.in-Ok.ensures.bytes.1 c.if-count-eq0.true some),
+      reads_taken c.args.capture.now c.pieces.capture c.take_segments.new.capture c.args.finder.now c.pieces.finder c.take_segments.new.finder p.0 p.2 c.in_ok-take_segments.ensures.taken,
     )

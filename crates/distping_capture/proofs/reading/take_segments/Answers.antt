@@ -11,4 +11,4 @@ pub segments-preserved : goal.segments-preserved
 segments-preserved c =
     let p = rw c.in-Ok-Some.field-0-is at c.in-Ok-Some.ensures.ok in
     takes_then c.args.capture.now c.segments.capture c.next.new.self c.args.finder.now c.segments.finder c.take.new.self c.segments.invariant
-    (took c.segments.capture p.0 c.next.new.self c.segments.finder c.take.new.self c.in-Ok-Some.segment p.1 p.2 c.in_ok-take-in-Ok-Some.ensures)
+    (took c.segments.capture p.0 c.next.new.self c.segments.finder c.take.new.self c.in-Ok-Some.segment p.1 p.2 c.in_ok-take-in-Ok-Some.ensures.takes c.in_ok-take-in-Ok-Some.ensures.tracking)

@@ -17,7 +17,7 @@ open-preserved c =
     let ends = ends_more xs left.items r c.open.self.register c.give_up.new.self.register place within c.open.invariant.ends c.in_ok-give_up.ensures.ends in
     record {
       tracking = λ t segments w. c.in_ok-give_up.ensures.tracking t segments (c.open.invariant.tracking t segments w);
-      ends = subst (λ (l : List Boxed). EndsSome xs r l c.give_up.new.self.register) (sym (c.in_ok-give_up.ensures.given_up some)) ends;
+      ends = subst (λ (l : List Boxed). EndsSome xs r l c.give_up.new.self.register) (sym c.in_ok-give_up.ensures.given_up) ends;
     }
 
 pub returns-clause-ends : goal.returns-clause-ends

@@ -2,5 +2,5 @@ use Rattle.std.proofs.Common.{[]}
 use Rattle.distping_capture.proofs.Tracking.{tracks_none}
 use Rattle.distping_capture.proofs.finder.Finder.new.Goals as goal
 
-pub returns : goal.returns
-returns c = tracks_none c.args.terms c.new.result c.new-2.result.items c.new-2.ensures.items (c.new.ensures [])
+pub returns-clause-tracks : goal.returns-clause-tracks
+returns-clause-tracks c = tracks_none c.args.terms c.new.result c.new-2.result.items c.new-2.ensures.items (c.new.ensures.counts [])

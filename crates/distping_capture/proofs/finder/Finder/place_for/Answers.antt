@@ -1,6 +1,6 @@
-use Rattle.std.proofs.Common.{◌≡◌, ◌<◌, length, get_or, arith, rules}
-use Rattle.distping_capture.proofs.Tracking.{here_is, place_found, place_made, tracks_added}
-use Rattle.distping_capture.proofs.Watching.{stands_new}
+use Rattle.std.proofs.Common.{refl, inr, ◌≡◌, ◌<◌, length, get_or, arith, rules}
+use Rattle.distping_capture.proofs.Tracking.{here_is, made_within, place_found, place_made, tracks_added}
+use Rattle.distping_capture.proofs.{Ending.new_in_box, Watching.stands_new}
 use Rattle.distping_capture.proofs.finder.Finder.place_for.Goals as goal
 
 pub returns-in-Some-clause-place : goal.returns-in-Some-clause-place
@@ -13,12 +13,28 @@ returns-in-Some-clause-place c =
     let ends : own.value.ends ≡ c.ends_of-ends.result = search rules in
     place_found c.args.segment.now xs place own c.ends_of-ends.result (here_is xs place own within is) ends c.ends_of-ends.ensures
 
+pub returns-clause-within : goal.returns-clause-within
+returns-clause-within c =
+    let room = c.make_room.new.self in
+    made_within room.connections.items c.insert.new.self.items c.place_of-place-2.result c.in_ok-made.made (omega (arith, room.connections.ok.0, c.place_of-place-2.ensures)) (search rules)
+
 pub returns-clause-tracking : goal.returns-clause-tracking
 returns-clause-tracking c = λ t segments w.
     let room = c.make_room.new.self in
     let made = c.new.ensures in
     tracks_added t segments room.register room.connections.items c.insert.new.self.items c.place_of-place-2.result c.in_ok-made.made c.new.result (search rules) c.in_ok-made.ensures.ok
-    (stands_new segments c.new.result made.ends.0 made.holds made.tells made.unbegun.0 made.unbegun.1) (c.in_ok-make_room.ensures t segments w)
+    (stands_new segments c.args.segment.now c.new.result made) (c.in_ok-make_room.ensures.tracking t segments w)
+
+pub returns-clause-makes : goal.returns-clause-makes
+returns-clause-makes c = inr (
+  c.make_room.new.self,
+  c.in_ok-make_room.ensures.room,
+  c.place_of-place-2.result,
+  c.in_ok-made.made,
+  search rules,
+  new_in_box c.args.segment.now c.in_ok-made.made c.new.result c.in_ok-made.ensures.ok c.new.ensures,
+  refl,
+)
 
 pub returns-clause-place : goal.returns-clause-place
 returns-clause-place c =

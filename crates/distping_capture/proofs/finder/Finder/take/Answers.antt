@@ -1,21 +1,47 @@
-use Rattle.std.proofs.Common.{[], ◌∷◌, ◌++◌}
+use Rattle.std.proofs.Common.{[], ◌∷◌, ◌++◌, inl, inr, refl, arith}
 use Rattle.std.proofs.lemmas.List.Elements.{Contains-push}
 use Rattle.std.proofs.lemmas.Result.{IfOk-weaker}
-use Rattle.distping_capture.proofs.Tracking.{noted_next}
+use Rattle.distping_capture.proofs.{Counting.counts_same, Ending.makes_noted, Tracking.noted_next}
 use Rattle.distping_capture.proofs.finder.Finder.take.Goals as goal
 
-pub returns : goal.returns
-returns c = λ t segments w.
+pub returns-clause-tracking : goal.returns-clause-tracking
+returns-clause-tracking c = λ t segments w.
     let s = c.args.segment.now in
     let all = segments ++ s ∷ [] in
-    let noted = noted_next t segments s c.args.self.now.register c.note_time.new.self c.args.self.now.connections.items c.note_time.ensures w in
-    c.in_ok-hand_on.ensures c.in_ok-place.ensures.place t all (Contains-push segments s) (c.in_ok-place.ensures.tracking t all noted)
+    let noted = noted_next t segments s c.args.self.now.register c.note_time.new.self c.args.self.now.connections.items (counts_same c.args.self.now.register c.note_time.new.self c.note_time.ensures) w in
+    c.in_ok-hand_on.ensures.hands c.in_ok-place.ensures.place t all (Contains-push segments s) (c.in_ok-place.ensures.tracking t all noted)
 
-pub returns-then-self-gt-MOST_KEPT : goal.returns-then-self-gt-MOST_KEPT
-returns-then-self-gt-MOST_KEPT c =
+pub returns-then-self-gt-MOST_KEPT-clause-tracking : goal.returns-then-self-gt-MOST_KEPT-clause-tracking
+returns-then-self-gt-MOST_KEPT-clause-tracking c =
     IfOk-weaker c.forget.result _ _
     (λ _ tracking t segments w.
     let s = c.args.segment.now in
     let all = segments ++ s ∷ [] in
-    let noted = noted_next t segments s c.args.self.now.register c.note_time.new.self c.args.self.now.connections.items c.note_time.ensures w in
-    tracking t all (c.in_ok-hand_on.ensures c.in_ok-place.ensures.place t all (Contains-push segments s) (c.in_ok-place.ensures.tracking t all noted))) c.forget.ensures
+    let noted = noted_next t segments s c.args.self.now.register c.note_time.new.self c.args.self.now.connections.items (counts_same c.args.self.now.register c.note_time.new.self c.note_time.ensures) w in
+    tracking t all (c.in_ok-hand_on.ensures.hands c.in_ok-place.ensures.place t all (Contains-push segments s) (c.in_ok-place.ensures.tracking t all noted))) c.forget.ensures.tracking
+
+pub returns-clause-takes : goal.returns-clause-takes
+returns-clause-takes c = record {
+  placed = c.place_for.new.self;
+  makes = makes_noted c.args.segment.now c.args.self.now c.place_for.new.self c.note_time.new.self c.note_time.ensures c.in_ok-place.ensures.makes;
+  place = c.in_ok-place.place;
+  within = c.in_ok-place.ensures.within;
+  between = c.in_ok-place.ensures.place;
+  taken = c.hand_on.new.self;
+  takes = c.in_ok-hand_on.ensures.takes;
+  leaves = inl refl;
+}
+
+pub returns-then-self-gt-MOST_KEPT-clause-takes : goal.returns-then-self-gt-MOST_KEPT-clause-takes
+returns-then-self-gt-MOST_KEPT-clause-takes c =
+    IfOk-weaker c.forget.result _ _
+    (λ _ forgets. record {
+      placed = c.place_for.new.self;
+      makes = makes_noted c.args.segment.now c.args.self.now c.place_for.new.self c.note_time.new.self c.note_time.ensures c.in_ok-place.ensures.makes;
+      place = c.in_ok-place.place;
+      within = c.in_ok-place.ensures.within;
+      between = c.in_ok-place.ensures.place;
+      taken = c.hand_on.new.self;
+      takes = c.in_ok-hand_on.ensures.takes;
+      leaves = inr (forgets (omega (arith, c.hand_on.new.self.connections.ok.0, c.in_ok-hand_on.ensures.count, c.in_ok-place.ensures.within, c.largest.ensures (omega (arith, c.hand_on.new.self.connections.ok.0, c.in_ok-hand_on.ensures.count, c.in_ok-place.ensures.within)))));
+    }) c.forget.ensures.forgets

@@ -1,7 +1,8 @@
-use Rattle.std.proofs.Common.{ap}
+use Rattle.std.proofs.Common.{ap, sym, ◌∙◌}
+use Rattle.std.proofs.lemmas.Bool.{false≢true}
 use Rattle.distping_capture.specs.declared.connection.CapturedConnection.{CapturedConnection}
 use Rattle.distping_capture.proofs.Counting.{ended_between, once_between, watches_ended}
-use Rattle.distping_capture.proofs.Ending.{ended_before, judged_ended}
+use Rattle.distping_capture.proofs.Ending.{ended_before, has_verdict, judged_ended, noted_none}
 use Rattle.distping_capture.proofs.register.Register.end.Goals as goal
 
 pub returns-then-connection-clause-ended : goal.returns-then-connection-clause-ended
@@ -19,6 +20,20 @@ returns-clause-ended c =
       judged = judged_ended c.args.self.now.terms c.args.connection.now c.conclude_content.new.connection c.end_content.new.connection c.forget.new.self.verdict verdict
           c.conclude_content.ensures.attempt c.in_ok-end_content.ensures.judges c.forget.ensures.verdict;
     }
+
+pub returns-then-connection-clause-noted : goal.returns-then-connection-clause-noted
+returns-then-connection-clause-noted c = noted_none c.args.connection.now c.args.connection.now.verdict c.args.self.now
+
+pub returns-clause-noted : goal.returns-clause-noted
+unfolding returns-clause-ended
+returns-clause-noted c = (returns-clause-ended c).once.once
+
+pub returns-then-connection-clause-judged : goal.returns-then-connection-clause-judged
+returns-then-connection-clause-judged c = λ due. absurd (false≢true (sym due.open_yet ∙ c.if-connection.true))
+
+pub returns-clause-judged : goal.returns-clause-judged
+unfolding returns-clause-ended
+returns-clause-judged c = λ due. has_verdict c.args.self.now.terms c.args.connection.now c.forget.new.self.verdict ((returns-clause-ended c).judged due)
 
 pub returns-clause-ends : goal.returns-clause-ends
 returns-clause-ends c =

@@ -1,8 +1,9 @@
 use Rattle.std.proofs.Common.{Some, ap, subst, sym, ◌∙◌}
 use Rattle.std.proofs.lemmas.Result.{IfOk-weaker}
 use Rattle.dist_talk.specs.{Words.status_of, declared.verdict.HandshakeVerdict.HandshakeVerdict}
-use Rattle.distping_capture.specs.{Connections.SaidBoth}
+use Rattle.distping_capture.specs.{Connections.IsAttempt, Connections.SaidBoth}
 use Rattle.distping_capture.specs.declared.{connection.CapturedConnection.CapturedConnection, traffic.Traffic.Traffic}
+use Rattle.distping_capture.proofs.Counting.{concluded_attempt}
 use Rattle.distping_capture.proofs.register.Register.put_attempt.Goals as goal
 
 pub returns-clause-judges : goal.returns-clause-judges
@@ -17,6 +18,7 @@ returns-clause-judges c =
           ends = (ap (λ (x : CapturedConnection). x.ends) stopped ∙ concluded.ends.0, ap (λ (x : CapturedConnection). x.dialler) stopped ∙ concluded.ends.1, ap (λ (x : CapturedConnection). x.acceptor) stopped ∙ concluded.ends.2);
           tells = λ b p. subst (λ (k : Traffic). SaidBoth k b) (sym (ap (λ (x : CapturedConnection). x.content) stopped)) (concluded.tells b p);
         };
+        attempt = λ p. subst IsAttempt (sym (ap (λ (x : CapturedConnection). x.content) stopped)) (concluded_attempt c.args.self.now.terms c.args.connection.now c.args.self.now.time c.args.connection.now.content c.conclude.new.self.content c.conclude.ensures.ending p);
         verdict = ap (λ (v : HandshakeVerdict). Some v) same;
       },
       record {
