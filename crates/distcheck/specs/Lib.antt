@@ -1,6 +1,7 @@
 pub mod Deciding
 pub mod Faults
 pub mod Lanes
+pub mod LeftOut
 pub mod Played
 pub mod Playing
 pub mod Rows

@@ -5,21 +5,22 @@ use Rattle.dist_names.specs.{Digits.is_numeral, Order.same_name}
 use Rattle.dist_conformance.specs.Texts.{parts_of}
 use Rattle.dist_conformance.specs.declared.rows.{Level.Level, RowTalk.RowTalk, SectionKind.SectionKind, SuiteRow.SuiteRow}
 use Rattle.dist_conformance.specs.declared.rows.SectionKind.TheVariants as kind
-use Rattle.distcheck.specs.Deciding.{level_by}
-use Rattle.distcheck.specs.declared.{command.CheckOrder.CheckOrder, playing.Setting.Setting, standing.JudgingTerms.JudgingTerms}
+use Rattle.distcheck.specs.{Deciding.level_by, LeftOut.left_out_of}
+use Rattle.distcheck.specs.declared.{command.CheckOrder.CheckOrder, left_out.SkipReason.SkipReason, playing.Setting.Setting, standing.JudgingTerms.JudgingTerms}
 use Rattle.distcheck.specs.declared.{queue.QueuedTalk.QueuedTalk, suite.SuiteFile.SuiteFile, wanted.FiledRow.FiledRow}
 
--- a talk of a row of a file, the level of its row, and by what it is judged
+-- a talk of a row of a file, the level of its row, by what it is judged, and why it is left out, if it is
 pub record WantedTalk : Type 0 where
   pub file : SuiteFile
   pub row : SuiteRow
   pub talk : RowTalk
   pub level : Level
   pub terms : JudgingTerms
+  pub left_out : Option SkipReason
 
 -- what is queued
 abbrev pub as_wanted : QueuedTalk → WantedTalk
-as_wanted q = record { file = q.file.now; row = q.row.now; talk = q.talk.now; level = q.level; terms = q.terms }
+as_wanted q = record { file = q.file.now; row = q.row.now; talk = q.talk.now; level = q.level; terms = q.terms; left_out = q.left_out }
 
 abbrev pub all_as_wanted : List QueuedTalk → List WantedTalk
 all_as_wanted qs = map as_wanted qs
@@ -61,6 +62,7 @@ talk_of_row order setting (file, row) talk = record {
   talk = talk;
   level = level_by order.guide row.marks.since row.level;
   terms = record { limit = limit_of (is_over_tls setting file.section.kind) row.marks.limit; cookie = setting.cookie };
+  left_out = left_out_of order (is_over_tls setting file.section.kind) row talk;
 }
 
 -- the word is the number of the talk's section, the id of its row, or its own

@@ -14,6 +14,7 @@ mod command;
 mod explaining;
 mod fault;
 mod lane;
+mod left_out;
 mod objects;
 mod output;
 mod playing;

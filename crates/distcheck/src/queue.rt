@@ -1,9 +1,9 @@
-//! Beside which others talks are played, and why one is not.
+//! Beside which others talks are played.
 
 ghost use Rattle.std.specs.Prelude.{◌≡◌, ◌∷◌, [], IfOk, IsPermutation, OnOk};
 ghost use Rattle.distcheck.specs.Lanes.{all_in, lanes_of, queued_talks};
 
-use crate::command::CheckOrder;
+use crate::left_out::{SkipReason, is_slow};
 use crate::progress::SectionTally;
 use crate::standing::JudgingTerms;
 use crate::suite::SuiteFile;
@@ -12,9 +12,6 @@ use std::alloc::{AllocError, Global};
 
 /// How many talks are played at once, beside those that mostly wait. Our own choice: a node that serves many peers serves these too.
 const AT_ONCE: usize = 8;
-
-/// How many milliseconds a demand waits in a row that is not slow.
-const USUAL: u32 = 5000;
 
 /// A talk that waits so many milliseconds has a thread of its own: none waits behind it. Our own choice.
 const LONG: u32 = 1500;
@@ -34,8 +31,8 @@ pub struct QueuedTalk<'a> {
     pub level: Level,
     /// By what it is judged.
     pub terms: JudgingTerms<'a>,
-    /// Why it is not played, if it is not.
-    pub skipped: Option<&'static str>,
+    /// Why it is left out, if it is.
+    pub left_out: Option<SkipReason>,
 }
 
 /// The talks that may be played, by when they are.
@@ -139,66 +136,7 @@ fn time_of(steps: &[TalkStep]) -> u32 {
 
 // Whether a talk waits, or may wait, so long that no other is to wait behind it.
 fn is_long(queued: &QueuedTalk<'_>) -> bool {
-    time_of(queued.talk.steps.as_slice()) >= LONG || queued.row.marks.limit > USUAL
-}
-
-// Why nobody has the node dial this name, if nobody does. Names of talks begin with `0c`, `zz` or `ZZ`, so that they sort before or behind
-// the node's.
-fn reason_to_not_call(name: &[u8], order: &CheckOrder<'_>) -> Option<&'static str> {
-    let node = order.node.unwrap_or("");
-    if order.make_it_dial.is_none() {
-        Some("nobody makes the node dial (--make-it-dial)")
-    } else if node <= "0d" || "zz" <= node {
-        Some("the node's name does not sort between 0d and zz")
-    } else if name.starts_with(b"ZZ") && node <= "[" {
-        Some("the node's name does not sort behind ZZ")
-    } else {
-        None
-    }
-}
-
-// Why nobody has the node do its part in a step, if nobody does.
-fn reason_in_step(step: &TalkStep, order: &CheckOrder<'_>) -> Option<&'static str> {
-    match &step.action {
-        Action::Call(_, info) => reason_to_not_call(info.name.as_slice(), order),
-        Action::Start if order.start.is_none() => Some("nobody starts the node (--start)"),
-        _ => None,
-    }
-}
-
-// Why a step is not made through a tunnel of TLS, if it is not.
-fn reason_in_tunnel(step: &TalkStep) -> Option<&'static str> {
-    match &step.action {
-        Action::Call(..) | Action::Start => Some("over TLS the node is not made to dial"),
-        Action::Half | Action::Reset => Some("a tunnel of TLS passes on no half and no reset"),
-        _ => None,
-    }
-}
-
-/// Why a talk is not played, if it is not.
-pub fn reason_to_skip(
-    row: &SuiteRow,
-    talk: &RowTalk,
-    order: &CheckOrder<'_>,
-    is_tunnelled: bool,
-) -> Option<&'static str> {
-    let steps = talk.steps.as_slice();
-    let reason = steps.iter().find_map(|step| {
-        if is_tunnelled {
-            reason_in_tunnel(step)
-        } else {
-            reason_in_step(step, order)
-        }
-    });
-    if reason.is_some() {
-        reason
-    } else if row.marks.harsh && !order.harsh {
-        Some("harsh: it can end a fragile node (--harsh)")
-    } else if row.marks.limit > USUAL && order.quick {
-        Some("slow: left out by --quick")
-    } else {
-        None
-    }
+    time_of(queued.talk.steps.as_slice()) >= LONG || is_slow(queued.row)
 }
 
 /// The talks, by when they are played.

@@ -2,12 +2,14 @@
 //! once more alone what deviates.
 
 ghost use Rattle.std.specs.Prelude.{◌≡◌, ◌<◌, ◌++◌, vec_len, IfOk, OnOk};
-ghost use Rattle.distcheck.specs.{Lanes.all_in, Lanes.lane_at, Lanes.lanes_in, Lanes.lanes_of, Lanes.queued_talks, Played.talks_of, Trying.try_verdict};
+ghost use Rattle.distcheck.specs.Lanes.{all_in, lane_at, lanes_in, lanes_of, queued_talks};
+ghost use Rattle.distcheck.specs.{Played.talks_of, Seeing.left_out_in, Trying.try_verdict};
 
 use crate::fault::Fault;
 use crate::lane::LaneReply;
 use crate::playing::{Setting, leave_out, play};
 use crate::queue::{QueuedTalk, TalkQueue, queue_of};
+use crate::seen::Untried;
 use crate::tries::{PlayedTalk, TalkTry};
 use crate::wanted::WantedTalks;
 use dist_conformance::{Level, SectionKind, TalkVerdict};
@@ -106,17 +108,20 @@ impl<'a> TalkCrew<'a> {
         }
     }
 
-    // Why a talk is not played, if it is not.
-    fn reason_to_skip(&self, queued: &QueuedTalk<'_>) -> Option<&'static str> {
+    // Why a talk is not tried, if it is not.
+    fn reason_to_skip(&self, queued: &QueuedTalk<'_>) -> Option<Untried>
+        ensures { queued.now.left_out ≡ left_out_in result }
+    {
         let silent = if self.is_serial { SILENT_ALONE } else { SILENT };
-        if queued.skipped.is_some() {
-            queued.skipped
-        } else if self.is_gone.load(Ordering::SeqCst) {
-            Some("nobody listens any more")
-        } else if self.partner(queued).is_silent(silent) {
-            Some("nothing came in any talk")
-        } else {
-            None
+        match queued.left_out {
+            Some(why) => Some(Untried::LeftOut(why)),
+            None if self.is_gone.load(Ordering::SeqCst) => {
+                Some(Untried::Nobody("nobody listens any more"))
+            }
+            None if self.partner(queued).is_silent(silent) => {
+                Some(Untried::Nobody("nothing came in any talk"))
+            }
+            None => None,
         }
     }
 
@@ -132,10 +137,13 @@ impl<'a> TalkCrew<'a> {
         Ok(one)
     }
 
-    // Plays a talk again. The node may still be busy with who said the talk's name before.
+    // Plays a talk again, unless it is left out. The node may still be busy with who said the talk's name before.
     fn play_again(&self, played: PlayedTalk<'a>) -> Result<PlayedTalk<'a>, Fault>
         ensures { IfOk result (λ it. it.queued ≡ played.entry.queued) }
     {
+        let None = played.queued.left_out else {
+            return Ok(played);
+        };
         sleep(self.setting.rt, self.setting.breath());
         let one = self.play_once(&played.queued)?;
         Ok(played.with(one)?)
@@ -153,6 +161,7 @@ impl<'a> TalkCrew<'a> {
     }
 
     // Plays a talk, or leaves it out.
+    #[tactic(auto, using(crate::proofs::Steps::left_out_try, crate::proofs::Steps::played_try))]
     fn perform(&self, queued: &QueuedTalk<'a>) -> Result<PlayedTalk<'a>, Fault>
         ensures { IfOk result (λ it. it.queued ≡ queued.now) }
     {

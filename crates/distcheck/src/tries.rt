@@ -1,8 +1,8 @@
 //! A talk, and what became of it in each of its tries.
 
-ghost use Rattle.std.specs.Prelude.{◌≡◌, ◌<◌, length, IfOk};
-ghost use Rattle.std.specs.List.{list_any};
-ghost use Rattle.distcheck.specs.Trying.{told_verdicts, verdict_of_two, verdict_alone, tries_verdict, try_verdict, verdicts_of, was_refused};
+ghost use Rattle.std.specs.Prelude.{◌≡◌, ◌<◌, ◌∷◌, [], length, IfOk, None};
+ghost use Rattle.std.specs.{List.list_any, Option.ForSome};
+ghost use Rattle.distcheck.specs.Trying.{IsLeftOut, told_verdicts, verdict_of_two, verdict_alone, tries_verdict, try_verdict, verdicts_of, was_refused};
 ghost use Rattle.distcheck.specs.Deciding.{counts_first};
 
 use crate::queue::QueuedTalk;
@@ -56,6 +56,8 @@ pub struct PlayedTalk<'a> {
     pub ghost tried: { 0 < length tries.items },
     // The verdict of each is the judgement of what was seen in it.
     pub ghost judged: { told_verdicts tries.items ≡ verdicts_of queued tries.items },
+    // Nothing is tried of a talk that is left out.
+    pub ghost left_out: { ForSome queued.left_out (λ why. IsLeftOut why tries.items) },
 }
 
 // Whether the first of two tries counts: what deviates is not blocked by a second try, which may meet what the first left behind.
@@ -110,7 +112,9 @@ impl<'a> PlayedTalk<'a> {
         first: TalkTry,
     ) -> Result<PlayedTalk<'a>, AllocError>
         // `play` and `leave_out` say so of what they return.
-        requires { first.verdict ≡ try_verdict queued.now first.played.items }
+        requires judged { first.verdict ≡ try_verdict queued.now first.played.items }
+        // What is left out is not played.
+        requires left_out { ForSome queued.now.left_out (λ why. IsLeftOut why (first ∷ [])) }
         ensures { IfOk result (λ it. it.queued ≡ queued.now) }
     {
         Ok(PlayedTalk {
@@ -120,9 +124,12 @@ impl<'a> PlayedTalk<'a> {
     }
 
     /// The talk with one more try.
+    #[tactic(auto, using(crate::proofs::Steps::played_try))]
     pub fn with(mut self, one: TalkTry) -> Result<PlayedTalk<'a>, AllocError>
         // `play` says so of what it returns.
-        requires { one.verdict ≡ try_verdict self.queued one.played.items }
+        requires judged { one.verdict ≡ try_verdict self.queued one.played.items }
+        // What is left out is not played.
+        requires played { self.queued.left_out ≡ None }
         ensures { IfOk result (λ it. it.queued ≡ self.entry.queued) }
     {
         let PlayedTalk { queued, mut tries } = self;
@@ -131,8 +138,10 @@ impl<'a> PlayedTalk<'a> {
     }
 
     /// The verdict of the talk.
+    #[tactic(auto, using(crate::proofs::Steps::left_out_verdict))]
     pub fn verdict(&self) -> TalkVerdict
-        ensures { result ≡ tries_verdict (verdicts_of self.now.queued self.now.tries.items) }
+        ensures verdict { result ≡ tries_verdict (verdicts_of self.now.queued self.now.tries.items) }
+        ensures left_out { ForSome self.now.queued.left_out (λ why. result ≡ TalkVerdict.Skipped) }
     {
         tries_verdict(&self.tries)
     }

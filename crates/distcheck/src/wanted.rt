@@ -9,8 +9,9 @@ ghost use Rattle.distcheck.specs.Wanted.{all_as_wanted, all_filed, as_filed, as_
 ghost use Rattle.distcheck.specs.Wanted.{rows_of_file, rows_with_partner, talk_of_row, talks_in_row, wanted_talks};
 
 use crate::command::CheckOrder;
+use crate::left_out::left_out_of;
 use crate::playing::Setting;
-use crate::queue::{QueuedTalk, reason_to_skip};
+use crate::queue::QueuedTalk;
 use crate::standing::JudgingTerms;
 use crate::suite::SuiteFile;
 use dist_conformance::{Level, RowTalk, SectionKind, SuiteRow};
@@ -175,7 +176,7 @@ fn talk_of_row<'a>(
             limit: limit_of(is_tunnelled, row.marks.limit),
             cookie: setting.cookie,
         },
-        skipped: reason_to_skip(row, talk, order, is_tunnelled),
+        left_out: left_out_of(order, is_tunnelled, row, talk),
     }
 }
 
