@@ -125,29 +125,48 @@ fn follow<R: Resolving + Sync>(
 ) -> Result<u8, Refusal> {
     read_names(rt, wanted)?;
     let cookie = cookie_read(rt, &wanted.choices)?;
-    let mut out = ResultSink::new(rt.stdout());
-    Ok(carry_out(rt, resolver, wanted, cookie.as_ref(), &mut out)?)
+    let out = ResultSink::new(rt.stdout());
+    let (status, _) = carry_out(rt, resolver, wanted, cookie.as_ref(), out)?;
+    Ok(status)
 }
 
-// Reads a capture, listens, or checks nodes. The results of nodes and of a connection go to `out`.
-fn carry_out<'x, R: Resolving + Sync, W: Write>(
+// Reads a capture, listens, or checks nodes. The results go to `out`, which is returned too.
+fn carry_out<'x, R: Resolving + Sync, W: Write + Drop>(
+    rt: &'x HostRuntime,
+    resolver: &'x R,
+    wanted: &'x Wanted<'x>,
+    cookie: Option<&'x Cookie>,
+    out: ResultSink<W>,
+) -> Result<(u8, ResultSink<W>), Fault>
+    ensures capture { IfSome wanted.now.choices.capture (λ path. IfOk result (λ it. (bytes : List ℕ)
+        × CaptureEndsWith W (terms_of cookie.entry) wanted.now.choices.mapper_port wanted.now.choices.json bytes out it.1 it.0)) }
+    ensures listen { wanted.now.choices.capture ≡ None → IfSome wanted.now.choices.listen (λ port. IfSome wanted.now.name (λ name. IfOk result (λ it.
+        ListenEndsWith name (ok_or cookie.entry (why_none wanted.now.choices.cookie)) wanted.now.choices out it.1 it.0))) }
+    ensures nodes { (names : List (List ℕ)) → wanted.now.choices.capture ≡ None → wanted.now.choices.listen ≡ None → wanted.now.choices.watch ≡ None
+        → AreNodes wanted.now.targets.items names → IfOk result (λ it.
+        RunEndsWith (ok_or cookie.entry (why_none wanted.now.choices.cookie)) wanted.now.choices.json names 0 out it.1 it.0) }
+{
+    if let Some(path) = wanted.choices.capture {
+        return read_capture(rt, path, &wanted.choices, cookie, out);
+    }
+    let mut out = out;
+    let status = probe_or_listen(rt, resolver, wanted, cookie, &mut out)?;
+    Ok((status, out))
+}
+
+// Listens, or checks nodes. The results of nodes and of a connection go to `out`.
+fn probe_or_listen<'x, R: Resolving + Sync, W: Write>(
     rt: &'x HostRuntime,
     resolver: &'x R,
     wanted: &'x Wanted<'x>,
     cookie: Option<&'x Cookie>,
     out: &mut ResultSink<W>,
 ) -> Result<u8, Fault>
-    ensures capture { IfSome wanted.now.choices.capture (λ path.
-        IfOk result (λ status. (bytes : List ℕ) × CaptureEndsWith (terms_of cookie.entry) bytes status)) }
-    ensures listen { wanted.now.choices.capture ≡ None → IfSome wanted.now.choices.listen (λ port. IfSome wanted.now.name (λ name.
+    ensures listen { IfSome wanted.now.choices.listen (λ port. IfSome wanted.now.name (λ name.
         IfOk result (ListenEndsWith name (ok_or cookie.entry (why_none wanted.now.choices.cookie)) wanted.now.choices out.old out.new))) }
-    ensures nodes { (names : List (List ℕ)) → wanted.now.choices.capture ≡ None → wanted.now.choices.listen ≡ None → wanted.now.choices.watch ≡ None
-        → AreNodes wanted.now.targets.items names
+    ensures nodes { (names : List (List ℕ)) → wanted.now.choices.listen ≡ None → wanted.now.choices.watch ≡ None → AreNodes wanted.now.targets.items names
         → IfOk result (RunEndsWith (ok_or cookie.entry (why_none wanted.now.choices.cookie)) wanted.now.choices.json names 0 out.old out.new) }
 {
-    if let Some(path) = wanted.choices.capture {
-        return read_capture(rt, path, &wanted.choices, cookie);
-    }
     let context = Context {
         rt,
         resolver,

@@ -104,18 +104,18 @@ drop_next n xs later x e = let two : drop 1 (drop n xs) ≡ drop (n + 1) xs = dr
 abbrev pub Pushes : List SentMessage → SentContent → List SentMessage → Type 0
 Pushes said c more = (s : SentMessage) × (s.content ≡ c) × (more ≡ said ++ s ∷ [])
 
-pub record TakesOne (side : Side) (c : SentContent) (h k : Handshake) : Type 0 where
+pub record TakesMessage (side : Side) (c : SentContent) (h k : Handshake) : Type 0 where
   pub pushes : Pushes (said_by side h) c (said_by side k)
   pub others : OthersSame side h k
   pub more : count_of k ≡ count_of h + 1
 
-takes_one : (side : Side) (c : SentContent) (at : ℕ) (h k : Handshake) → Takes side c at h k → TakesOne side c h k
-takes_one Dialler c at h k (s, is, when, mine, other, ending, missing) = record {
+takes_message : (side : Side) (c : SentContent) (at : ℕ) (h k : Handshake) → Takes side c at h k → TakesMessage side c h k
+takes_message Dialler c at h k (s, is, when, mine, other, ending, missing) = record {
   pushes = (s, is, mine);
   others = (other, ending, missing);
   more = rw (mine, other) (omega (arith, length-append h.dialler.items (s ∷ [])));
 }
-takes_one Acceptor c at h k (s, is, when, mine, other, ending, missing) = record {
+takes_message Acceptor c at h k (s, is, when, mine, other, ending, missing) = record {
   pushes = (s, is, mine);
   others = (other, ending, missing);
   more = rw (mine, other) (omega (arith, length-append h.acceptor.items (s ∷ [])));
@@ -123,7 +123,7 @@ takes_one Acceptor c at h k (s, is, when, mine, other, ending, missing) = record
 
 -- it says one more
 read_more : (side : Side) (bytes body : List ℕ) (c : SentContent) (h k : Handshake) (f g : Flow) → first_body w16 (bytes_of f) ≡ Some body → IsBodyOf (tags_of side) body
-    → Says side body c → TakesOne side c h k → is_done side (said_by side h) ≡ false → count_of h < 16 → bytes_of g ≡ drop (length body + 2) (bytes_of f)
+    → Says side body c → TakesMessage side c h k → is_done side (said_by side h) ≡ false → count_of h < 16 → bytes_of g ≡ drop (length body + 2) (bytes_of f)
     → IsRead side bytes h f → Waits (length (said_by side h)) bytes (bytes_of f) → IsRead side bytes k g
 read_more side bytes body c h k f g first of says takes open_ few left p w =
     let front = stands (bytes_of f) body first in
@@ -144,7 +144,7 @@ not_enough side h open_ few (inl done) = absurd cc
 not_enough side h open_ few (inr many) = omega arith
 
 reads_one_at : (side : Side) (bytes body : List ℕ) (c : SentContent) (h k : Handshake) (f g : Flow) → first_body w16 (bytes_of f) ≡ Some body → IsBodyOf (tags_of side) body
-    → Says side body c → TakesOne side c h k → is_done side (said_by side h) ≡ false → count_of h < 16 → bytes_of g ≡ drop (length body + 2) (bytes_of f)
+    → Says side body c → TakesMessage side c h k → is_done side (said_by side h) ≡ false → count_of h < 16 → bytes_of g ≡ drop (length body + 2) (bytes_of f)
     → IsRead side bytes h f → (Waits (length (said_by side h)) bytes (bytes_of f) ⊎ IsEnough side h) → IsRead side bytes k g
 reads_one_at side bytes body c h k f g first of says takes open_ few left p (inl w) = read_more side bytes body c h k f g first of says takes open_ few left p w
 reads_one_at side bytes body c h k f g first of says takes open_ few left p (inr enough) = absurd (not_enough side h open_ few enough)
@@ -157,7 +157,7 @@ left_of (Some s) count = refl
 pub reads_one : (side : Side) (body : List ℕ) (c : SentContent) (at : ℕ) (h k : Handshake) (f g : Flow) → first_body w16 (bytes_of f) ≡ Some body → IsBodyOf (tags_of side) body
     → Says side body c → Takes side c at h k → is_done side (said_by side h) ≡ false → count_of h < 16 → g ≡ without_first f (length body + 2) → SameBehind f g → Reads side h k f g
 reads_one side body c at h k f g first of says takes open_ few is same =
-    let one = takes_one side c at h k takes in
+    let one = takes_message side c at h k takes in
     let left : bytes_of g ≡ drop (length body + 2) (bytes_of f) = ap bytes_of is ∙ left_of f.stream (length body + 2) in
     record {
       reads = λ bytes p. reads_one_at side bytes body c h k f g first of says one open_ few left p p.goes_on;

@@ -4,8 +4,10 @@ pub mod Ending
 pub mod Frames
 pub mod Meeting
 pub mod Pieces
+pub mod Recognizing
 pub mod Segments
 pub mod Showing
 pub mod Standing
+pub mod Talking
 pub mod Tracking
 pub mod Watching

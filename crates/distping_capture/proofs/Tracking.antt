@@ -1,5 +1,5 @@
 -- All connections of a capture, segment by segment.
-use Rattle.std.proofs.Common.{◌≡◌, ℕ, suc, ◌<◌, ◌≤◌, List, [], ◌∷◌, ◌++◌, length, take, drop, map, get_or, set, Option, Some, None, Ok, Err, Result, refl, sym, ap, subst, ◌∙◌, append-nil, append_assoc, arith, slice_get, ◌+◌, IfSome}
+use Rattle.std.proofs.Common.{◌≡◌, Bool, ℕ, suc, ◌<◌, ◌≤◌, List, [], ◌∷◌, ◌++◌, length, take, drop, map, get_or, set, Option, Some, None, Ok, Err, Result, refl, sym, ap, subst, ◌∙◌, append-nil, append_assoc, arith, slice_get, ◌+◌, IfSome}
 use Rattle.std.specs.List.{All, Contains, insert, remove}
 use Rattle.std.specs.Io.KnownBytes.{Consumes, IsAtEnd}
 use Rattle.std.proofs.KnownBytes.{Consumes-trans, Consumes-whole}
@@ -16,6 +16,7 @@ use Rattle.distping_capture.specs.Captures.{AreAll, CountsTo, EndsWith, Finishes
 use Rattle.distping_capture.specs.{Carried.StandsOn, Connections.EndsOf}
 use Rattle.distping_capture.specs.Exits.{Counts, GoesOnCounting, GoesOnWatching, TakesOn}
 use Rattle.distping_capture.specs.declared.{connection.CapturedConnection.CapturedConnection, finder.Finder.Finder, register.Register.Register}
+use Rattle.distping_report.specs.Sinks.{SinkState}
 use Rattle.distping_capture.proofs.Counting.{counts_on}
 use Rattle.distping_capture.proofs.Watching.{stands_more}
 
@@ -26,35 +27,37 @@ Boxed = Box CapturedConnection Global
 abbrev pub IsOn : List Segment → Boxed → Type 0
 IsOn segments b = StandsOn segments b.value
 
--- what is counted was judged, and what the connections carry stands in the segments
-abbrev pub TracksBy : Terms → List Segment → Register → List Boxed → Type 0
-TracksBy t segments r xs = Counts t segments r × All (IsOn segments) xs
+module _ {W : Type 0} where
+  -- what is counted was judged, and what the connections carry stands in the segments
+  abbrev pub TracksBy : Terms → List Segment → Register W → List Boxed → Type 0
+  TracksBy t segments r xs = Counts t segments r × All (IsOn segments) xs
 
-pub tracks_none : (t : Terms) (r : Register) (xs : List Boxed) → xs ≡ [] → Counts t [] r → TracksBy t [] r xs
-tracks_none t r xs none counts = (counts, subst (All (IsOn [])) (sym none) (All-nil (IsOn [])))
+  pub tracks_none : (t : Terms) (r : Register W) (xs : List Boxed) → xs ≡ [] → Counts t [] r → TracksBy t [] r xs
+  tracks_none t r xs none counts = (counts, subst (All (IsOn [])) (sym none) (All-nil (IsOn [])))
 
-pub tracks_more : (t : Terms) (segments more : List Segment) (r : Register) (xs : List Boxed) → TracksBy t segments r xs → TracksBy t (segments ++ more) r xs
-tracks_more t segments more r xs p = (counts_on t segments more r p.0, All-weaker (IsOn segments) (IsOn (segments ++ more)) (λ b q. stands_more segments more b.value q) xs p.1)
+  pub tracks_more : (t : Terms) (segments more : List Segment) (r : Register W) (xs : List Boxed) → TracksBy t segments r xs → TracksBy t (segments ++ more) r xs
+  tracks_more t segments more r xs p = (counts_on t segments more r p.0, All-weaker (IsOn segments) (IsOn (segments ++ more)) (λ b q. stands_more segments more b.value q) xs p.1)
 
 stands_at : (segments : List Segment) (xs : List Boxed) (place : ℕ) (b : Boxed) (c : CapturedConnection) → place < length xs → b ≡ get_or xs place b → c ≡ b.value → All (IsOn segments) xs → StandsOn segments c
 stands_at segments xs place b c within is value all = subst (StandsOn segments) (sym value) (subst (IsOn segments) (sym is) (All-get_or (IsOn segments) xs place b within all))
 
--- one of them is given up
-pub tracks_given_up : (r s : Register) (xs ys : List Boxed) (place : ℕ) (b : Boxed) (c e : CapturedConnection) → place < length xs → b ≡ get_or xs place b → c ≡ b.value → ys ≡ remove xs place
-    → GoesOnWatching r c s e → (t : Terms) (segments : List Segment) → TracksBy t segments r xs → TracksBy t segments s ys
-tracks_given_up r s xs ys place b c e within is value left watching t segments p = (
-  (watching t segments (record { counts = p.0; stands = stands_at segments xs place b c within is value p.1 })).counts,
-  subst (All (IsOn segments)) (sym left) (All-append (IsOn segments) (take place xs) (drop (suc place) xs) (All-take (IsOn segments) place xs p.1) (All-drop (IsOn segments) (suc place) xs p.1)),
-)
+module _ {W : Type 0} where
+  -- one of them is given up
+  pub tracks_given_up : (r s : Register W) (xs ys : List Boxed) (place : ℕ) (b : Boxed) (c e : CapturedConnection) → place < length xs → b ≡ get_or xs place b → c ≡ b.value → ys ≡ remove xs place
+      → GoesOnWatching r c s e → (t : Terms) (segments : List Segment) → TracksBy t segments r xs → TracksBy t segments s ys
+  tracks_given_up r s xs ys place b c e within is value left watching t segments p = (
+    (watching t segments (record { counts = p.0; stands = stands_at segments xs place b c within is value p.1 })).counts,
+    subst (All (IsOn segments)) (sym left) (All-append (IsOn segments) (take place xs) (drop (suc place) xs) (All-take (IsOn segments) place xs p.1) (All-drop (IsOn segments) (suc place) xs p.1)),
+  )
 
--- one is added
-pub tracks_added : (t : Terms) (segments : List Segment) (r : Register) (xs ys : List Boxed) (place : ℕ) (b : Boxed) (c : CapturedConnection) → ys ≡ insert xs place b → b.value ≡ c → StandsOn segments c
-    → TracksBy t segments r xs → TracksBy t segments r ys
-tracks_added t segments r xs ys place b c items value stands p = (
-  p.0,
-  subst (All (IsOn segments)) (sym items) (All-append (IsOn segments) (take place xs) (b ∷ drop place xs) (All-take (IsOn segments) place xs p.1)
-      (All-cons (IsOn segments) b (drop place xs) (subst (StandsOn segments) (sym value) stands) (All-drop (IsOn segments) place xs p.1))),
-)
+  -- one is added
+  pub tracks_added : (t : Terms) (segments : List Segment) (r : Register W) (xs ys : List Boxed) (place : ℕ) (b : Boxed) (c : CapturedConnection) → ys ≡ insert xs place b → b.value ≡ c → StandsOn segments c
+      → TracksBy t segments r xs → TracksBy t segments r ys
+  tracks_added t segments r xs ys place b c items value stands p = (
+    p.0,
+    subst (All (IsOn segments)) (sym items) (All-append (IsOn segments) (take place xs) (b ∷ drop place xs) (All-take (IsOn segments) place xs p.1)
+        (All-cons (IsOn segments) b (drop place xs) (subst (StandsOn segments) (sym value) stands) (All-drop (IsOn segments) place xs p.1))),
+  )
 
 -- ---- a connection's place
 
@@ -78,23 +81,24 @@ place_made s xs ys place b c within items value ends =
 pub made_within : (xs ys : List Boxed) (place : ℕ) (b : Boxed) → place ≤ length xs → ys ≡ insert xs place b → place < length ys
 made_within xs ys place b within items = let n : length ys ≡ length xs + 1 = ap length items ∙ length-insert xs place b within in omega (arith, n, within)
 
--- one takes a segment
-pub hands_on : (s : Segment) (r between u : Register) (xs : List Boxed) (place : ℕ) (b b' : Boxed) (c mid e : CapturedConnection) → place < length xs → b ≡ get_or xs place b → c ≡ b.value → b'.value ≡ e
-    → (EndsOf s c.ends → EndsOf s mid.ends) → GoesOnWatching r c between mid → TakesOn s between mid u e → IsPlaceIn s xs place
-    → (t : Terms) (segments : List Segment) → Contains segments s → TracksBy t segments r xs → TracksBy t segments u (set xs place b')
-hands_on s r between u xs place b b' c mid e within is value made ends renews takes of t segments among p =
-    let own : EndsOf s b.value.ends = subst (λ (o : Option Boxed). IfSome o (λ (x : Boxed). EndsOf s x.value.ends)) (here_is xs place b within is) of in
-    let mine : EndsOf s c.ends = subst (λ (x : CapturedConnection). EndsOf s x.ends) (sym value) own in
-    let w = takes t segments among (ends mine) (renews t segments (record { counts = p.0; stands = stands_at segments xs place b c within is value p.1 })) in
-    (w.counts, All-set (IsOn segments) xs place b' (subst (StandsOn segments) (sym made) w.stands) p.1)
+module _ {W : Type 0} where
+  -- one takes a segment
+  pub hands_on : (s : Segment) (r between u : Register W) (xs : List Boxed) (place : ℕ) (b b' : Boxed) (c mid e : CapturedConnection) → place < length xs → b ≡ get_or xs place b → c ≡ b.value → b'.value ≡ e
+      → (EndsOf s c.ends → EndsOf s mid.ends) → GoesOnWatching r c between mid → TakesOn s between mid u e → IsPlaceIn s xs place
+      → (t : Terms) (segments : List Segment) → Contains segments s → TracksBy t segments r xs → TracksBy t segments u (set xs place b')
+  hands_on s r between u xs place b b' c mid e within is value made ends renews takes of t segments among p =
+      let own : EndsOf s b.value.ends = subst (λ (o : Option Boxed). IfSome o (λ (x : Boxed). EndsOf s x.value.ends)) (here_is xs place b within is) of in
+      let mine : EndsOf s c.ends = subst (λ (x : CapturedConnection). EndsOf s x.ends) (sym value) own in
+      let w = takes t segments among (ends mine) (renews t segments (record { counts = p.0; stands = stands_at segments xs place b c within is value p.1 })) in
+      (w.counts, All-set (IsOn segments) xs place b' (subst (StandsOn segments) (sym made) w.stands) p.1)
 
--- ---- a segment
+  -- ---- a segment
 
--- the finder goes on with this segment behind those that were taken
-pub noted_next : (t : Terms) (segments : List Segment) (s : Segment) (r noted : Register) (xs : List Boxed) → GoesOnCounting r noted → TracksBy t segments r xs → TracksBy t (segments ++ s ∷ []) noted xs
-noted_next t segments s r noted xs counting p =
-    let more = tracks_more t segments (s ∷ []) r xs p in
-    (counting t (segments ++ s ∷ []) more.0, more.1)
+  -- the finder goes on with this segment behind those that were taken
+  pub noted_next : (t : Terms) (segments : List Segment) (s : Segment) (r noted : Register W) (xs : List Boxed) → GoesOnCounting r noted → TracksBy t segments r xs → TracksBy t (segments ++ s ∷ []) noted xs
+  noted_next t segments s r noted xs counting p =
+      let more = tracks_more t segments (s ∷ []) r xs p in
+      (counting t (segments ++ s ∷ []) more.0, more.1)
 
 -- ---- the reader
 
@@ -106,64 +110,66 @@ said_behind (x ∷ xs) s = ap (λ (l : List (ℕ × Said)). view_of x ∷ l) (sa
 was_on : (r mid : Reading) (stream : List ℕ) (segments : List (ℕ × Said)) → Was r stream segments → Reads r [] mid → Was mid stream segments
 was_on r mid stream segments was reads = subst (Was mid stream) (append-nil segments) (Asked r mid stream segments [] was reads)
 
-pub took : (r mid later : Reading) (f g : Finder) (s : Segment) → Reads r [] mid → EndsAt mid (Some (view_of s)) later → TakesOne s f g → TracksNext s f g → TakesIn r f later g
-took r mid later f g s reads gives takes tracks t first stream p =
-    let one : Reads mid (view_of s ∷ []) later = Next mid later later (Some (view_of s)) [] (view_of s ∷ []) gives (Done later) refl in
-    let was = Asked mid later stream (map view_of p.segments) (view_of s ∷ []) (was_on r mid stream (map view_of p.segments) p.was reads) one in
-    record {
-      segments = p.segments ++ s ∷ [];
-      was = subst (Was later stream) (sym (said_behind p.segments s)) was;
-      took = FoldsTo-push (λ (h : Finder) (x : Segment) (k : Finder). TakesOne x h k) first p.segments f s g p.took takes;
-      tracks = tracks t p.segments p.tracks;
-    }
+module _ {W : Type 0} where
+  pub took : (r mid later : Reading) (f g : Finder W) (s : Segment) → Reads r [] mid → EndsAt mid (Some (view_of s)) later → TakesOne s f g → TracksNext s f g → TakesIn r f later g
+  took r mid later f g s reads gives takes tracks t first stream p =
+      let one : Reads mid (view_of s ∷ []) later = Next mid later later (Some (view_of s)) [] (view_of s ∷ []) gives (Done later) refl in
+      let was = Asked mid later stream (map view_of p.segments) (view_of s ∷ []) (was_on r mid stream (map view_of p.segments) p.was reads) one in
+      record {
+        segments = p.segments ++ s ∷ [];
+        was = subst (Was later stream) (sym (said_behind p.segments s)) was;
+        took = FoldsTo-push (λ (h : Finder W) (x : Segment) (k : Finder W). TakesOne x h k) first p.segments f s g p.took takes;
+        tracks = tracks t p.segments p.tracks;
+      }
 
-pub rests : (r mid later : Reading) (f : Finder) → Reads r [] mid → EndsAt mid None later → TakesIn r f later f
-rests r mid later f reads ends t first stream p =
-    let was : Was later stream (map view_of p.segments) = subst (λ (x : Reading). Was x stream (map view_of p.segments)) (sym ends.1) (was_on r mid stream (map view_of p.segments) p.was reads) in
-    record { segments = p.segments; was = was; took = p.took; tracks = p.tracks }
+  pub rests : (r mid later : Reading) (f : Finder W) → Reads r [] mid → EndsAt mid None later → TakesIn r f later f
+  rests r mid later f reads ends t first stream p =
+      let was : Was later stream (map view_of p.segments) = subst (λ (x : Reading). Was x stream (map view_of p.segments)) (sym ends.1) (was_on r mid stream (map view_of p.segments) p.was reads) in
+      record { segments = p.segments; was = was; took = p.took; tracks = p.tracks }
 
-pub takes_then : (r s u : Reading) (f g k : Finder) → TakesIn r f s g → TakesIn s g u k → TakesIn r f u k
-takes_then r s u f g k p q t first stream w = q t first stream (p t first stream w)
+  pub takes_then : (r s u : Reading) (f g k : Finder W) → TakesIn r f s g → TakesIn s g u k → TakesIn r f u k
+  takes_then r s u f g k p q t first stream w = q t first stream (p t first stream w)
 
--- all segments of the bytes that were read are taken, and then a piece is read
-pub reads_taken : (r s u : Reading) (f g k : Finder) (bytes : List ℕ) → ReadsIn bytes r f s g → TakesIn s g u k → ReadsIn bytes r f u k
-reads_taken r s u f g k bytes p q t first stream w = q t first (stream ++ bytes) (p t first stream w)
+  -- all segments of the bytes that were read are taken, and then a piece is read
+  pub reads_taken : (r s u : Reading) (f g k : Finder W) (bytes : List ℕ) → ReadsIn bytes r f s g → TakesIn s g u k → ReadsIn bytes r f u k
+  reads_taken r s u f g k bytes p q t first stream w = q t first (stream ++ bytes) (p t first stream w)
 
-pub reads_fed : (r s fed : Reading) (f g : Finder) (bytes piece : List ℕ) → ReadsIn bytes r f s g → fed ≡ with_bytes s piece → ReadsIn (bytes ++ piece) r f fed g
-reads_fed r s fed f g bytes piece p e t first stream w =
-    let before = p t first stream w in
-    let more : IsAt t first ((stream ++ bytes) ++ piece) (with_bytes s piece) g = record {
-      segments = before.segments;
-      was = Fed s (stream ++ bytes) (map view_of before.segments) piece before.was;
-      took = before.took;
-      tracks = before.tracks;
-    } in
-    subst (λ (l : List ℕ). IsAt t first l fed g) (append_assoc stream bytes piece) (subst (λ (x : Reading). IsAt t first ((stream ++ bytes) ++ piece) x g) (sym e) more)
+  pub reads_fed : (r s fed : Reading) (f g : Finder W) (bytes piece : List ℕ) → ReadsIn bytes r f s g → fed ≡ with_bytes s piece → ReadsIn (bytes ++ piece) r f fed g
+  reads_fed r s fed f g bytes piece p e t first stream w =
+      let before = p t first stream w in
+      let more : IsAt t first ((stream ++ bytes) ++ piece) (with_bytes s piece) g = record {
+        segments = before.segments;
+        was = Fed s (stream ++ bytes) (map view_of before.segments) piece before.was;
+        took = before.took;
+        tracks = before.tracks;
+      } in
+      subst (λ (l : List ℕ). IsAt t first l fed g) (append_assoc stream bytes piece) (subst (λ (x : Reading). IsAt t first ((stream ++ bytes) ++ piece) x g) (sym e) more)
 
-pub reads_none : (r : Reading) (f : Finder) → ReadsIn [] r f r f
-reads_none r f t first stream p = subst (λ (l : List ℕ). IsAt t first l r f) (sym (append-nil stream)) p
+  pub reads_none : (r : Reading) (f : Finder W) → ReadsIn [] r f r f
+  reads_none r f t first stream p = subst (λ (l : List ℕ). IsAt t first l r f) (sym (append-nil stream)) p
 
 pub both_ok : {T E : Type 0} (r : Result T E) (P Q : T → Type 0) → IfOk r P → IfOk r Q → IfOk r (λ x. P x × Q x)
 both_ok (Ok x) P Q p q = (p, q)
 both_ok (Err e) P Q p q = tt
 
-pub read_ends : (t : Terms) (r s : Reading) (f g : Finder) (bytes : List ℕ) (status : ℕ) → Tracks t [] f → IsFresh t f → r ≡ unread → ReadsIn bytes r f s g → whole s ≡ Ok None
-    → FinishesWith g status → ((t : Terms) (segments : List Segment) → Tracks t segments g → CountsTo t segments status) → EndsWith t bytes status
-read_ends t r s f g bytes status tracks fresh new reads no_more finishes ends =
-    let begun : IsAt t f [] r f = record { segments = []; was = subst (λ (x : Reading). Was x [] []) (sym new) Opened; took = refl; tracks = tracks } in
-    let all = reads t f [] begun in
-    record {
-      segments = all.segments;
-      reading = s;
-      was = all.was;
-      no_more = no_more;
-      begun = f;
-      fresh = fresh;
-      last = g;
-      took = all.took;
-      finishes = finishes;
-      counts = ends t all.segments all.tracks;
-    }
+module _ {W : Type 0} where
+  pub read_ends : (t : Terms) (port : ℕ) (json : Bool) (r s : Reading) (f g : Finder W) (bytes : List ℕ) (old new : SinkState) (status : ℕ) → Tracks t [] f → IsFresh t port json old f → r ≡ unread → ReadsIn bytes r f s g
+      → whole s ≡ Ok None → FinishesWith g status new → ((t : Terms) (segments : List Segment) → Tracks t segments g → CountsTo t segments status) → EndsWith W t port json bytes old new status
+  read_ends t port json r s f g bytes old new status tracks fresh new_ reads no_more finishes ends =
+      let begun : IsAt t f [] r f = record { segments = []; was = subst (λ (x : Reading). Was x [] []) (sym new_) Opened; took = refl; tracks = tracks } in
+      let all = reads t f [] begun in
+      record {
+        segments = all.segments;
+        reading = s;
+        was = all.was;
+        no_more = no_more;
+        begun = f;
+        fresh = fresh;
+        last = g;
+        took = all.took;
+        finishes = finishes;
+        counts = ends t all.segments all.tracks;
+      }
 
 -- a read that gives no byte shows that these were all
 pub all_read : (a b c : Option (List ℕ)) (bytes room : List ℕ) (count : ℕ) → Consumes a b bytes → Consumes b c (take count room) → count ≡ 0 → IsAtEnd c → AreAll a bytes

@@ -8,11 +8,12 @@ use Rattle.dist_frames.proofs.Streams.{bodies_none}
 use Rattle.dist_messages.specs.declared.message.Side.{Side, TheVariants.Dialler, TheVariants.Acceptor}
 use Rattle.dist_talk.specs.{Handshake.said_by, declared.handshake.Handshake.Handshake, declared.handshake.SentMessage.SentMessage}
 use Rattle.distping_capture.specs.Carried.{AwaitsBy, Carried, IsBacked, IsShown, IsShownYet, Stands, StandsAt, StandsOn}
-use Rattle.distping_capture.specs.Connections.{AreEnds, EndsOf, Follows, Gathers, Goes, GoesOn, IsFrom, IsNew, IsOf, KeepsEnds, NothingSaid, SaidBoth, SameEnds, SaysNoMore, Sent, Stays, nothing_sent, with_piece}
+use Rattle.distping_capture.specs.Connections.{AreEnds, EndsOf, Follows, Gathers, Goes, GoesOn, IsFrom, IsNew, IsOf, KeepsEnds, NothingSaid, SaidBoth, SameEnds, SameTalk, SaysNoMore, Sent, Stays, nothing_sent, with_piece}
 use Rattle.distping_capture.specs.Delivered.{AreSaid, NoneFollows, SaidIn}
 use Rattle.distping_capture.specs.Flows.{IsGone, behind_in}
 use Rattle.distping_capture.specs.declared.{connection.CapturedConnection.CapturedConnection, flow.Flow.Flow, traffic.Traffic.Traffic}
 use Rattle.distping_capture.specs.declared.traffic.Traffic.TheVariants as traffic
+use Rattle.distping_capture.proofs.Talking.{same_talk}
 use Rattle.distping_capture.proofs.Standing.{nothing_carried, stands_brings, stands_gone, stands_on, stands_same, stands_unbegun}
 
 -- ---- the ends
@@ -105,8 +106,8 @@ stands_follows segments c e s among ends p same q = record {
 
 -- ---- a connection begins and ends
 
-pub stands_new : (segments : List Segment) (s : Segment) (c : CapturedConnection) → IsNew s c → StandsOn segments c
-stands_new segments s c new = record {
+pub stands_new : (port : ℕ) (segments : List Segment) (s : Segment) (c : CapturedConnection) → IsNew port s c → StandsOn segments c
+stands_new port segments s c new = record {
   ends = new.ends.0;
   backed = λ none. record {
     bytes = nothing_sent;
@@ -172,7 +173,7 @@ nothing_in side h none = record {
 nothing_both : (t : Traffic) → NothingSaid t → SaidBoth t nothing_sent
 nothing_both traffic.Unknown p = tt
 nothing_both (traffic.Handshake h) p = (nothing_in Dialler h p.0, nothing_in Acceptor h p.1)
-nothing_both (traffic.Mapper talk) p = tt
+nothing_both (traffic.Mapper talk) p = absurd p
 nothing_both (traffic.Unreached u) p = tt
 nothing_both traffic.Tls p = tt
 nothing_both traffic.Other p = tt
@@ -188,11 +189,28 @@ shown_nothing segments dialler acceptor t p = record {
 shown_at : (segments : List Segment) (c e : CapturedConnection) (t : Traffic) → SameEnds c e → IsShown segments c.dialler c.acceptor t → IsShown segments e.dialler e.acceptor t
 shown_at segments c e t ends p = subst (λ (x : Endpoint). IsShown segments x e.acceptor t) (sym ends.1) (subst (λ (x : Endpoint). IsShown segments c.dialler x t) (sym ends.2) p)
 
+-- the same was said to a port mapper
+same_said : (t u : Traffic) (b : Sent) → SameTalk t u → SaidBoth t b → SaidBoth u b
+same_said (traffic.Mapper talk) (traffic.Mapper later) b p q = same_talk b.dialler b.acceptor talk later p.0 p.1 q
+same_said (traffic.Mapper talk) traffic.Unknown b p q = absurd p
+same_said (traffic.Mapper talk) (traffic.Handshake k) b p q = absurd p
+same_said (traffic.Mapper talk) (traffic.Unreached v) b p q = absurd p
+same_said (traffic.Mapper talk) traffic.Tls b p q = absurd p
+same_said (traffic.Mapper talk) traffic.Other b p q = absurd p
+same_said traffic.Unknown u b p q = absurd p
+same_said (traffic.Handshake h) u b p q = absurd p
+same_said (traffic.Unreached v) u b p q = absurd p
+same_said traffic.Tls u b p q = absurd p
+same_said traffic.Other u b p q = absurd p
+
 pub shown_no_more : (segments : List Segment) (c e : CapturedConnection) → SaysNoMore c e → SameEnds c e → e.verdict ≡ c.verdict → IsShownYet segments c → IsShownYet segments e
 shown_no_more segments c e says ends same p none = by says where
   by : SaysNoMore c e → IsShown segments e.dialler e.acceptor e.content
   by (inl content) = subst (IsShown segments e.dialler e.acceptor) (sym content) (shown_at segments c e c.content ends (p (sym same ∙ none)))
-  by (inr nothing) = shown_nothing segments e.dialler e.acceptor e.content nothing
+  by (inr (inl nothing)) = shown_nothing segments e.dialler e.acceptor e.content nothing
+  by (inr (inr talk)) =
+      let q = shown_at segments c e c.content ends (p (sym same ∙ none)) in
+      record { bytes = q.bytes; both = same_said c.content e.content q.bytes talk q.both; of_dialler = q.of_dialler; of_acceptor = q.of_acceptor }
 
 -- ---- more segments
 

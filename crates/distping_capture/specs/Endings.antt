@@ -1,19 +1,22 @@
 -- HOW A CONNECTION ENDED, by what its segments show: their numbers (RFC 9293, 3.4), closes (FIN), resets (RST), and silence.
 use Rattle.std.specs.Prelude.{◌≡◌, ◌⊎◌, ℕ, ◌+◌, ◌-◌, ◌%◌, ◌^◌, ◌<◌, ◌≤◌, ◌==◌, ◌&&◌, not, nat_lt, max, Bool, true, false}
-use Rattle.std.specs.Prelude.{List, length, slice_get, Option, Some, None, IsSome, MatchOption, if◌then◌else◌}
+use Rattle.std.specs.Prelude.{List, [], ◌∷◌, length, slice_get, Option, Some, None, IsSome, is_some, option_map, MatchOption, if◌then◌else◌, ◌||◌}
 use Rattle.std.specs.Option.{option_map_or}
 use Rattle.dist_capture.specs.Streams.{Gathering}
 use Rattle.dist_epmd_calls.specs.declared.lookup_error.LookupError.{LookupError}
 use Rattle.dist_epmd_calls.specs.declared.lookup_error.LookupError.TheVariants as fault
 use Rattle.dist_messages.specs.declared.message.Side.{Side, TheVariants.Dialler, TheVariants.Acceptor}
-use Rattle.dist_talk.specs.{Bodies.StandsFirst, Speaking.other_side, Standing.standing}
+use Rattle.dist_talk.specs.{Bodies.StandsFirst, Handshake.said_by, Speaking.other_side, Standing.standing}
 use Rattle.dist_talk.specs.declared.bodies.NextBody.TheVariants as next
-use Rattle.dist_talk.specs.declared.handshake.{Handshake.Handshake, HandshakeEnd.HandshakeEnd, HowEnded.HowEnded, SentMessage.SentMessage}
+use Rattle.dist_talk.specs.declared.handshake.{Handshake.Handshake, HandshakeEnd.HandshakeEnd, HowEnded.HowEnded, Missing.Missing}
+use Rattle.dist_talk.specs.declared.handshake.{SentContent.SentContent, SentMessage.SentMessage}
+use Rattle.dist_talk.specs.declared.handshake.SentContent.TheVariants as content
+use Rattle.dist_messages.specs.declared.message.Message.TheVariants as message
 use Rattle.dist_talk.specs.declared.handshake.HowEnded.TheVariants as ended
 use Rattle.dist_talk.specs.declared.{standing.Standing.Standing, terms.Terms.Terms, unreached.Unreached.Unreached}
 use Rattle.dist_talk.specs.declared.standing.Standing.TheVariants.{Due, Decided}
 use Rattle.dist_talk.specs.declared.unreached.Unreached.TheVariants as unreached
-use Rattle.distping_capture.specs.{Connections.flow_of, Flows.bytes_of}
+use Rattle.distping_capture.specs.{Connections.flow_of, Delivered.count_of, Flows.bytes_of}
 use Rattle.distping_capture.specs.declared.{connection.CapturedConnection.CapturedConnection, flow.Flow.Flow, flow.FlowEnd.FlowEnd, traffic.Traffic.Traffic}
 use Rattle.distping_capture.specs.declared.traffic.Traffic.TheVariants as traffic
 
@@ -62,6 +65,56 @@ NeitherEnded c = (end_of Dialler c ≡ None) × (end_of Acceptor c ≡ None)
 abbrev pub is_unread : Flow → FlowEnd → Bool
 is_unread other end = is_known_ahead (awaited_of other) end.received
 
+-- ---- what is missing
+
+-- a close, which counts as one byte
+abbrev pub close_length : Option FlowEnd → ℕ
+close_length None = 0
+close_length (Some end) = if end.is_reset then 0 else 1
+
+-- the number behind all that is there of a side that awaits this one
+abbrev pub number_behind : Flow → ℕ → ℕ
+number_behind f awaited = (awaited + close_length (end_before f.end (Some awaited))) % 2 ^ 32
+
+-- a side sent more than is there up to this number: bytes of it were cut off, or it sent bytes behind that, or ended behind it
+abbrev pub is_cut : Flow → ℕ → Bool
+is_cut f last = f.has_lost || (is_known_ahead f.sent (Some last) || is_known_ahead (option_map (λ end. end.number) f.end) (Some last))
+
+-- the other side, which ended so, had received no more than what is there up to this number
+abbrev pub has_no_more : ℕ → Option FlowEnd → Bool
+has_no_more awaited None = false
+has_no_more awaited (Some reader) = option_map_or (λ received. not (is_ahead received awaited)) reader.received false
+
+-- bytes of a side that awaits this number are missing, where the other side ended so
+abbrev pub lacks_by : Flow → Option ℕ → Option FlowEnd → Bool
+lacks_by f None reader = is_some f.acknowledged
+lacks_by f (Some awaited) reader =
+    is_known_ahead f.acknowledged (Some (number_behind f awaited)) || (is_cut f (number_behind f awaited) && not (has_no_more awaited reader))
+
+-- THE CAPTURE LACKS BYTES OF A SIDE: the other one received more than is there; or the side sent more, and the other one did not end without it
+abbrev pub lacks_bytes : Side → CapturedConnection → Bool
+lacks_bytes side c = lacks_by (flow_of side c) (awaited_of (flow_of side c)) (end_of (other_side side) c)
+
+-- a name was said first
+abbrev pub is_name : SentContent → Bool
+is_name (content.Message (message.NewName flags creation name)) = true
+is_name (content.Message (message.OldName flags name)) = true
+is_name other = false
+
+abbrev pub begins_with_name : List SentMessage → Bool
+begins_with_name [] = false
+begins_with_name (first ∷ rest) = is_name first.content
+
+-- WHAT THE CAPTURE LACKS OF A HANDSHAKE: its beginning, where something was said and the side that dialled did not begin with its name; bytes
+abbrev pub missing_of : CapturedConnection → Handshake → Missing
+missing_of c h = record {
+  beginning = nat_lt 0 (count_of h) && not (begins_with_name h.dialler.items);
+  dialler = lacks_bytes Dialler c;
+  acceptor = lacks_bytes Acceptor c;
+}
+
+-- ---- how it ended
+
 -- until when a connection was watched: its first end, or now
 abbrev pub IsWatched : CapturedConnection → ℕ → ℕ → Type 0
 IsWatched c now until = ((side : Side) × (end : FlowEnd) × IsFirstEnd c side end × (until ≡ end.at)) ⊎ (NeitherEnded c × (until ≡ now))
@@ -74,13 +127,21 @@ last_said began said = option_map_or (λ s. s.at) (slice_get said (length said -
 abbrev pub IsOverdue : CapturedConnection → Handshake → ℕ → Type 0
 IsOverdue c h now = (until : ℕ) × IsWatched c now until × (6000000000 ≤ until - max (last_said c.began h.dialler.items) (last_said c.began h.acceptor.items))
 
+-- a side ended it that for 6 seconds since it spoke last had received nothing: what the other one sent again was lost on the way
+pub record IsInVain (c : CapturedConnection) (h : Handshake) (side : Side) : Type 0 where
+  pub end : FlowEnd
+  pub first : IsFirstEnd c side end
+  pub unread : is_unread (flow_of (other_side side) c) end ≡ true
+  pub again : 0 < (flow_of (other_side side) c).again
+  pub waited : 6000000000 ≤ end.at - last_said c.began (said_by side h)
+
 -- HOW A HANDSHAKE ENDED IS SHOWN: by the first end of its connection, by bytes that begin no message, or by nothing for long.
 abbrev pub Shows : CapturedConnection → Handshake → ℕ → Side → HowEnded → Type 0
 Shows c h now side ended.Unread = (end : FlowEnd) × IsFirstEnd c side end × (is_unread (flow_of (other_side side) c) end ≡ true)
 Shows c h now side ended.Reset = (end : FlowEnd) × IsFirstEnd c side end × (is_unread (flow_of (other_side side) c) end ≡ false) × (end.is_reset ≡ true)
 Shows c h now side ended.Closed = (end : FlowEnd) × IsFirstEnd c side end × (is_unread (flow_of (other_side side) c) end ≡ false) × (end.is_reset ≡ false)
 Shows c h now side (ended.Foreign front) = StandsFirst side (bytes_of (flow_of side c)) (next.Front front)
-Shows c h now side (ended.Quiet count) = (count ≡ length (bytes_of (flow_of side c))) × IsOverdue c h now
+Shows c h now side (ended.Quiet count) = (count ≡ length (bytes_of (flow_of side c))) × (IsOverdue c h now ⊎ IsInVain c h side)
 Shows c h now side ended.NoMemory = ⊥
 
 -- an end that is shown, or none of either side
@@ -93,10 +154,10 @@ abbrev pub ShowsUpon : Standing → CapturedConnection → Handshake → ℕ →
 ShowsUpon (Due due) c h now ending = ShowsEnd c h now ending
 ShowsUpon (Decided v) c h now ending = ending ≡ None
 
--- WHAT IS NOTED OF A HANDSHAKE: the end that its connection shows, unless one was noted before
+-- WHAT IS NOTED OF A HANDSHAKE: what the capture lacks of it, and the end that its connection shows, unless an end was noted before
 abbrev pub IsConcluded : Terms → CapturedConnection → ℕ → Traffic → Traffic → Type 0
 IsConcluded t c now (traffic.Handshake h) (traffic.Handshake k) =
-    MatchOption h.ending (ShowsUpon (standing t h) c h now k.ending) (λ end. k.ending ≡ Some end)
+    MatchOption h.ending ((k.missing ≡ missing_of c h) × ShowsUpon (standing t h) c h now k.ending) (λ end. k ≡ h)
 IsConcluded t c now before after = after ≡ before
 
 -- ---- where no handshake was made

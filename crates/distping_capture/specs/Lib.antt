@@ -8,3 +8,5 @@ pub mod Endings
 pub mod Exits
 pub mod Flows
 pub mod Objects
+pub mod Printing
+pub mod Recognized

@@ -1,9 +1,10 @@
 //! What an attempt to connect came to.
 
-ghost use Rattle.std.specs.Prelude.{◌≡◌, ℕ, IfSome, IsTrue};
+ghost use Rattle.std.specs.Prelude.{◌≡◌, ℕ, IfSome, IsTrue, false};
 ghost use Rattle.dist_talk.specs.declared.handshake.Handshake.{Handshake};
-ghost use Rattle.distping_capture.specs.Endings.{IsConcluded, IsFirstEnd, IsOverdue, Shows, ShowsEnd, ShowsFault, last_said};
-ghost use Rattle.distping_capture.specs.{Attempts.verdict_on, Connections.SaysNoMore, Connections.Stays};
+ghost use Rattle.distping_capture.specs.Endings.{IsConcluded, IsFirstEnd, IsInVain, IsOverdue, Shows, ShowsEnd, ShowsFault};
+ghost use Rattle.distping_capture.specs.Endings.{begins_with_name, last_said, missing_of};
+ghost use Rattle.distping_capture.specs.{Attempts.verdict_on, Connections.SaysNoMore, Connections.Stays, Printing.is_talk};
 
 use crate::connection::{CapturedConnection, PATIENCE};
 use crate::flow::FlowEnd;
@@ -20,7 +21,9 @@ use std::alloc::Global;
 const TLS: u16 = 0x1603;
 
 // Whether the first of these is a name.
-fn begins_with_name(said: &[SentMessage]) -> bool {
+fn begins_with_name(said: &[SentMessage]) -> bool
+    ensures { result ≡ begins_with_name said.now }
+{
     match said.first() {
         Some(sent) => matches!(
             &sent.content,
@@ -42,7 +45,9 @@ fn latest_of(said: &[SentMessage], began: u64) -> u64
 
 impl CapturedConnection {
     // What the capture lacks of its handshake.
-    fn missing(&self, handshake: &Handshake) -> Missing {
+    fn missing(&self, handshake: &Handshake) -> Missing
+        ensures { result ≡ missing_of self.now handshake.now }
+    {
         Missing {
             beginning: handshake.len() > 0 && !begins_with_name(&handshake.dialler),
             dialler: self.lacks_bytes(Side::Dialler),
@@ -76,6 +81,21 @@ impl CapturedConnection {
         end.saturating_sub(latest) >= PATIENCE
     }
 
+    // Whether the side whose turn it was ended the connection, and since it spoke last received nothing for too long: what the other side
+    // sent again and again was lost on the way.
+    fn is_in_vain(&self, handshake: &Handshake, side: Side) -> bool
+        ensures { IsTrue result → IsInVain self.now handshake.now side }
+    {
+        let Some((ended, end)) = self.first_end() else {
+            return false;
+        };
+        let other = self.flow(other_side(side));
+        let waited = end
+            .at
+            .saturating_sub(latest_of(handshake.messages_of(side), self.began));
+        ended == side && other.again > 0 && other.is_unread_by(end) && waited >= PATIENCE
+    }
+
     // How a handshake ended where this side's turn was. An accepting side that closes late was there, and so not silent.
     fn ending_at(&self, handshake: &Handshake, side: Side, now: u64) -> Option<HandshakeEnd>
         ensures { ShowsEnd self.now handshake.now now result }
@@ -87,7 +107,7 @@ impl CapturedConnection {
         }
         let first = self.first_end();
         let is_there = matches!(first, Some((Side::Acceptor, _))) && side == Side::Acceptor;
-        if !is_there && self.is_overdue(handshake, now) {
+        if !is_there && (self.is_overdue(handshake, now) || self.is_in_vain(handshake, side)) {
             let how = HowEnded::Quiet(bytes.len());
             return Some(HandshakeEnd { side, how });
         }
@@ -122,6 +142,7 @@ impl CapturedConnection {
     /// Notes that TLS was dialled where a plain node listens: it took the connection, said nothing, and no byte of it is missing.
     pub fn conclude_tls(&mut self, alloc: Global, now: u64)
         ensures rest { self.new ≡ record self.old { content = self.new.content } }
+        ensures no_talk { is_talk self.old.content ≡ false → is_talk self.new.content ≡ false }
         ensures says { SaysNoMore self.old self.new }
     {
         let is_left = self.first_end().is_some() || now.saturating_sub(self.began) >= PATIENCE;

@@ -1,10 +1,11 @@
 //! One connection of TCP, as far as a capture shows it.
 
-ghost use Rattle.std.specs.Prelude.{◌≡◌, ℕ, List, IfNone, IfSome, IsTrue, OnOk, true};
-ghost use Rattle.distping_capture.specs.Endings.{IsFirstEnd, NeitherEnded, WasNeverMade};
-ghost use Rattle.distping_capture.specs.Connections.{EndsOf, Finds, Follows, Gathers, GoesOn, Holds, IsFrom, IsLeft, IsNew, Keeps, KeepsEnds};
-ghost use Rattle.distping_capture.specs.Connections.{ReadsBoth, SameEnds, Sent, Stays, Still, Tells, flow_of};
-ghost use Rattle.distping_capture.specs.Flows.{Brings, IsGone, SameBytes};
+ghost use Rattle.std.specs.Prelude.{◌≡◌, ◌||◌, ℕ, List, IfNone, IfSome, IsTrue, OnOk, true};
+ghost use Rattle.distping_capture.specs.Endings.{IsFirstEnd, NeitherEnded, WasNeverMade, lacks_bytes};
+ghost use Rattle.distping_capture.specs.Connections.{EndsOf, Finds, Follows, Gathers, GoesOn, Holds, IsFrom, IsNew, KeepsEnds};
+ghost use Rattle.distping_capture.specs.Connections.{FindsOut, ReadsBoth, ReadsHandshake, ReadsTalk, Recognizes, SameEnds, Sent, Stays, Still, Tells};
+ghost use Rattle.distping_capture.specs.Connections.{flow_of, is_from_dialler};
+ghost use Rattle.distping_capture.specs.{Flows.Brings, Flows.IsGone, Flows.SameBytes, Recognized.is_over};
 
 use crate::flow::{Flow, FlowEnd};
 use crate::messages::read_messages;
@@ -56,6 +57,8 @@ pub struct CapturedConnection {
     is_made: bool,
     // Whether a side reset it.
     is_reset: bool,
+    // Whether the verdict on it rests on how it ended, and no segment has left that in doubt.
+    rests_on_end: bool,
     // How many bytes the bodies have that were read.
     said: usize,
     from_dialler: Flow,
@@ -64,7 +67,9 @@ pub struct CapturedConnection {
 
 // Who dialled: whoever sends the first segment without an acknowledgement, or does not have the port mapper's port; else whoever is seen
 // first.
-fn is_from_dialler(segment: &Segment, mapper_port: u16) -> bool {
+fn is_from_dialler(segment: &Segment, mapper_port: u16) -> bool
+    ensures { result ≡ is_from_dialler mapper_port segment.now }
+{
     if segment.is_syn {
         !segment.is_ack
     } else {
@@ -83,7 +88,7 @@ pub fn ends_of(segment: &Segment) -> (Endpoint, Endpoint)
 impl CapturedConnection {
     /// The connection of this segment, which was not taken yet.
     pub fn new(segment: &Segment, mapper_port: u16) -> CapturedConnection
-        ensures { IsNew segment.now result }
+        ensures { IsNew mapper_port segment.now result }
     {
         let (dialler, acceptor) = if is_from_dialler(segment, mapper_port) {
             (segment.from, segment.to)
@@ -112,6 +117,7 @@ impl CapturedConnection {
             is_certain: segment.is_syn,
             is_made: false,
             is_reset: false,
+            rests_on_end: false,
             said: 0,
             from_dialler: Flow::new(segment.time),
             from_acceptor: Flow::new(segment.time),
@@ -257,7 +263,9 @@ impl CapturedConnection {
     }
 
     /// Whether the capture lacks bytes of a side.
-    pub fn lacks_bytes(&self, side: Side) -> bool {
+    pub fn lacks_bytes(&self, side: Side) -> bool
+        ensures { result ≡ lacks_bytes side self.now }
+    {
         self.flow(side)
             .lacks_bytes(self.flow(other_side(side)).known_end())
     }
@@ -329,9 +337,20 @@ impl CapturedConnection {
         ensures verdict { self.new.verdict ≡ self.old.verdict }
         ensures reported { self.new.is_reported ≡ self.old.is_reported }
     {
+        self.rests_on_end = self.handshake().is_some_and(|it| it.ending.is_some());
         self.stop_reading();
         self.content = Traffic::Other;
         self.said = 0;
+    }
+
+    /// Takes a segment behind its end. Returns whether that leaves the verdict in doubt, and none did before.
+    pub fn take_late(&mut self, segment: &Segment) -> bool
+        ensures { self.new ≡ record self.old { rests_on_end = self.new.rests_on_end } }
+    {
+        let side = self.side_of(segment);
+        let is_doubted = self.rests_on_end && self.flow(side).is_overrun_by(segment);
+        self.rests_on_end = self.rests_on_end && !is_doubted;
+        is_doubted
     }
 
     // The side that was taken for the one that dialled is the other one.
@@ -349,6 +368,7 @@ impl CapturedConnection {
 
     // Finds out what it carries, if that is not known, and enough was captured for that.
     fn recognize(&mut self, alloc: Global)
+        ensures found_out { FindsOut self.old.content self.old self.new }
         ensures finds { (b : Sent) → Holds self.old b → Finds self.old self.new b }
         ensures ends { KeepsEnds self.old self.new }
         ensures verdict { self.new.verdict ≡ self.old.verdict }
@@ -375,6 +395,7 @@ impl CapturedConnection {
 
     // Reads the messages of its handshake that are whole, if it carries one.
     fn read_handshake(&mut self, alloc: Global, at: u64) -> Result<(), AllocError>
+        ensures handshake { OnOk result (ReadsHandshake self.old.content self.old self.new) }
         ensures reads { OnOk result (ReadsBoth self.old self.new) }
         ensures verdict { self.new.verdict ≡ self.old.verdict }
     {
@@ -390,7 +411,8 @@ impl CapturedConnection {
 
     // Reads what is said to a port mapper, if it is that. Returns whether it answered by that.
     fn read_mapper(&mut self, alloc: Global) -> Result<bool, AllocError>
-        ensures keeps { OnOk result (Keeps self.old self.new) }
+        ensures talk { OnOk result (ReadsTalk self.old.content self.old self.new) }
+        ensures rest { self.new ≡ record self.old { content = self.new.content } }
         ensures verdict { self.new.verdict ≡ self.old.verdict }
     {
         let Traffic::Mapper(talk) = &mut self.content else {
@@ -405,7 +427,7 @@ impl CapturedConnection {
 
     // Whether no more of it is read: a port mapper answered, or it is neither that nor a handshake.
     fn is_left(&self) -> bool
-        ensures { IsTrue result → IsLeft self.now.content }
+        ensures { result ≡ is_over self.now.content }
     {
         match &self.content {
             Traffic::Unknown | Traffic::Handshake(_) => false,
@@ -416,6 +438,7 @@ impl CapturedConnection {
 
     // Reads what the connection carries. Returns whether a port mapper answered.
     fn read(&mut self, alloc: Global, at: u64) -> Result<bool, AllocError>
+        ensures recognizes { OnOk result (Recognizes self.old self.new) }
         ensures goes_on { OnOk result ((b : Sent) → Holds self.old b → GoesOn self.old self.new b) }
         ensures ends { OnOk result (KeepsEnds self.old self.new) }
         ensures verdict { self.new.verdict ≡ self.old.verdict }
@@ -432,6 +455,7 @@ impl CapturedConnection {
     // Notes that the connection is dialled, or was made, if a segment shows it.
     fn note_sign(&mut self, segment: &Segment)
         ensures still { Still self.old self.new }
+        ensures certain { self.new.is_certain ≡ (self.old.is_certain || segment.now.is_syn) }
         ensures verdict { self.new.verdict ≡ self.old.verdict }
     {
         self.latest = segment.time;
@@ -457,6 +481,7 @@ impl CapturedConnection {
     // Notes that a side closed or reset the connection, if a segment says so, and has a number that may.
     fn note_end(&mut self, side: Side, segment: &Segment)
         ensures still { Still self.old self.new }
+        ensures certain { self.new.is_certain ≡ self.old.is_certain }
         ensures verdict { self.new.verdict ≡ self.old.verdict }
     {
         if !segment.is_fin && !segment.is_reset {
@@ -479,6 +504,7 @@ impl CapturedConnection {
     // Takes a segment of this side, and notes what that acknowledges.
     fn gather(&mut self, alloc: Global, side: Side, segment: &Segment) -> Result<(), AllocError>
         ensures gathers { OnOk result (Gathers side self.old segment.now self.new) }
+        ensures certain { self.new.is_certain ≡ self.old.is_certain }
         ensures verdict { self.new.verdict ≡ self.old.verdict }
     {
         match side {

@@ -12,8 +12,9 @@ use crate::left_out::PacketsLeftOut;
 use crate::register::Register;
 use dist_capture::{Endpoint, Segment, SkippedCounts};
 use dist_talk::Terms;
-use distping_report::LineSink;
+use distping_report::{LineSink, ResultSink};
 use distping_words::Fault;
+use std::io::Write;
 
 // The most connections that are remembered: for another one the one is forgotten that ended first, or else the one that was quiet for
 // longest. Our own choice.
@@ -24,8 +25,8 @@ const MOST_KEPT: usize = 32_000_000;
 
 /// Finds what was said, segment by segment, and prints it.
 #[derive(Drop)]
-pub struct Finder<'x> {
-    register: Register<'x>,
+pub struct Finder<'x, W: Write> {
+    register: Register<'x, W>,
     // The port of port mappers.
     mapper_port: u16,
     // Those that are open, and those that ended and were not forgotten: so a late copy of a packet begins none. In the order of their ends.
@@ -36,14 +37,19 @@ pub struct Finder<'x> {
     forgotten: u64,
 }
 
-impl<'x> Finder<'x> {
-    /// A finder that has seen nothing.
-    pub fn new(lines: LineSink<'x>, terms: Terms<'x>, mapper_port: u16) -> Finder<'x>
+impl<'x, W: Write> Finder<'x, W> {
+    /// A finder that has seen nothing. The texts of verdicts go to `results`.
+    pub fn new(
+        lines: LineSink<'x>,
+        terms: Terms<'x>,
+        mapper_port: u16,
+        results: ResultSink<W>,
+    ) -> Finder<'x, W>
         ensures tracks { Tracks terms.entry [] result }
-        ensures fresh { IsFresh terms.entry result }
+        ensures fresh { IsFresh terms.entry mapper_port lines.entry.quiet results result }
     {
         Finder {
-            register: Register::new(lines, terms),
+            register: Register::new(lines, terms, results),
             mapper_port,
             connections: Vec::new(lines.alloc),
             kept: 0,
@@ -82,6 +88,7 @@ impl<'x> Finder<'x> {
 
     // Forgets the connection at this place, and prints what there is to say of it.
     fn give_up(&mut self, place: usize) -> Result<(), Fault>
+        ensures port { self.new.mapper_port ≡ self.old.mapper_port }
         ensures tracking { OnOk result (GoesOnTracking self.old self.new) }
         ensures given_up { OnOk result (self.new.connections.items ≡ remove self.old.connections.items place) }
         ensures ends { OnOk result (IfSome (slice_get self.old.connections.items place) (λ it. Ends it.value self.old.register self.new.register)) }
@@ -96,6 +103,7 @@ impl<'x> Finder<'x> {
 
     // The same to have room for another one.
     fn forget(&mut self, place: usize) -> Result<(), Fault>
+        ensures port { self.new.mapper_port ≡ self.old.mapper_port }
         ensures tracking { OnOk result (GoesOnTracking self.old self.new) }
         ensures forgets { OnOk result (place < length self.old.connections.items → Forgets self.old self.new) }
     {
@@ -109,6 +117,7 @@ impl<'x> Finder<'x> {
 
     // Forgets a connection if there is no room for another one.
     fn make_room(&mut self) -> Result<(), Fault>
+        ensures port { self.new.mapper_port ≡ self.old.mapper_port }
         ensures tracking { OnOk result (GoesOnTracking self.old self.new) }
         ensures room { OnOk result (MakesRoom self.old self.new) }
     {
@@ -127,6 +136,7 @@ impl<'x> Finder<'x> {
 
     // Where the connection of a segment is. If there is none, it is made.
     fn place_for(&mut self, segment: &Segment) -> Result<usize, Fault>
+        ensures port { self.new.mapper_port ≡ self.old.mapper_port }
         ensures tracking { OnOk result (GoesOnTracking self.old self.new) }
         ensures within { IfOk result (λ place. place < length self.new.connections.items) }
         ensures place { IfOk result (λ place. IsPlaceOf segment.now self.new place) }
@@ -148,8 +158,9 @@ impl<'x> Finder<'x> {
 
     // Takes a segment of the connection at this place.
     fn hand_on(&mut self, place: usize, segment: &Segment) -> Result<(), Fault>
+        ensures port { self.new.mapper_port ≡ self.old.mapper_port }
         ensures hands { OnOk result (HandsOn segment.now place self.old self.new) }
-        ensures takes { OnOk result (TakesAt segment.now place self.old self.new) }
+        ensures takes { OnOk result (TakesAt self.old.mapper_port segment.now place self.old self.new) }
         ensures count { OnOk result (length self.new.connections.items ≡ length self.old.connections.items) }
     {
         let Some(connection) = self.connections.get_mut(place) else {
@@ -194,7 +205,7 @@ impl<'x> Finder<'x> {
     /// Returns the exit status: the first that is not 0 of the attempts.
     pub fn finish(&mut self, counts: SkippedCounts, is_cut_off: bool) -> Result<u8, Fault>
         ensures counts { IfOk result (λ status. (t : Terms) (segments : List Segment) → Tracks t segments self.old → CountsTo t segments status) }
-        ensures all { IfOk result (FinishesWith self.old) }
+        ensures all { IfOk result (λ status. FinishesWith self.old status self.new.register.results) }
     {
         self.give_up_all()?;
         self.register.finish(&PacketsLeftOut {
@@ -202,5 +213,12 @@ impl<'x> Finder<'x> {
             forgotten: self.forgotten,
             is_cut_off,
         })
+    }
+
+    /// Gives back where the texts of verdicts went.
+    pub fn into_results(self) -> ResultSink<W>
+        ensures { result ≡ self.entry.register.results }
+    {
+        self.register.results
     }
 }

@@ -1,7 +1,7 @@
 //! What one side of a connection sends, by its sequence numbers (RFC 9293, 3.4: they are compared modulo 2^32).
 
 ghost use Rattle.std.specs.Prelude.{◌≡◌, ℕ, List, OnOk, Some};
-ghost use Rattle.distping_capture.specs.Endings.{awaited_of, end_before, is_ahead, is_known_ahead, is_unread};
+ghost use Rattle.distping_capture.specs.Endings.{awaited_of, end_before, has_no_more, is_ahead, is_known_ahead, is_unread, lacks_by};
 ghost use Rattle.distping_capture.specs.Flows.{Begins, Brings, Delivers, IsGone, IsUnbegun, SameBehind, SameBytes};
 ghost use Rattle.distping_capture.specs.Flows.{bytes_of, gathered, number_of_first, without_first};
 
@@ -68,6 +68,31 @@ fn is_beyond(number: u32, known: Option<u32>) -> bool {
     match known {
         Some(known) => is_ahead(number, known),
         None => true,
+    }
+}
+
+// The same, where it is known.
+fn is_known_ahead(number: Option<u32>, other: u32) -> bool
+    ensures { result ≡ is_known_ahead number (Some other) }
+{
+    match number {
+        Some(number) => is_ahead(number, other),
+        None => false,
+    }
+}
+
+// Whether a side that ended so had received no more than what is there up to this number.
+fn has_no_more(awaited: u32, reader: Option<FlowEnd>) -> bool
+    ensures { result ≡ has_no_more awaited reader }
+{
+    match reader {
+        Some(
+            FlowEnd {
+                received: Some(received),
+                ..
+            },
+        ) => !is_ahead(received, awaited),
+        _ => false,
     }
 }
 
@@ -282,6 +307,14 @@ impl Flow {
         self.window
     }
 
+    /// Whether bytes of this segment show that what is known of this side is not all: they stand behind a gap, or behind its end.
+    pub fn is_overrun_by(&self, segment: &Segment) -> bool {
+        let (first, last) = (first_of(segment), behind(segment));
+        let is_past_gap = self.next().is_some_and(|next| is_ahead(first, next));
+        let is_past_end = self.end.is_some_and(|end| is_ahead(last, end.number));
+        !segment.is_reset && first != last && (is_past_gap || is_past_end)
+    }
+
     fn is_behind_gap(&self, end: FlowEnd) -> bool
         ensures { result ≡ is_known_ahead (Some end.number) (awaited_of self.now) }
     {
@@ -308,31 +341,24 @@ impl Flow {
         }
     }
 
-    // Whether the other side, which ended so, had received no byte of this one that is not in the capture.
-    fn is_whole_for(&self, end: FlowEnd) -> bool {
-        match (self.next(), end.received) {
-            (Some(next), Some(received)) => !is_ahead(received, next),
-            _ => false,
-        }
-    }
-
     /// Whether the capture lacks bytes of this side: the other side received more, or segments stand behind a gap. `reader` is how that
     /// other side ended: if it had not received them either, they are not missing.
-    pub fn lacks_bytes(&self, reader: Option<FlowEnd>) -> bool {
+    pub fn lacks_bytes(&self, reader: Option<FlowEnd>) -> bool
+        ensures { result ≡ lacks_by self.now (awaited_of self.now) reader }
+    {
         let Some(next) = self.next() else {
             return self.acknowledged.is_some();
         };
-        let is_closed = self.known_end().is_some_and(|end| !end.is_reset);
+        let is_closed = matches!(self.known_end(), Some(end) if !end.is_reset);
         let last = next.wrapping_add(u32::from(is_closed));
-        if self
-            .acknowledged
-            .is_some_and(|number| is_ahead(number, last))
-        {
+        if is_known_ahead(self.acknowledged, last) {
             return true;
         }
-        let is_cut = self.has_lost
-            || self.sent.is_some_and(|number| is_ahead(number, last))
-            || self.end.is_some_and(|end| is_ahead(end.number, last));
-        is_cut && !reader.is_some_and(|end| self.is_whole_for(end))
+        let end = match self.end {
+            Some(end) => Some(end.number),
+            None => None,
+        };
+        let is_cut = self.has_lost || is_known_ahead(self.sent, last) || is_known_ahead(end, last);
+        is_cut && !has_no_more(next, reader)
     }
 }

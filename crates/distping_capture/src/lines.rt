@@ -1,7 +1,10 @@
 //! The lines about one connection.
 
-ghost use Rattle.std.specs.Prelude.{◌≡◌, IfOk};
+ghost use Rattle.std.specs.Prelude.{◌≡◌, Bool, IfNone, IfOk, IfSome, OnOk, false, string_bytes};
+ghost use Rattle.dist_talk.specs.Words.{status_of};
 ghost use Rattle.distping_capture.specs.Attempts.{verdict_on};
+ghost use Rattle.distping_capture.specs.Printing.{IsAttemptText, PrintsNoted, PrintsText, attempt_mark};
+ghost use Rattle.distping_report.specs.Texts.{mark_of};
 
 use crate::connection::{CapturedConnection, PATIENCE};
 use crate::dials::PastDial;
@@ -16,9 +19,10 @@ use dist_talk::{
     Handshake, HandshakeVerdict, NodeDescription, SentContent, SentMessage, Terms, other_side,
 };
 use distping_report::LinePiece::{self, Digits, Escaped, Foreign, Host, Name, Number, Text};
-use distping_report::{LineSink, utc_text};
+use distping_report::{LineSink, ResultSink, utc_text};
 use distping_words::Fault;
 use std::alloc::{AllocError, Global};
+use std::io::Write;
 
 // How long a side may take for a message, or from its lookup to its dial, before a line says so, in nanoseconds: half of the time after
 // which a node gives up. Our own choice.
@@ -265,6 +269,22 @@ fn put_strays(lines: LineSink<'_>, connection: &CapturedConnection) -> Result<()
     ])
 }
 
+/// Prints that bytes of a side came behind the end on which the verdict rests.
+pub fn put_doubt(
+    lines: LineSink<'_>,
+    connection: &CapturedConnection,
+    side: Side,
+) -> Result<(), Fault> {
+    put_heading(lines, connection)?;
+    lines.put(&[
+        Text("!  doubt     bytes of "),
+        Text(side_word(side)),
+        Text(
+            " came behind the end of this connection: others before them are missing, or that end was not its own",
+        ),
+    ])
+}
+
 // Which side a verdict is about, as the other one sees it. `None` of one that is about both, or about none.
 fn subject_of(verdict: HandshakeVerdict) -> Option<Side> {
     match verdict {
@@ -294,27 +314,49 @@ fn subject_text(side: Side) -> &'static str {
     }
 }
 
-/// Prints a verdict: one line where nothing can be done, or nothing was concluded.
-pub fn put_verdict(
+// The mark before a verdict that has no remedy: nothing can be done, or nothing was concluded.
+fn short_mark(verdict: HandshakeVerdict, has_cookie: bool) -> Option<&'static str>
+    ensures some { IfSome result (λ mark. mark.now ≡ attempt_mark false verdict) }
+    ensures none { IfNone result ((has_colors : Bool) → attempt_mark has_colors verdict ≡ mark_of has_colors (status_of verdict)) }
+{
+    match verdict {
+        HandshakeVerdict::Up => Some("✓"),
+        HandshakeVerdict::Finished if has_cookie => Some("✓"),
+        HandshakeVerdict::Dynamic | HandshakeVerdict::Unfinished => Some(" "),
+        _ => None,
+    }
+}
+
+// The text of a verdict: one line where nothing can be done, or nothing was concluded.
+fn attempt_text(
     lines: LineSink<'_>,
     verdict: HandshakeVerdict,
     has_cookie: bool,
-) -> Result<(), Fault> {
+) -> Result<String, AllocError>
+    ensures { IfOk result (λ text. IsAttemptText verdict (string_bytes text)) }
+{
+    let Some(mark) = short_mark(verdict, has_cookie) else {
+        return lines.verdict_text(verdict);
+    };
+    let (name, cause) = (verdict.name(), verdict.cause());
+    format!(in lines.alloc; "{mark}  {name}: {cause}\n")
+}
+
+/// Prints a verdict: its text goes to `out`, and before it which side it is about, and its details.
+pub fn print_verdict<W: Write>(
+    lines: LineSink<'_>,
+    verdict: HandshakeVerdict,
+    has_cookie: bool,
+    out: &mut ResultSink<W>,
+) -> Result<(), Fault>
+    ensures { OnOk result (PrintsText verdict out.old out.new) }
+{
     if let Some(side) = subject_of(verdict) {
         lines.put(&[Text(subject_text(side))])?;
     }
-    let mark = match verdict {
-        HandshakeVerdict::Up => "✓  ",
-        HandshakeVerdict::Finished if has_cookie => "✓  ",
-        HandshakeVerdict::Dynamic | HandshakeVerdict::Unfinished => "   ",
-        _ => return lines.put_verdict(verdict),
-    };
-    lines.put(&[
-        Text(mark),
-        Text(verdict.name()),
-        Text(": "),
-        Text(verdict.cause()),
-    ])
+    lines.put_details(verdict)?;
+    let text = attempt_text(lines, verdict, has_cookie)?;
+    out.print(&text)
 }
 
 // Whether the accepting side is known to have refused the reply.
@@ -337,25 +379,32 @@ pub fn cookie_sentence(
     Some(check.sentence())
 }
 
-/// Prints what was said on a connection, and what that came to, which it returns.
-pub fn put_attempt(
-    lines: LineSink<'_>,
-    connection: &CapturedConnection,
-    terms: &Terms<'_>,
-) -> Result<HandshakeVerdict, Fault>
-    ensures { IfOk result (λ verdict. verdict ≡ verdict_on terms.now connection.now.is_at_mapper connection.now.content) }
-{
-    let verdict = connection.verdict_by(terms);
-    if lines.quiet {
-        return Ok(verdict);
-    }
+// Prints what was said on a connection.
+fn put_said(lines: LineSink<'_>, connection: &CapturedConnection) -> Result<(), Fault> {
     put_heading(lines, connection)?;
     if let Traffic::Handshake(handshake) = &connection.content {
         put_messages(lines, connection.began, handshake)?;
         put_missing(lines, connection, handshake)?;
     }
-    put_strays(lines, connection)?;
-    put_verdict(lines, verdict, terms.cookie.is_ok())?;
+    put_strays(lines, connection)
+}
+
+/// Prints what was said on a connection, and what that came to, which it returns. The text of the verdict goes to `out`.
+pub fn put_attempt<W: Write>(
+    lines: LineSink<'_>,
+    connection: &CapturedConnection,
+    terms: &Terms<'_>,
+    out: &mut ResultSink<W>,
+) -> Result<HandshakeVerdict, Fault>
+    ensures verdict { IfOk result (λ verdict. verdict ≡ verdict_on terms.now connection.now.is_at_mapper connection.now.content) }
+    ensures prints { IfOk result (λ verdict. PrintsNoted lines.entry.quiet false verdict out.old out.new) }
+{
+    let verdict = connection.verdict_by(terms);
+    if lines.quiet {
+        return Ok(verdict);
+    }
+    put_said(lines, connection)?;
+    print_verdict(lines, verdict, terms.cookie.is_ok(), out)?;
     if let Some(sentence) = cookie_sentence(connection, terms, verdict) {
         lines.put(&[Text("   cookie    "), Text(sentence)])?;
     }

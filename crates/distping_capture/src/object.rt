@@ -1,12 +1,15 @@
 //! The objects of `--json` for a connection of the distribution, and for a pair of nodes.
 
-ghost use Rattle.std.specs.Prelude.{◌≡◌, IfOk, codes, string_bytes};
-ghost use Rattle.distping_capture.specs.{Attempts.verdict_on, Objects.ShowsVerdict};
+ghost use Rattle.std.specs.Prelude.{◌≡◌, IfOk, codes, option_map, string_bytes};
+ghost use Rattle.dist_talk.specs.Words.{verdict_word};
+ghost use Rattle.distping_capture.specs.Objects.{ShowsVerdict, capture_layout};
+ghost use Rattle.distping_report.specs.Objects.{IsObjectLine, number_or_null, shape_of, text_or_null};
 
 use crate::connection::CapturedConnection;
 use crate::dials::PastDial;
 use crate::left_out::PacketsLeftOut;
 use crate::lines::cookie_sentence;
+use crate::traffic::Traffic;
 use dist_epmd::Request;
 use dist_messages::Side;
 use dist_talk::{HandshakeVerdict, NodeDescription, Terms};
@@ -59,17 +62,16 @@ fn side_of(connection: &CapturedConnection, side: Side) -> Option<NodeDescriptio
     }
 }
 
-/// The object of a connection, as one line: what it came to by these terms. If its end is not in the capture, it lasts until now.
+/// The object of a connection, as one line: the verdict that it came to. If its end is not in the capture, it lasts until now.
 pub fn attempt_object(
     alloc: Global,
     connection: &CapturedConnection,
+    verdict: HandshakeVerdict,
     terms: &Terms<'_>,
     now: u64,
 ) -> Result<String, AllocError>
-    ensures { IfOk result (λ line. ShowsVerdict (codes "handshake")
-        (verdict_on terms.now connection.now.is_at_mapper connection.now.content) (string_bytes line)) }
+    ensures { IfOk result (λ line. ShowsVerdict (codes "handshake") verdict (string_bytes line)) }
 {
-    let verdict = connection.verdict_by(terms);
     let [dialler, dialler_creation, dialler_flags] = side_values(side_of(
         connection,
         Side::Dialler,
@@ -104,6 +106,14 @@ pub fn attempt_object(
     object_line(alloc, &members)
 }
 
+// What a port mapper was asked on a connection, if it was.
+fn request_of(connection: &CapturedConnection) -> Option<&Request> {
+    match &connection.content {
+        Traffic::Mapper(talk) => talk.request.as_ref(),
+        _ => None,
+    }
+}
+
 // What a port mapper was asked, and for which name.
 fn request_values(request: Option<&Request>) -> [Value<'_>; 2] {
     match request {
@@ -123,14 +133,11 @@ fn request_values(request: Option<&Request>) -> [Value<'_>; 2] {
 pub fn mapper_object(
     alloc: Global,
     connection: &CapturedConnection,
-    request: Option<&Request>,
-    terms: &Terms<'_>,
+    verdict: HandshakeVerdict,
 ) -> Result<String, AllocError>
-    ensures { IfOk result (λ line. ShowsVerdict (codes "mapper")
-        (verdict_on terms.now connection.now.is_at_mapper connection.now.content) (string_bytes line)) }
+    ensures { IfOk result (λ line. ShowsVerdict (codes "mapper") verdict (string_bytes line)) }
 {
-    let verdict = connection.verdict_by(terms);
-    let [asked, name] = request_values(request);
+    let [asked, name] = request_values(request_of(connection));
     let (from, to) = (connection.dialler, connection.acceptor);
     let members = [
         ("type", Value::Text("mapper")),
@@ -166,27 +173,41 @@ pub fn pair_object(alloc: Global, pair: &PastDial) -> Result<String, AllocError>
     )
 }
 
+// The type of a link, or null.
+fn link_value(link: Option<u32>) -> Value<'static>
+    ensures { shape_of result ≡ number_or_null link }
+{
+    match link {
+        Some(link) => Value::Number(u64::from(link)),
+        None => Value::Null,
+    }
+}
+
+// The word of a verdict, or null.
+fn verdict_value(verdict: Option<HandshakeVerdict>) -> Value<'static>
+    ensures { shape_of result ≡ text_or_null (option_map verdict_word verdict) }
+{
+    match verdict {
+        Some(verdict) => Value::Text(verdict.name()),
+        None => Value::Null,
+    }
+}
+
 /// The object of what was left out of a capture, as one line, with the verdict if nothing was found, and the exit status.
 pub fn capture_object(
     alloc: Global,
     left_out: &PacketsLeftOut,
     verdict: Option<HandshakeVerdict>,
     status: u8,
-) -> Result<String, AllocError> {
+) -> Result<String, AllocError>
+    ensures { IfOk result (λ line. IsObjectLine (capture_layout left_out.now verdict status) (string_bytes line)) }
+{
     let counts = left_out.counts;
-    let link = match counts.unknown_type {
-        Some(link) => Value::Number(u64::from(link)),
-        None => Value::Null,
-    };
-    let verdict = match verdict {
-        Some(verdict) => Value::Text(verdict.name()),
-        None => Value::Null,
-    };
     let members = [
         ("type", Value::Text("capture")),
         ("form", Value::Number(1)),
         ("unknown_link", Value::Number(counts.unknown_link)),
-        ("unknown_type", link),
+        ("unknown_type", link_value(counts.unknown_type)),
         ("cut_short", Value::Number(counts.cut_short)),
         ("vxlan", Value::Number(counts.vxlan)),
         ("gre", Value::Number(counts.gre)),
@@ -197,7 +218,7 @@ pub fn capture_object(
         ("other_protocol", Value::Number(counts.other_protocol)),
         ("forgotten", Value::Number(left_out.forgotten)),
         ("cut_off", Value::Bool(left_out.is_cut_off)),
-        ("verdict", verdict),
+        ("verdict", verdict_value(verdict)),
         ("exit", Value::Number(u64::from(status))),
     ];
     object_line(alloc, &members)

@@ -8,16 +8,16 @@ use crate::finder::Finder;
 use dist_capture::{Capture, CaptureFault};
 use dist_secret::Cookie;
 use dist_talk::{NoCookie, Terms, Viewpoint};
-use distping_report::LineSink;
+use distping_report::{LineSink, ResultSink};
 use distping_words::{Choices, Fault};
 use std::fs::{self, File};
-use std::io::{ErrorKind, Read};
+use std::io::{ErrorKind, Read, Write};
 
 // The most bytes that are read at once. Our own choice.
 const PIECE: usize = 65_536;
 
 // Takes the segments that are whole in what was read.
-fn take_segments(capture: &mut Capture, finder: &mut Finder<'_>) -> Result<(), Fault>
+fn take_segments<W: Write>(capture: &mut Capture, finder: &mut Finder<'_, W>) -> Result<(), Fault>
     ensures taken { OnOk result (TakesIn capture.old finder.old capture.new finder.new) }
     ensures no_more { OnOk result (whole capture.new ≡ Ok None) }
 {
@@ -33,10 +33,10 @@ fn take_segments(capture: &mut Capture, finder: &mut Finder<'_>) -> Result<(), F
 }
 
 // Takes all segments of a capture, each as soon as it is read.
-fn take_all<F: Read + Drop>(
+fn take_all<F: Read + Drop, W: Write>(
     file: F,
     capture: &mut Capture,
-    finder: &mut Finder<'_>,
+    finder: &mut Finder<'_, W>,
 ) -> Result<(), Fault>
     ensures all { OnOk result ((bytes : List ℕ) × AreAll (F.remaining file) bytes
         × ReadsIn bytes capture.old finder.old capture.new finder.new) }
@@ -59,19 +59,25 @@ fn take_all<F: Read + Drop>(
     Err(Fault::CaptureUnread)
 }
 
-// Reads a capture whole, prints what it shows, and returns the exit status: the first that is not 0 of the attempts.
-fn read_whole<F: Read + Drop>(
+// Reads a capture whole, prints what it shows, and returns the exit status: the first that is not 0 of the attempts. The texts of verdicts
+// go to `out`, which is returned too.
+fn read_whole<F: Read + Drop, W: Write + Drop>(
     lines: LineSink<'_>,
     terms: Terms<'_>,
     mapper_port: u16,
     file: F,
-) -> Result<u8, Fault>
-    ensures { IfOk result (λ status. (bytes : List ℕ) × AreAll (F.remaining file) bytes × EndsWith terms.entry bytes status) }
+    out: ResultSink<W>,
+) -> Result<(u8, ResultSink<W>), Fault>
+    ensures { IfOk result (λ it. (bytes : List ℕ) × AreAll (F.remaining file) bytes
+        × EndsWith W terms.entry mapper_port lines.entry.quiet bytes out it.1 it.0) }
 {
-    let mut finder = Finder::new(lines, terms, mapper_port);
+    let mut finder = Finder::new(lines, terms, mapper_port, out);
     let mut capture = Capture::new(lines.alloc);
     match take_all(file, &mut capture, &mut finder) {
-        Ok(()) => finder.finish(capture.counts(), capture.is_cut_off()),
+        Ok(()) => {
+            let status = finder.finish(capture.counts(), capture.is_cut_off())?;
+            Ok((status, finder.into_results()))
+        }
         Err(fault) => {
             finder.give_up_all()?;
             Err(fault)
@@ -94,14 +100,16 @@ fn open_stored(rt: &HostRuntime, path: &str) -> Result<File, Fault> {
 }
 
 /// Reads the capture at this path (`-` is standard input), prints what it shows, and returns the exit status: the first that is not 0 of
-/// the attempts.
-pub fn read_capture(
+/// the attempts. The texts of verdicts, or their objects, go to `out`, which is returned too.
+pub fn read_capture<W: Write + Drop>(
     rt: &HostRuntime,
     path: &str,
     choices: &Choices<'_>,
     cookie: Option<&Cookie>,
-) -> Result<u8, Fault>
-    ensures { IfOk result (λ status. (bytes : List ℕ) × EndsWith (terms_of cookie.entry) bytes status) }
+    out: ResultSink<W>,
+) -> Result<(u8, ResultSink<W>), Fault>
+    ensures { IfOk result (λ it. (bytes : List ℕ)
+        × EndsWith W (terms_of cookie.entry) choices.now.mapper_port choices.now.json bytes out it.1 it.0) }
 {
     let lines = LineSink::on_screen(rt, choices.json);
     let terms = Terms {
@@ -110,8 +118,9 @@ pub fn read_capture(
         cookie: cookie.ok_or(NoCookie::Missing),
     };
     if path == "-" {
-        read_whole(lines, terms, choices.mapper_port, rt.stdin())
+        read_whole(lines, terms, choices.mapper_port, rt.stdin(), out)
     } else {
-        read_whole(lines, terms, choices.mapper_port, open_stored(rt, path)?)
+        let file = open_stored(rt, path)?;
+        read_whole(lines, terms, choices.mapper_port, file, out)
     }
 }

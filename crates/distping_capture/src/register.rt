@@ -6,14 +6,17 @@ ghost use Rattle.distping_capture.specs.Connections.{IsAttempt, IsDue, Judges, S
 ghost use Rattle.dist_capture.specs.declared.segment.Segment.{Segment};
 ghost use Rattle.distping_capture.specs.{Attempts.verdict_on, declared.dials.PastDial.PastDial};
 ghost use Rattle.dist_talk.specs.{Words.status_of, declared.terms.Terms.Terms};
-ghost use Rattle.distping_capture.specs.Exits.{Adds, Counts, Ends, GoesOnCounting, GoesOnWatching, Notes, NotesOnce, SameAttempts, StandsFor};
-ghost use Rattle.distping_capture.specs.Exits.{NotesBy, Renews, Takes, TakesOn, TakesYet, exit_now, exit_of, first_exit};
+ghost use Rattle.distping_capture.specs.Exits.{Adds, AddsOf, Closes, ClosesAs, Counts, CountsBy, Ends, GoesOnCounting, GoesOnOpen, GoesOnWatching, IsOfTalk};
+ghost use Rattle.distping_capture.specs.Exits.{Notes, NotesBy, NotesOnce, Renews, SameAttempts, StandsFor, TakesOn, TakesOpen, TakesYet};
+ghost use Rattle.distping_capture.specs.Exits.{exit_now, exit_of, first_exit};
+ghost use Rattle.distping_capture.specs.Printing.{PrintsEnd, PrintsNoted, PrintsOutcome, capture_verdict, is_talk};
 
 use crate::connection::CapturedConnection;
 use crate::dials::{PastDial, add, by_pairs};
 use crate::left_out::PacketsLeftOut;
 use crate::lines::{
-    put_answer, put_attempt, put_end, put_heading, put_mapper_end, put_pair, put_verdict,
+    print_verdict, put_answer, put_attempt, put_doubt, put_end, put_heading, put_mapper_end,
+    put_pair,
 };
 use crate::nodes::NodesSeen;
 use crate::object::{attempt_object, capture_object, mapper_object, pair_object};
@@ -24,9 +27,10 @@ use dist_messages::Side;
 use dist_names::ByteString;
 use dist_talk::{Handshake, HandshakeVerdict, Terms, Unreached};
 use distping_report::LinePiece::Text;
-use distping_report::LineSink;
+use distping_report::{LineSink, ResultSink};
 use distping_words::Fault;
 use std::alloc::AllocError;
+use std::io::Write;
 use std::mem;
 use std::net::IpAddr;
 
@@ -42,9 +46,11 @@ const STOPPED: &str =
 
 /// Prints, and remembers.
 #[derive(Drop)]
-pub struct Register<'x> {
+pub struct Register<'x, W: Write> {
     /// Where lines are printed; if they are left out, objects are.
     pub lines: LineSink<'x>,
+    /// Where the texts of verdicts are printed, or their objects.
+    pub results: ResultSink<W>,
     // What handshakes are judged by.
     terms: Terms<'x>,
     // The time of the latest segment.
@@ -74,16 +80,59 @@ fn first_exit(dials: &[PastDial]) -> u8
     }
 }
 
-impl<'x> Register<'x> {
+// What a connection carries is a talk with a port mapper.
+fn is_talk(content: &Traffic) -> bool
+    ensures { result ≡ is_talk content.now }
+{
+    matches!(content, Traffic::Mapper(_))
+}
+
+// The verdict on a capture in which nothing was found.
+fn capture_verdict(has_found: bool) -> Option<HandshakeVerdict>
+    ensures { result ≡ capture_verdict has_found }
+{
+    if has_found {
+        None
+    } else {
+        Some(HandshakeVerdict::NothingFound)
+    }
+}
+
+// Counts these attempts.
+fn count_all(counted: &mut Vec<PastDial>, dials: Vec<PastDial>) -> Result<(), AllocError> {
+    for dial in dials {
+        if dial.is_dial {
+            add(counted, dial)?;
+        }
+    }
+    Ok(())
+}
+
+// Prints the summary: a line for each pair and each word, or an object.
+fn put_pairs(lines: LineSink<'_>, counted: Vec<PastDial>, nodes: &NodesSeen) -> Result<(), Fault> {
+    let pairs = by_pairs(lines.alloc, counted, nodes)?;
+    for pair in &pairs {
+        let is_doubted = pair.is_refused() && pairs.iter().any(|it| it.came_up_as(pair));
+        put_pair(lines, pair, is_doubted)?;
+        if lines.quiet {
+            lines.write_made(pair_object(lines.alloc, pair))?;
+        }
+    }
+    Ok(())
+}
+
+impl<'x, W: Write> Register<'x, W> {
     /// Nothing is remembered.
-    pub fn new(lines: LineSink<'x>, terms: Terms<'x>) -> Register<'x>
+    pub fn new(lines: LineSink<'x>, terms: Terms<'x>, results: ResultSink<W>) -> Register<'x, W>
         ensures counts { (segments : List Segment) → Counts terms.entry segments result }
         ensures terms { result.terms ≡ terms.entry }
+        ensures prints { (result.lines.quiet ≡ lines.entry.quiet) × (result.results ≡ results) }
         ensures none { (result.dials.items ≡ []) × (result.status ≡ 0) × (result.has_found ≡ false) }
     {
         let alloc = lines.alloc;
         Register {
             lines,
+            results,
             terms,
             time: 0,
             nodes: NodesSeen::new(alloc),
@@ -115,6 +164,7 @@ impl<'x> Register<'x> {
     // Counts the oldest attempt, if there are more than are remembered.
     fn settle_oldest(&mut self) -> Result<(), AllocError>
         ensures terms { OnOk result (self.new.terms ≡ self.old.terms) }
+        ensures prints { OnOk result ((self.new.lines ≡ self.old.lines) × (self.new.results ≡ self.old.results)) }
         ensures stands { OnOk result ((attempts : List PastDial) → StandsFor self.old attempts → StandsFor self.new attempts) }
     {
         if self.dials.len() <= MOST_DIALS {
@@ -127,6 +177,7 @@ impl<'x> Register<'x> {
     // Remembers an attempt behind those that are remembered.
     fn push_dial(&mut self, dial: PastDial) -> Result<(), AllocError>
         ensures terms { OnOk result (self.new.terms ≡ self.old.terms) }
+        ensures prints { OnOk result ((self.new.lines ≡ self.old.lines) × (self.new.results ≡ self.old.results)) }
         ensures stands { OnOk result ((earlier : List PastDial) → self.old.status ≡ first_exit earlier
             → StandsFor self.new (earlier ++ (self.old.dials.items ++ dial ∷ []))) }
     {
@@ -145,7 +196,8 @@ impl<'x> Register<'x> {
 
     // Remembers an attempt, and prints what it shows together with earlier ones.
     fn add_attempt(&mut self, dial: PastDial) -> Result<(), Fault>
-        ensures { OnOk result (Adds dial self.old self.new) }
+        ensures adds { OnOk result (Adds dial self.old self.new) }
+        ensures prints { OnOk result (self.new.results ≡ self.old.results) }
     {
         let mut dial = dial;
         dial.meet_all(self.lines, &mut self.dials)?;
@@ -185,7 +237,8 @@ impl<'x> Register<'x> {
         connection: &CapturedConnection,
         verdict: HandshakeVerdict,
     ) -> Result<(), Fault>
-        ensures { OnOk result (Notes connection.now verdict self.old self.new) }
+        ensures adds { OnOk result (AddsOf connection.now verdict self.old self.new) }
+        ensures prints { OnOk result (self.new.results ≡ self.old.results) }
     {
         let lines = self.lines;
         self.nodes.note_sides(lines, connection)?;
@@ -200,12 +253,13 @@ impl<'x> Register<'x> {
     // Prints an attempt that came up, or whose connection ended, and remembers it.
     fn put_attempt(&mut self, connection: &mut CapturedConnection) -> Result<(), Fault>
         ensures connection { SameConnection connection.old connection.new }
+        ensures talk { OnOk result (is_talk connection.new.content ≡ is_talk connection.old.content) }
         ensures judges { OnOk result (Judges self.old.terms connection.old connection.new
-            × Notes connection.old (verdict_on self.old.terms connection.new.is_at_mapper connection.new.content) self.old self.new) }
+            × Notes false connection.old (verdict_on self.old.terms connection.new.is_at_mapper connection.new.content) self.old self.new) }
     {
         connection.conclude(&self.terms, self.time);
         connection.stop_reading();
-        let verdict = put_attempt(self.lines, connection, &self.terms)?;
+        let verdict = put_attempt(self.lines, connection, &self.terms, &mut self.results)?;
         connection.verdict = Some(verdict);
         connection.strays = 0;
         self.note_attempt(connection, verdict)
@@ -214,9 +268,10 @@ impl<'x> Register<'x> {
     // The same, unless it was printed.
     fn put_attempt_once(&mut self, connection: &mut CapturedConnection) -> Result<(), Fault>
         ensures connection { SameConnection connection.old connection.new }
+        ensures talk { OnOk result (is_talk connection.new.content ≡ is_talk connection.old.content) }
         ensures verdict { OnOk result (IsSome connection.new.verdict) }
         ensures judges { OnOk result (connection.old.verdict ≡ None → Judges self.old.terms connection.old connection.new) }
-        ensures once { OnOk result (NotesOnce connection.old connection.new self.old self.new) }
+        ensures once { OnOk result (NotesOnce false connection.old connection.new self.old self.new) }
     {
         if connection.verdict.is_some() {
             return Ok(());
@@ -224,17 +279,13 @@ impl<'x> Register<'x> {
         self.put_attempt(connection)
     }
 
-    // Prints how a connection ended, if it came up; and the object of it.
+    // Prints how a connection ended, if it came up.
     fn put_attempt_end(&mut self, connection: &CapturedConnection) -> Result<(), Fault>
         ensures { OnOk result (SameAttempts self.old self.new) }
     {
         if let Some(up_at) = connection.up_since() {
             put_end(self.lines, connection, up_at, self.time)?;
             self.nodes.note_end(self.lines, connection)?;
-        }
-        if self.lines.quiet {
-            let object = attempt_object(self.lines.alloc, connection, &self.terms, self.time);
-            self.lines.write_made(object)?;
         }
         Ok(())
     }
@@ -243,7 +294,7 @@ impl<'x> Register<'x> {
     fn end_attempt(&mut self, connection: &mut CapturedConnection) -> Result<(), Fault>
         ensures connection { SameConnection connection.old connection.new }
         ensures judges { OnOk result (connection.old.verdict ≡ None → Judges self.old.terms connection.old connection.new) }
-        ensures once { OnOk result (NotesOnce connection.old connection.new self.old self.new) }
+        ensures once { OnOk result (NotesOnce false connection.old connection.new self.old self.new) }
     {
         self.put_attempt_once(connection)?;
         self.put_attempt_end(connection)
@@ -251,25 +302,24 @@ impl<'x> Register<'x> {
 
     // Prints the verdict on what a port mapper answered, or did not.
     fn put_mapper_verdict(
-        &self,
+        &mut self,
         connection: &CapturedConnection,
         verdict: HandshakeVerdict,
-    ) -> Result<(), Fault> {
-        let Traffic::Mapper(talk) = &connection.content else {
-            return Ok(());
-        };
+    ) -> Result<(), Fault>
+        ensures rest { OnOk result (self.new ≡ record self.old { results = self.new.results }) }
+        ensures prints { OnOk result (PrintsNoted self.old.lines.quiet true verdict self.old.results self.new.results) }
+    {
         if !self.lines.quiet {
-            return put_verdict(self.lines, verdict, true);
+            return print_verdict(self.lines, verdict, true, &mut self.results);
         }
-        let request = talk.request.as_ref();
-        let object = mapper_object(self.lines.alloc, connection, request, &self.terms);
-        self.lines.write_made(object)
+        let object = mapper_object(self.lines.alloc, connection, verdict)?;
+        self.results.print(&object)
     }
 
     // Judges what a port mapper answered, or did not, if anything is wrong with it and it was not judged: prints that, and remembers it.
     fn judge_mapper(&mut self, connection: &mut CapturedConnection) -> Result<(), Fault>
         ensures connection { connection.new ≡ record connection.old { verdict = connection.new.verdict } }
-        ensures once { OnOk result (NotesOnce connection.old connection.new self.old self.new) }
+        ensures once { OnOk result (NotesOnce true connection.old connection.new self.old self.new) }
     {
         if connection.verdict.is_some() || !connection.has_mapper_fault() {
             return Ok(());
@@ -307,8 +357,11 @@ impl<'x> Register<'x> {
     // Prints what a port mapper answered, and the verdict on it.
     fn take_answer(&mut self, connection: &mut CapturedConnection) -> Result<(), Fault>
         ensures connection { connection.new ≡ record connection.old { verdict = connection.new.verdict } }
-        ensures once { OnOk result (NotesOnce connection.old connection.new self.old self.new) }
+        ensures once { OnOk result (NotesOnce (is_talk connection.old.content) connection.old connection.new self.old self.new) }
     {
+        if !is_talk(&connection.content) {
+            return Ok(());
+        }
         self.put_found(connection)?;
         self.judge_mapper(connection)
     }
@@ -341,7 +394,7 @@ impl<'x> Register<'x> {
     // Prints what there is to say of a conversation with a port mapper at its end.
     fn end_mapper(&mut self, connection: &mut CapturedConnection) -> Result<(), Fault>
         ensures connection { SameConnection connection.old connection.new }
-        ensures once { OnOk result (NotesOnce connection.old connection.new self.old self.new) }
+        ensures once { OnOk result (NotesOnce true connection.old connection.new self.old self.new) }
     {
         connection.conclude_mapper(self.time);
         self.put_talk_end(connection)?;
@@ -365,6 +418,7 @@ impl<'x> Register<'x> {
     // node listens, or that what was said to a node is missing.
     fn conclude_content(&self, connection: &mut CapturedConnection)
         ensures connection { connection.new ≡ record connection.old { content = connection.new.content } }
+        ensures talk { IsOfTalk connection.old (is_talk connection.new.content) }
         ensures says { SaysNoMore connection.old connection.new }
         ensures attempt { IsAttempt connection.old.content → IsAttempt connection.new.content × Stays connection.old connection.new }
     {
@@ -395,19 +449,49 @@ impl<'x> Register<'x> {
         )])
     }
 
+    // Prints what there is to say of a connection at its end that is no talk with a port mapper.
+    fn end_other(&mut self, connection: &mut CapturedConnection) -> Result<(), Fault>
+        ensures connection { SameConnection connection.old connection.new }
+        ensures judges { OnOk result (IsAttempt connection.old.content → connection.old.verdict ≡ None
+            → Judges self.old.terms connection.old connection.new) }
+        ensures once { OnOk result (NotesOnce false connection.old connection.new self.old self.new) }
+    {
+        match &connection.content {
+            Traffic::Handshake(_) | Traffic::Unreached(_) => self.end_attempt(connection),
+            Traffic::Tls => self.put_tls(connection),
+            Traffic::Mapper(_) | Traffic::Unknown | Traffic::Other => Ok(()),
+        }
+    }
+
+    // Prints the object of an attempt, if it has a verdict.
+    fn put_object(&mut self, connection: &CapturedConnection) -> Result<(), Fault>
+        ensures rest { OnOk result (self.new ≡ record self.old { results = self.new.results }) }
+        ensures prints { OnOk result (PrintsEnd false self.old.lines.quiet connection.now.verdict self.old.results self.new.results) }
+    {
+        if !self.lines.quiet {
+            return Ok(());
+        }
+        let Some(verdict) = connection.verdict else {
+            return Ok(());
+        };
+        let alloc = self.lines.alloc;
+        let object = attempt_object(alloc, connection, verdict, &self.terms, self.time)?;
+        self.results.print(&object)
+    }
+
     // Prints what there is to say of what a connection carries, at its end.
     fn end_content(&mut self, connection: &mut CapturedConnection) -> Result<(), Fault>
         ensures connection { SameConnection connection.old connection.new }
         ensures judges { OnOk result (IsAttempt connection.old.content → connection.old.verdict ≡ None
             → Judges self.old.terms connection.old connection.new) }
-        ensures once { OnOk result (NotesOnce connection.old connection.new self.old self.new) }
+        ensures counting { OnOk result (CountsBy connection.old self.old self.new) }
+        ensures closes { OnOk result (ClosesAs (is_talk connection.old.content) connection.old connection.new self.old self.new) }
     {
-        match &connection.content {
-            Traffic::Handshake(_) | Traffic::Unreached(_) => self.end_attempt(connection),
-            Traffic::Mapper(_) => self.end_mapper(connection),
-            Traffic::Tls => self.put_tls(connection),
-            Traffic::Unknown | Traffic::Other => Ok(()),
+        if is_talk(&connection.content) {
+            return self.end_mapper(connection);
         }
+        self.end_other(connection)?;
+        self.put_object(connection)
     }
 
     /// Prints what there is to say of a connection at its end, once. What was said on it is then forgotten.
@@ -415,7 +499,8 @@ impl<'x> Register<'x> {
         ensures reported { OnOk result (connection.new.is_reported ≡ true) }
         ensures ends { OnOk result (SameEnds connection.old connection.new) }
         ensures ended { OnOk result (Ends connection.old self.old self.new) }
-        ensures noted { OnOk result (NotesBy connection.old connection.old.verdict connection.new.verdict self.old self.new) }
+        ensures closes { OnOk result (((connection.old.is_reported ≡ true) × (connection.new ≡ connection.old) × SameAttempts self.old self.new)
+            ⊎ ((connection.old.is_reported ≡ false) × Closes connection.old connection.new self.old self.new)) }
         ensures judged { OnOk result (IsDue connection.old → IsSome connection.new.verdict) }
         ensures watching { OnOk result (GoesOnWatching self.old connection.old self.new connection.new) }
     {
@@ -444,7 +529,7 @@ impl<'x> Register<'x> {
         segment: &Segment,
         mapper_port: u16,
     ) -> Result<(), Fault>
-        ensures begins { OnOk result (Renews segment.now connection.old connection.new self.old self.new) }
+        ensures begins { OnOk result (Renews mapper_port segment.now connection.old connection.new self.old self.new) }
         ensures watching { OnOk result (GoesOnWatching self.old connection.old self.new connection.new) }
     {
         if !connection.is_before(segment) {
@@ -477,7 +562,7 @@ impl<'x> Register<'x> {
 
     // Reads a segment of a connection, and prints what a port mapper answered by it.
     fn read(&mut self, connection: &mut CapturedConnection, segment: &Segment) -> Result<(), Fault>
-        ensures takes { OnOk result (Takes segment.now connection.old connection.new self.old self.new) }
+        ensures takes { OnOk result (TakesOpen segment.now connection.old connection.new self.old self.new) }
         ensures watching { OnOk result (TakesOn segment.now self.old connection.old self.new connection.new) }
     {
         if connection.take(self.lines.alloc, segment)? {
@@ -488,15 +573,24 @@ impl<'x> Register<'x> {
 
     // Prints an attempt that came up.
     fn put_settled(&mut self, connection: &mut CapturedConnection) -> Result<(), Fault>
-        ensures stays { OnOk result ((connection.new ≡ connection.old) ⊎ IsSome connection.new.verdict) }
+        ensures open_yet { OnOk result (GoesOnOpen connection.old connection.new self.old self.new) }
         ensures ends { OnOk result (SameEnds connection.old connection.new) }
-        ensures noted { OnOk result (NotesBy connection.old connection.old.verdict connection.new.verdict self.old self.new) }
         ensures watching { OnOk result (GoesOnWatching self.old connection.old self.new connection.new) }
     {
-        if connection.is_settled() {
-            return self.put_attempt_once(connection);
+        match &connection.content {
+            Traffic::Handshake(_) if connection.is_settled() => self.put_attempt_once(connection),
+            _ => Ok(()),
         }
-        Ok(())
+    }
+
+    // Takes a segment of a connection that ended, and prints if it leaves the verdict in doubt.
+    fn take_late(&self, connection: &mut CapturedConnection, segment: &Segment) -> Result<(), Fault>
+        ensures { connection.new ≡ record connection.old { rests_on_end = connection.new.rests_on_end } }
+    {
+        if !connection.take_late(segment) {
+            return Ok(());
+        }
+        put_doubt(self.lines, connection, connection.side_of(segment))
     }
 
     /// Takes a segment of a connection. Copies of packets that come behind its end are no more than that.
@@ -509,28 +603,13 @@ impl<'x> Register<'x> {
         ensures watching { OnOk result (TakesOn segment.now self.old connection.old self.new connection.new) }
     {
         if connection.is_reported {
-            return Ok(());
+            return self.take_late(connection, segment);
         }
         self.note_host(connection, segment)?;
         self.read(connection, segment)?;
         self.put_settled(connection)?;
         if connection.is_finished() {
             return self.end(connection);
-        }
-        Ok(())
-    }
-
-    // Prints the summary: a line for each pair and each word, or an object.
-    fn put_pairs(&mut self) -> Result<(), Fault> {
-        let alloc = self.lines.alloc;
-        let counted = mem::replace(&mut self.counted, Vec::new(alloc));
-        let pairs = by_pairs(alloc, counted, &self.nodes)?;
-        for pair in &pairs {
-            let is_doubted = pair.is_refused() && pairs.iter().any(|it| it.came_up_as(pair));
-            put_pair(self.lines, pair, is_doubted)?;
-            if self.lines.quiet {
-                self.lines.write_made(pair_object(alloc, pair))?;
-            }
         }
         Ok(())
     }
@@ -551,17 +630,20 @@ impl<'x> Register<'x> {
     }
 
     // Prints what was left out, and that nothing was found, if nothing was.
-    fn put_left_out(&self, left_out: &PacketsLeftOut, status: u8) -> Result<(), Fault> {
-        let verdict = (!self.has_found).then_some(HandshakeVerdict::NothingFound);
+    fn put_outcome(&mut self, left_out: &PacketsLeftOut, status: u8) -> Result<(), Fault>
+        ensures { OnOk result (PrintsOutcome self.old.lines.quiet self.old.has_found status self.old.results self.new.results) }
+    {
         if self.lines.quiet {
-            let object = capture_object(self.lines.alloc, left_out, verdict, status);
-            return self.lines.write_made(object);
+            let verdict = capture_verdict(self.has_found);
+            let object = capture_object(self.lines.alloc, left_out, verdict, status)?;
+            return self.results.print(&object);
         }
         left_out.put(self.lines)?;
-        match verdict {
-            Some(verdict) => put_verdict(self.lines, verdict, true),
-            None => Ok(()),
+        if self.has_found {
+            return Ok(());
         }
+        let verdict = HandshakeVerdict::NothingFound;
+        print_verdict(self.lines, verdict, true, &mut self.results)
     }
 
     /// Prints the summary, and what was left out, and returns the exit status.
@@ -569,13 +651,15 @@ impl<'x> Register<'x> {
         ensures now { IfOk result (λ status. status ≡ exit_now self.old) }
         ensures attempts { IfOk result (λ status. (attempts : List PastDial) → StandsFor self.old attempts
             → status ≡ exit_of self.old.has_found attempts) }
+        ensures prints { IfOk result (λ status. PrintsOutcome self.old.lines.quiet self.old.has_found status self.old.results self.new.results) }
     {
         let status = self.exit_status();
-        for dial in mem::replace(&mut self.dials, Vec::new(self.lines.alloc)) {
-            self.settle(dial)?;
-        }
-        self.put_pairs()?;
-        self.put_left_out(left_out, status)?;
+        let alloc = self.lines.alloc;
+        let dials = mem::replace(&mut self.dials, Vec::new(alloc));
+        let mut counted = mem::replace(&mut self.counted, Vec::new(alloc));
+        count_all(&mut counted, dials)?;
+        put_pairs(self.lines, counted, &self.nodes)?;
+        self.put_outcome(left_out, status)?;
         Ok(status)
     }
 }

@@ -1,14 +1,20 @@
 //! What a connection carries, and by which bytes that is recognized.
 
-ghost use Rattle.std.specs.Prelude.{◌≡◌};
+ghost use Rattle.std.specs.Prelude.{◌≡◌, IfOk, IsErr, MatchBool, Ok, OnOk};
+ghost use Rattle.std.specs.{Int.w16, Option.option_or};
+ghost use Rattle.dist_frames.specs.Stream.{first_body};
+ghost use Rattle.dist_messages.specs.Reading.{read};
+ghost use Rattle.dist_names.specs.NodeName.{has_two_parts};
 ghost use Rattle.distping_capture.specs.Attempts.{answer_verdict, result_verdict, talk_verdict};
+ghost use Rattle.distping_capture.specs.Recognized.{answered_by, asked_by, empty_talk, is_of_acceptor, is_foreign, is_good_name, is_later_of_dialler};
+ghost use Rattle.distping_capture.specs.Recognized.{is_name, is_read_whole, is_tls, look_of, look_of_body, names_node, shown_of};
 
 use dist_epmd::{Answer, Asked, EpmdError, Request, decode_answer, decode_request};
 use dist_epmd_calls::LookupError;
 use dist_frames::first_body;
 use dist_messages::{MessageView, Side, read_in_place};
-use dist_names::{Flags, are_visible, host_part, short_part};
-use dist_talk::{Handshake, HandshakeVerdict, Unreached};
+use dist_names::{Flags, are_visible, host_part};
+use dist_talk::{Handshake, HandshakeVerdict, Unreached, tags_of};
 use std::alloc::{AllocError, Global};
 
 /// What a connection carries.
@@ -80,7 +86,9 @@ fn answer_verdict(answer: &Answer) -> Option<HandshakeVerdict>
 
 impl MapperTalk {
     /// Nothing was said yet.
-    pub fn new() -> MapperTalk {
+    pub fn new() -> MapperTalk
+        ensures { result ≡ empty_talk }
+    {
         MapperTalk {
             request: None,
             answer: None,
@@ -89,12 +97,19 @@ impl MapperTalk {
     }
 
     /// Whether all of it was read: the answer to a request for all names is not.
-    pub fn is_done(&self) -> bool {
+    pub fn is_done(&self) -> bool
+        ensures { result ≡ is_read_whole self.now }
+    {
         self.answer.is_some() || matches!(&self.request, Some(Request::Names))
     }
 
     /// Reads the request in these bytes, if it is whole. Returns whether they may be one.
-    pub fn read_request(&mut self, alloc: Global, bytes: &[u8]) -> Result<bool, AllocError> {
+    pub fn read_request(&mut self, alloc: Global, bytes: &[u8]) -> Result<bool, AllocError>
+        ensures asked { IfOk result (λ may_be. MatchBool may_be
+            (asked_by self.old.request (first_body w16 bytes.now) ≡ Ok self.new.request)
+            (IsErr (asked_by self.old.request (first_body w16 bytes.now)))) }
+        ensures rest { OnOk result (self.new ≡ record self.old { request = self.new.request }) }
+    {
         if self.request.is_none()
             && let Some(body) = first_body(bytes)
         {
@@ -108,7 +123,9 @@ impl MapperTalk {
     }
 
     /// Reads the answer to the request in these bytes, if it is whole. Returns whether it is.
-    pub fn read_answer(&mut self, alloc: Global, bytes: &[u8]) -> Result<bool, AllocError> {
+    pub fn read_answer(&mut self, alloc: Global, bytes: &[u8]) -> Result<bool, AllocError>
+        ensures { OnOk result (self.new ≡ record self.old { answer = option_or (answered_by self.old.request bytes.now) self.old.answer }) }
+    {
         let asked = match &self.request {
             Some(Request::Alive(_)) => Asked::Alive,
             Some(Request::PortPlease(_)) => Asked::Port,
@@ -123,7 +140,9 @@ impl MapperTalk {
     }
 
     /// Notes why a registration or a lookup has no answer.
-    pub fn conclude(&mut self, fault: Option<LookupError>) {
+    pub fn conclude(&mut self, fault: Option<LookupError>)
+        ensures { self.new ≡ record self.old { fault = self.new.fault } }
+    {
         if self.request.is_some() && !self.is_done() {
             self.fault = fault;
         }
@@ -167,48 +186,121 @@ pub enum Look {
     Other,
 }
 
-// The tags of all messages of a handshake. Source: ERTS User's Guide, Distribution Handshake.
-const TAGS: [u8; 6] = [0x6e, 0x4e, 0x73, 0x63, 0x72, 0x61];
+// Whether there is one separator, and neither part is empty.
+#[tactic(auto, using(dist_names::proofs::Places::no_host, dist_names::proofs::Places::no_short))]
+fn has_two_parts(name: &[u8]) -> bool
+    ensures { result ≡ has_two_parts name.now }
+{
+    let host = host_part(name);
+    if host.is_empty() {
+        return false;
+    }
+    if host.len() + 1 >= name.len() {
+        return false;
+    }
+    !host.contains(&b'@')
+}
+
+// Whether these bytes are a node's name.
+fn is_good_name(name: &[u8]) -> bool
+    ensures { result ≡ is_good_name name.now }
+{
+    has_two_parts(name) && name.len() <= 255 && are_visible(name)
+}
 
 // Whether these bytes are a node's name, or a node asks for one.
-fn is_name(name: &[u8], flags: Flags) -> bool {
-    let host = host_part(name);
-    let is_whole = !short_part(name).is_empty() && !host.is_empty() && !host.contains(&b'@');
-    flags.has(Flags::NAME_ME) || is_whole && name.len() <= 255 && are_visible(name)
+fn names_node(flags: Flags, name: &[u8]) -> bool
+    ensures { result ≡ names_node flags name.now }
+{
+    flags.has(Flags::NAME_ME) || is_good_name(name)
 }
 
-// What a body of an accepting side, or of a side that dialled, says, if it says a later message than a name.
-fn look_later(body: &[u8]) -> Look {
+// Whether a body of the side that dialled says its name.
+fn is_name(body: &[u8]) -> bool
+    ensures { result ≡ is_name (read Side.Dialler body.now) }
+{
+    match read_in_place(Side::Dialler, body) {
+        Ok(MessageView::NewName { name, flags, .. }) => names_node(flags, name),
+        Ok(MessageView::OldName { name, .. }) => is_good_name(name),
+        _ => false,
+    }
+}
+
+// Whether a body of the accepting side says a later message than its status.
+fn is_of_acceptor(body: &[u8]) -> bool
+    ensures { result ≡ is_of_acceptor (read Side.Acceptor body.now) }
+{
     match read_in_place(Side::Acceptor, body) {
-        Ok(MessageView::Status(_) | MessageView::Ack { .. }) => return Look::Later(Side::Acceptor),
-        Ok(MessageView::NewChallenge { name, flags, .. }) if is_name(name, flags) => {
-            return Look::Later(Side::Acceptor);
-        }
-        _ => {}
-    }
-    match read_in_place(Side::Dialler, body) {
-        Ok(MessageView::Status(_) | MessageView::Complement { .. } | MessageView::Reply { .. }) => {
-            Look::Later(Side::Dialler)
-        }
-        _ => Look::Other,
+        Ok(MessageView::Status(_) | MessageView::Ack { .. }) => true,
+        Ok(MessageView::NewChallenge { name, flags, .. }) => names_node(flags, name),
+        _ => false,
     }
 }
 
-/// What these bytes look like, the first that a side sent. TLS is recognized by the first byte of a record of a handshake and by its
-/// version (RFC 5246, section 6.2.1).
-pub fn look_at(bytes: &[u8]) -> Look {
-    let body = match bytes {
-        [0x16, 0x03, ..] => return Look::Tls,
-        [_, _, tag, ..] if !TAGS.contains(tag) => return Look::Other,
-        _ => match first_body(bytes) {
-            Some(body) => body,
-            None => return Look::Open,
-        },
-    };
+// Whether a body of the side that dialled says a later message than its name.
+fn is_later_of_dialler(body: &[u8]) -> bool
+    ensures { result ≡ is_later_of_dialler (read Side.Dialler body.now) }
+{
     match read_in_place(Side::Dialler, body) {
-        Ok(MessageView::NewName { name, flags, .. }) if is_name(name, flags) => Look::Name,
-        Ok(MessageView::OldName { name, .. }) if is_name(name, Flags(0)) => Look::Name,
-        _ => look_later(body),
+        Ok(MessageView::Status(_) | MessageView::Complement { .. } | MessageView::Reply { .. }) =>
+            true,
+        _ => false,
+    }
+}
+
+// What a body looks like.
+#[tactic(auto, unfolding(crate::specs::Recognized::look_of_body))]
+fn look_at_body(body: &[u8]) -> Look
+    ensures { result ≡ look_of_body body.now }
+{
+    if is_name(body) {
+        return Look::Name;
+    }
+    if is_of_acceptor(body) {
+        return Look::Later(Side::Acceptor);
+    }
+    if is_later_of_dialler(body) {
+        return Look::Later(Side::Dialler);
+    }
+    Look::Other
+}
+
+// Whether a record of TLS begins these bytes: its first byte, which is that of a handshake, and its version (RFC 5246, section 6.2.1).
+fn is_tls(bytes: &[u8]) -> bool
+    ensures { result ≡ is_tls bytes.now }
+{
+    match bytes {
+        [first, second, ..] => *first == 0x16 && *second == 0x03,
+        _ => false,
+    }
+}
+
+// Whether no tag of a message of a handshake stands behind two bytes.
+fn is_foreign(bytes: &[u8]) -> bool
+    ensures { result ≡ is_foreign bytes.now }
+{
+    match bytes {
+        [_, _, tag, ..] => {
+            !tags_of(Side::Dialler).contains(tag) && !tags_of(Side::Acceptor).contains(tag)
+        }
+        _ => false,
+    }
+}
+
+/// What these bytes look like, the first that a side sent.
+#[tactic(auto, unfolding(crate::specs::Recognized::look_of))]
+pub fn look_at(bytes: &[u8]) -> Look
+    ensures { result ≡ look_of bytes.now }
+{
+    if is_tls(bytes) {
+        return Look::Tls;
+    }
+    if is_foreign(bytes) {
+        return Look::Other;
+    }
+    match first_body(bytes) {
+        Some(body) => look_at_body(body),
+        None => Look::Open,
     }
 }
 
@@ -225,7 +317,10 @@ pub enum Shown {
 }
 
 /// What it means that the first bytes of the two sides look so; whether it is certain who dialled.
-pub fn shown_by(looks: (Look, Look), is_certain: bool) -> Shown {
+#[tactic(auto, unfolding(crate::specs::Recognized::shown_of))]
+pub fn shown_by(looks: (Look, Look), is_certain: bool) -> Shown
+    ensures { result ≡ shown_of is_certain looks.0 looks.1 }
+{
     match looks {
         (Look::Name, _) => Shown::Handshake(false),
         (_, Look::Name) if !is_certain => Shown::Handshake(true),

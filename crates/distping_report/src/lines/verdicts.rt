@@ -24,8 +24,8 @@ pub fn exit_mark(status: u8, has_colors: bool) -> &'static str
 }
 
 impl LineSink<'_> {
-    // The lines of a verdict: word and cause, and the remedy, unless the verdict alone is printed.
-    fn verdict_lines(self, verdict: HandshakeVerdict) -> Result<String, AllocError>
+    /// The text of a verdict: word and cause, and the remedy, unless the verdict alone is printed.
+    pub fn verdict_text(self, verdict: HandshakeVerdict) -> Result<String, AllocError>
         ensures { IfOk result (λ text. IsVerdictText verdict (string_bytes text)) }
     {
         let mark = exit_mark(verdict.status(), self.has_colors);
@@ -44,7 +44,7 @@ impl LineSink<'_> {
         if self.quiet {
             object_of(self.alloc, dial, outcome)
         } else {
-            self.verdict_lines(outcome.verdict)
+            self.verdict_text(outcome.verdict)
         }
     }
 
@@ -60,7 +60,7 @@ impl LineSink<'_> {
         if self.quiet {
             caller_object(self.alloc, listen, caller, verdict)
         } else {
-            self.verdict_lines(verdict)
+            self.verdict_text(verdict)
         }
     }
 
@@ -99,7 +99,7 @@ impl LineSink<'_> {
     /// Prints the lines of a verdict.
     pub fn put_verdict(self, verdict: HandshakeVerdict) -> Result<(), Fault> {
         self.put_details(verdict)?;
-        self.write_made(self.verdict_lines(verdict))
+        self.write_made(self.verdict_text(verdict))
     }
 
     /// Prints what belongs before the text of the result of a probe: of several addresses which got furthest; if the node was found by

@@ -8,4 +8,4 @@ returns-clause-comes g c = λ it is.
     let json = c.args.context.now.wanted.now.choices.json in
     subst (λ r. IfOk r (λ x. ResultComes cookie json x.half (string_bytes x.text))) is
     (subst (λ quiet. IfOk c.print_probe-found.result (λ x. ResultComes cookie quiet x.half (string_bytes x.text)))
-    (c.sink_in_group-lines.ensures ∙ c.screen.ensures) c.print_probe-found.ensures.comes)
+    (c.on_page.ensures ∙ c.screen.ensures) c.print_probe-found.ensures.comes)

@@ -1,10 +1,17 @@
-use Rattle.std.proofs.lemmas.Result.{IfOk-weaker}
-use Rattle.distping_capture.proofs.Tracking.{both_ok, read_ends}
+use Rattle.std.proofs.Common.{subst, sym}
+use Rattle.distping_report.specs.Sinks.{SinkState}
+use Rattle.distping_capture.specs.Captures.{FinishesWith}
+use Rattle.distping_capture.proofs.Tracking.{read_ends}
 use Rattle.distping_capture.proofs.reading.read_whole.Goals as goal
 
-pub returns-in-Ok : goal.returns-in-Ok
-returns-in-Ok g c =
+pub returns-in_ok-status-in-Ok : goal.returns-in_ok-status-in-Ok
+returns-in_ok-status-in-Ok g c =
     let all = c.in-Ok.ensures.all in
-    IfOk-weaker c.finish.result _ _
-    (λ status both. (all.0, all.1, read_ends c.args.terms c.new-capture.result c.take_all.new.capture c.new-finder.result c.take_all.new.finder all.0 status c.new-finder.ensures.tracks c.new-finder.ensures.fresh c.new-capture.ensures all.2 c.in-Ok.ensures.no_more both.1 both.0))
-    (both_ok c.finish.result _ _ c.finish.ensures.counts c.finish.ensures.all)
+    let last = c.take_all.new.finder in
+    let status = c.in_ok-status-in-Ok.status in
+    let finishes = subst (λ (x : SinkState). FinishesWith last status x) (sym c.into_results.ensures) c.in_ok-status-in-Ok.ensures.all in (
+      all.0,
+      all.1,
+      read_ends c.args.terms c.args.mapper_port c.args.lines.quiet c.new-capture.result c.take_all.new.capture c.new-finder.result last all.0 c.args.out c.into_results.result status c.new-finder.ensures.tracks
+          c.new-finder.ensures.fresh c.new-capture.ensures all.2 c.in-Ok.ensures.no_more finishes c.in_ok-status-in-Ok.ensures.counts,
+    )

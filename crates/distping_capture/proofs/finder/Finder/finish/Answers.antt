@@ -1,11 +1,14 @@
 use Rattle.std.proofs.lemmas.Result.{IfOk-weaker}
-use Rattle.distping_capture.proofs.Counting.{counts_to}
+use Rattle.distping_capture.proofs.{Counting.counts_to, Tracking.both_ok}
 use Rattle.distping_capture.proofs.finder.Finder.finish.Goals as goal
 
 pub returns-clause-counts : goal.returns-clause-counts
-returns-clause-counts c =
+returns-clause-counts g c =
     IfOk-weaker c.finish.result _ _
     (λ status by t segments p. counts_to t segments c.give_up_all.new.self.register status by (c.in_ok-give_up_all.ensures.tracking t segments p).0) c.finish.ensures.attempts
 
 pub returns-clause-all : goal.returns-clause-all
-returns-clause-all c = IfOk-weaker c.finish.result _ _ (λ status now. record { last = c.give_up_all.new.self.register; ends = c.in_ok-give_up_all.ensures.ends; exit = now }) c.finish.ensures.now
+returns-clause-all g c =
+    IfOk-weaker c.finish.result _ _
+    (λ status both. record { last = c.give_up_all.new.self.register; ends = c.in_ok-give_up_all.ensures.ends; exit = both.0; prints = both.1 })
+    (both_ok c.finish.result _ _ c.finish.ensures.now c.finish.ensures.prints)

@@ -4,10 +4,10 @@ use Rattle.distping_capture.proofs.{Ending.EndsSome, Ending.ends_all, Ending.end
 use Rattle.distping_capture.proofs.finder.Finder.give_up_all.Goals as goal
 
 pub open-init : goal.open-init
-open-init c = record { tracking = λ t segments w. w; ends = ends_none c.args.self.now.connections.items c.args.self.now.register }
+open-init g c = record { tracking = λ t segments w. w; ends = ends_none c.args.self.now.connections.items c.args.self.now.register }
 
 pub open-preserved : goal.open-preserved
-open-preserved c =
+open-preserved g c =
     let xs = c.args.self.now.connections.items in
     let r = c.args.self.now.register in
     let left = c.open.self.connections in
@@ -21,6 +21,6 @@ open-preserved c =
     }
 
 pub returns-clause-ends : goal.returns-clause-ends
-returns-clause-ends c =
+returns-clause-ends g c =
     let none : c.open.self.connections.items ≡ [] = grind (arith, common_steps) in
     ends_all c.args.self.now.connections.items c.open.self.connections.items c.args.self.now.register c.open.self.register c.open.invariant.ends none

@@ -5,10 +5,10 @@ use Rattle.distping_capture.proofs.Ending.{EndsSome}
 use Rattle.distping_capture.proofs.finder.Finder.give_up_all.Given as goal
 
 abbrev pub invariant-open : goal.invariant-open
-invariant-open l = record {
+invariant-open g l = record {
   tracking : GoesOnTracking l.initial.self l.self;
   ends : EndsSome l.initial.self.connections.items l.initial.self.register l.self.connections.items l.self.register;
 }
 
 abbrev pub decreases-open : goal.decreases-open
-decreases-open l = length l.self.connections.items
+decreases-open g l = length l.self.connections.items

@@ -3,4 +3,4 @@ use Rattle.std.proofs.Common.{◌<◌, ◌≤◌}
 use Rattle.distping_capture.proofs.finder.Finder.oldest.Given as goal
 
 abbrev pub invariant-loop-at : goal.invariant-loop-at
-invariant-loop-at l = (l.place ≤ l.at) × (0 < l.at → l.place < l.at)
+invariant-loop-at g l = (l.place ≤ l.at) × (0 < l.at → l.place < l.at)

@@ -4,13 +4,14 @@ use Rattle.distping_capture.specs.Exits.{StandsFor}
 use Rattle.distping_capture.proofs.Counting.{written}
 use Rattle.distping_capture.proofs.register.Register.add_attempt.Goals as goal
 
-pub returns : goal.returns
-returns c =
+pub returns-clause-adds : goal.returns-clause-adds
+returns-clause-adds g c =
     let before = c.args.self.now.dials in
     let same : length c.meet_all.new.earlier ≡ length before.items = omega (arith, c.meet_all.auto.earlier, c.deref_mut.ensures.len, c.deref_mut.ensures.value, before.ok.0) in
     let back = written before.len before.items c.meet_all.new.earlier (omega (arith, before.ok.0)) same in
     record {
       terms = search rules;
+      quiet = search rules;
       left = c.meet_all.new.self;
       others = c.meet_all.new.earlier;
       meets = search rules;

@@ -1,12 +1,10 @@
 use Rattle.std.proofs.Common.{◌∙◌, ap, arith, ◌<◌, length}
 use Rattle.std.proofs.lemmas.Result.{IfOk-weaker}
-use Rattle.distping_capture.specs.declared.register.Register.{Register}
-use Rattle.distping_capture.proofs.Counting.{older}
+use Rattle.distping_capture.proofs.Counting.{dials_of, found_in, older, status_in}
 use Rattle.distping_capture.proofs.register.Register.settle_oldest.Goals as goal
 
 pub returns-clause-stands : goal.returns-clause-stands
-returns-clause-stands c =
+returns-clause-stands g c =
     let some : 0 < length c.args.self.now.dials.items = omega (arith, c.args.self.now.dials.ok.0) in
     IfOk-weaker c.settle.result _ _
-    (λ _ same. older c.args.self.now c.settle.new.self c.remove-oldest.result some c.remove-oldest.ensures.value (ap (λ (r : Register). r.dials.items) same ∙ c.remove-oldest.ensures.items)
-    (ap (λ (r : Register). r.status) same) (ap (λ (r : Register). r.has_found) same)) c.settle.ensures
+    (λ _ same. older c.args.self.now c.settle.new.self c.remove-oldest.result some c.remove-oldest.ensures.value (ap dials_of same ∙ c.remove-oldest.ensures.items) (ap status_in same) (ap found_in same)) c.settle.ensures

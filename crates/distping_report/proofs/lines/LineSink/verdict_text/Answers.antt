@@ -1,5 +1,5 @@
 use Rattle.std.proofs.{Common.rules, Common.◌∷◌, Common.[], Common.codes, lemmas.Result.IfOk-weaker}
-use Rattle.distping_report.proofs.lines.LineSink.verdict_lines.Goals as goal
+use Rattle.distping_report.proofs.lines.LineSink.verdict_text.Goals as goal
 
 pub returns-then-eq : goal.returns-then-eq
 returns-then-eq c = IfOk-weaker c.format.result _ _ (λ text is. record {
