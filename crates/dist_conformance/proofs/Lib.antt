@@ -6,4 +6,3 @@ pub mod Within
 pub mod Decided
 pub mod Later
 pub mod Challenges
-pub mod Ranks

@@ -1,6 +1,6 @@
--- Verdicts of talks, rows and whole suites.
-use Rattle.std.specs.Prelude.{ℕ, Bool, true, false, ◌==◌, ◌&&◌, nat_le, if◌then◌else◌, List, [], ◌∷◌, codes}
-use Rattle.dist_conformance.specs.declared.{rows.Level.Level, verdicts.TalkVerdict.TalkVerdict, verdicts.RowResult.RowResult}
+-- Verdicts of talks.
+use Rattle.std.specs.Prelude.{ℕ, Bool, true, false, List, codes}
+use Rattle.dist_conformance.specs.declared.{rows.Level.Level, verdicts.TalkVerdict.TalkVerdict}
 use Rattle.dist_conformance.specs.declared.rows.Level.TheVariants as level
 use Rattle.dist_conformance.specs.declared.verdicts.TalkVerdict.TheVariants as verdict
 
@@ -29,29 +29,12 @@ rank_of verdict.Blocked = 3
 rank_of verdict.Loose = 4
 rank_of verdict.Deviates = 5
 
--- the worse of two
-abbrev pub worse : TalkVerdict → TalkVerdict → TalkVerdict
-worse one other = if nat_le (rank_of one) (rank_of other) then other else one
-
--- the worst of one and these
-abbrev pub worst_behind : TalkVerdict → List TalkVerdict → TalkVerdict
-worst_behind one [] = one
-worst_behind one (v ∷ vs) = worst_behind (worse one v) vs
-
--- THE WORST OF ALL, and Skipped where there is none
-abbrev pub worst_of : List TalkVerdict → TalkVerdict
-worst_of vs = worst_behind verdict.Skipped vs
-
 -- the place of a level among the four
 abbrev pub place_of : Level → ℕ
 place_of level.Must = 0
 place_of level.Should = 1
 place_of level.Otp = 2
 place_of level.May = 3
-
--- the row has this level and this verdict
-abbrev pub is_same : Level → TalkVerdict → RowResult → Bool
-is_same l v row = (place_of row.level == place_of l) && (rank_of row.verdict == rank_of v)
 
 -- WHICH ROWS COUNT: a must that deviates; where it is strict, also a should or an otp that does, and what is loose
 abbrev pub is_counted : Bool → Level → TalkVerdict → Bool

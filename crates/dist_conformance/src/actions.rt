@@ -6,7 +6,7 @@ use crate::lists::SuiteList;
 use crate::messages::{info_in, part_of};
 use crate::steps::{Action, Saying, TalkStep};
 use crate::terms::TalkTerms;
-use crate::texts::{split, words_of};
+use crate::texts::{first_part, split, words_of};
 use crate::words::{LineWords, read_number};
 use dist_names::ByteString;
 
@@ -47,86 +47,40 @@ fn call_in(terms: &TalkTerms<'_>, text: &[u8]) -> Result<Action, ReadFault> {
     words.finish(Action::Call(none, info))
 }
 
-// The word of an action.
-#[derive(Clone, Copy)]
-enum ActionWord {
-    Dial,
-    Ask,
-    Call,
-    Start,
-    Take,
-    Half,
-    Close,
-    Reset,
-    Wait,
-    Say,
-    Hear,
-    Want,
-    Tell,
-}
-
-// A space stands behind the word where something has to follow.
-const ACTIONS: [(&str, ActionWord); 13] = [
-    ("dial", ActionWord::Dial),
-    ("ask", ActionWord::Ask),
-    ("call", ActionWord::Call),
-    ("start", ActionWord::Start),
-    ("take", ActionWord::Take),
-    ("half", ActionWord::Half),
-    ("close", ActionWord::Close),
-    ("reset", ActionWord::Reset),
-    ("wait ", ActionWord::Wait),
-    ("say ", ActionWord::Say),
-    ("hear ", ActionWord::Hear),
-    ("want ", ActionWord::Want),
-    ("tell ", ActionWord::Tell),
-];
-
-// The connections that a step names, but for the first.
-const CONNECTIONS: [(&str, u8); 4] = [("b: ", 1), ("c: ", 2), ("d: ", 3), ("e: ", 4)];
-
-// The first row of a table with whose word a text begins, and what stands behind that.
-fn first_key<'t, K: Copy>(table: &[(&'static str, K)], text: &'t [u8]) -> Option<(K, &'t [u8])> {
-    for (word, meaning) in table {
-        if let Some(rest) = text.strip_prefix(word.as_bytes()) {
-            return Some((*meaning, rest));
-        }
-    }
-    None
-}
-
-// This action, where nothing is left.
-fn alone(text: &[u8], action: Action) -> Result<Action, ReadFault> {
-    if text.is_empty() {
-        Ok(action)
-    } else {
-        Err(ReadFault::Bad)
-    }
-}
-
+// An action: its word, and behind a space what it takes, if it takes something. A call may take nothing.
 fn action_in(terms: &TalkTerms<'_>, text: &[u8]) -> Result<Action, ReadFault> {
-    let (word, rest) = first_key(&ACTIONS, text).ok_or(ReadFault::Bad)?;
-    match word {
-        ActionWord::Dial => alone(rest, Action::Dial),
-        ActionWord::Ask => alone(rest, Action::Ask),
-        ActionWord::Call => call_in(terms, rest),
-        ActionWord::Start => alone(rest, Action::Start),
-        ActionWord::Take => alone(rest, Action::Take),
-        ActionWord::Half => alone(rest, Action::Half),
-        ActionWord::Close => alone(rest, Action::Close),
-        ActionWord::Reset => alone(rest, Action::Reset),
-        ActionWord::Wait => Ok(Action::Wait(read_number(rest, u32::MAX)?)),
-        ActionWord::Say => Ok(Action::Say(saying_in(terms, rest)?)),
-        ActionWord::Hear => Ok(Action::Hear(demand_in(terms, rest)?)),
-        ActionWord::Want => Ok(Action::Want(demand_in(terms, rest)?)),
-        ActionWord::Tell => Ok(Action::Tell(read_number(rest, u32::MAX)?)),
+    if let Some(info) = text.strip_prefix(b"call") {
+        return call_in(terms, info);
+    }
+    match first_part(text, b' ') {
+        (b"dial", None) => Ok(Action::Dial),
+        (b"ask", None) => Ok(Action::Ask),
+        (b"start", None) => Ok(Action::Start),
+        (b"take", None) => Ok(Action::Take),
+        (b"half", None) => Ok(Action::Half),
+        (b"close", None) => Ok(Action::Close),
+        (b"reset", None) => Ok(Action::Reset),
+        (b"wait", Some(time)) => Ok(Action::Wait(read_number(time, u32::MAX)?)),
+        (b"say", Some(messages)) => Ok(Action::Say(saying_in(terms, messages)?)),
+        (b"hear", Some(demand)) => Ok(Action::Hear(demand_in(terms, demand)?)),
+        (b"want", Some(demand)) => Ok(Action::Want(demand_in(terms, demand)?)),
+        (b"tell", Some(time)) => Ok(Action::Tell(read_number(time, u32::MAX)?)),
+        _ => Err(ReadFault::Bad),
+    }
+}
+
+// The connection that a text names by its letter, and what stands behind that. Where it names none it is the first.
+fn connection_in(text: &[u8]) -> (u8, &[u8]) {
+    match text {
+        [letter @ b'b'..=b'e', b':', b' ', rest @ ..] => (*letter - b'a', rest),
+        _ => (0, text),
     }
 }
 
 /// A step, which is a line that two spaces begin.
 pub fn step_in(terms: &TalkTerms<'_>, line: &[u8]) -> Result<TalkStep, ReadFault> {
     let text = terms.expand(line.get(2..).unwrap_or(&[]))?;
-    let (conn, rest) = first_key(&CONNECTIONS, &text).unwrap_or((0, &text));
+    let (conn, rest) = connection_in(&text);
     let action = action_in(terms, rest)?;
     Ok(TalkStep {
         conn,

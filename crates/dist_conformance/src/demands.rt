@@ -8,32 +8,9 @@ use crate::shapes::{AWAITED, EXACT, FieldForm, FieldKey, Framing, OUR_CHALLENGE,
 use crate::steps::Demand;
 use crate::terms::TalkTerms;
 use crate::texts::{first_part, split, words_of};
-use crate::words::{LineWords, flag_of, meaning_of, read_number};
+use crate::words::{LineWords, flag_of, read_number};
 use dist_names::{ByteString, Flags, is_same_text};
 use std::alloc::{AllocError, Global};
-
-// The word of a pattern that is no message.
-#[derive(Clone, Copy)]
-enum PatternWord {
-    End,
-    Silence,
-    Open,
-    Packets,
-    Bytes,
-    Body(Framing),
-    Names,
-}
-
-const PATTERNS: [(&str, PatternWord); 8] = [
-    ("end", PatternWord::End),
-    ("silence", PatternWord::Silence),
-    ("open", PatternWord::Open),
-    ("packets", PatternWord::Packets),
-    ("packet", PatternWord::Body(Framing::Packet)),
-    ("bytes", PatternWord::Bytes),
-    ("frame", PatternWord::Body(Framing::Frame)),
-    ("names", PatternWord::Names),
-];
 
 // The shape in a table whose word this is, and whose second word comes next, which is taken.
 fn shape_in(
@@ -129,8 +106,7 @@ fn put_checks(
 ) -> Result<(), ReadFault> {
     let (name, value) = first_part(word, b'=');
     let before = checks.len();
-    let mut place = 0;
-    for (form, key) in shape.fields.iter().zip(shape.keys) {
+    for (place, (form, key)) in shape.fields.iter().zip(shape.keys).enumerate() {
         let test = match value {
             Some(value) => value_test(alloc, *form, *key, name, value)?,
             None => mark_test(shape, place, *key, name),
@@ -138,7 +114,6 @@ fn put_checks(
         if let Some(test) = test {
             checks.push(Check { place, test })?;
         }
-        place = place.saturating_add(1);
     }
     if checks.len() == before {
         return Err(ReadFault::Bad);
@@ -152,21 +127,17 @@ fn put_usual_checks(
     shape: &Shape,
     words: &mut LineWords<'_>,
 ) -> Result<(), ReadFault> {
-    let mut place = 0;
-    for key in shape.keys {
+    for (place, key) in shape.keys.iter().enumerate() {
         if matches!(key, FieldKey::Given | FieldKey::New) {
             let test = Test::Given;
             checks.push(Check { place, test })?;
         }
-        if matches!(key, FieldKey::New) {
-            let test = Test::Fresh;
-            checks.push(Check { place, test })?;
-        }
-        if matches!(key, FieldKey::Digest) {
-            let test = Test::Digest(words.number(b"challenge", OUR_CHALLENGE, u32::MAX)?);
-            checks.push(Check { place, test })?;
-        }
-        place = place.saturating_add(1);
+        let test = match key {
+            FieldKey::New => Test::Fresh,
+            FieldKey::Digest => Test::Digest(words.number(b"challenge", OUR_CHALLENGE, u32::MAX)?),
+            _ => continue,
+        };
+        checks.push(Check { place, test })?;
     }
     Ok(())
 }
@@ -220,23 +191,19 @@ fn packet_check(words: &mut LineWords<'_>) -> Result<PacketCheck, ReadFault> {
 // A pattern of this word that is no message.
 fn plain_pattern(
     alloc: Global,
-    word: PatternWord,
+    word: &[u8],
     words: &mut LineWords<'_>,
 ) -> Result<Pattern, ReadFault> {
     match word {
-        PatternWord::End => Ok(Pattern::End),
-        PatternWord::Silence => Ok(Pattern::Silence(words.time()?)),
-        PatternWord::Open => Ok(Pattern::Open(words.time()?)),
-        PatternWord::Packets => Ok(Pattern::Packets(packet_check(words)?)),
-        PatternWord::Bytes => {
-            let word = words.next_word();
-            Ok(Pattern::Bytes(words.bytes(word)?))
-        }
-        PatternWord::Body(framing) => {
-            let word = words.next_word();
-            Ok(Pattern::Body(framing, words.bytes(word)?))
-        }
-        PatternWord::Names => Ok(Pattern::Names(names_check(alloc, words)?)),
+        b"end" => Ok(Pattern::End),
+        b"silence" => Ok(Pattern::Silence(words.time()?)),
+        b"open" => Ok(Pattern::Open(words.time()?)),
+        b"packets" => Ok(Pattern::Packets(packet_check(words)?)),
+        b"packet" => Ok(Pattern::Body(Framing::Packet, words.next_bytes()?)),
+        b"frame" => Ok(Pattern::Body(Framing::Frame, words.next_bytes()?)),
+        b"bytes" => Ok(Pattern::Bytes(words.next_bytes()?)),
+        b"names" => Ok(Pattern::Names(names_check(alloc, words)?)),
+        _ => Err(ReadFault::Bad),
     }
 }
 
@@ -249,7 +216,7 @@ fn pattern_in(terms: &TalkTerms<'_>, words: &mut LineWords<'_>) -> Result<Patter
         let part = message_in(terms, &shape, words)?;
         return Ok(Pattern::Bytes(bytes_of_message(terms.alloc, &part)?));
     }
-    plain_pattern(terms.alloc, meaning_of(&PATTERNS, word)?, words)
+    plain_pattern(terms.alloc, word, words)
 }
 
 // Patterns one behind the other, with commas between them.

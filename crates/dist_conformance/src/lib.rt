@@ -2,9 +2,9 @@
 //! what it means that this came.
 //!
 //! A text is read into the rows of a section ([`read_section`]), families written out as talks. Who plays a talk asks for the bytes of a
-//! step ([`bytes_to_say`]), and hands all bytes of a connection, its end and the time to the judgement ([`judge`]). The verdicts of talks
-//! make those of rows, and the exit status ([`status`]). No sockets, no clock and no randomness: a transcript that is kept can be judged
-//! again.
+//! step ([`bytes_to_say`]), and hands all bytes of a connection, its end and the time to the judgement ([`judge`]). By its verdict and the
+//! level of its row a talk counts for the exit status or does not ([`is_counted`]). No sockets, no clock and no randomness: a transcript that
+//! is kept can be judged again.
 #![tactic(auto)]
 
 mod actions;
@@ -48,4 +48,5 @@ pub use say::{Learned, bytes_to_say};
 pub use shapes::{FieldForm, FieldKey, Framing, Shape};
 pub use steps::{Action, Demand, SaidField, SaidPart, SaidValue, Saying, TalkStep};
 pub use terms::SuiteNames;
-pub use verdicts::{RowResult, TalkVerdict, count_of, status, worst};
+pub use texts::first_part;
+pub use verdicts::{TalkVerdict, is_counted};

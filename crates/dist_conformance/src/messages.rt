@@ -10,18 +10,18 @@ use crate::terms::TalkTerms;
 use crate::texts::words_of;
 use crate::words::{LineWords, meaning_of};
 use dist_epmd::NodeInfo;
-use dist_names::ByteString;
+use dist_names::{ByteString, is_same_text};
 use std::alloc::Global;
 
 // The statuses of either side.
-const STATUSES: [(&str, ()); 7] = [
-    ("ok", ()),
-    ("ok_simultaneous", ()),
-    ("nok", ()),
-    ("not_allowed", ()),
-    ("alive", ()),
-    ("true", ()),
-    ("false", ()),
+const STATUSES: [&str; 7] = [
+    "ok",
+    "ok_simultaneous",
+    "nok",
+    "not_allowed",
+    "alive",
+    "true",
+    "false",
 ];
 
 /// The bytes of a number in a field of this form: the last of its 8 bytes.
@@ -46,7 +46,12 @@ pub fn most_in(form: FieldForm) -> u32 {
 
 // The word of a status, which has to be one.
 fn status_word(terms: &TalkTerms<'_>, word: &[u8]) -> Result<ByteString, ReadFault> {
-    meaning_of(&STATUSES, word)?;
+    if !STATUSES
+        .iter()
+        .any(|known| is_same_text(known.as_bytes(), word))
+    {
+        return Err(ReadFault::Bad);
+    }
     Ok(ByteString::from_slice(terms.alloc, word)?)
 }
 
@@ -90,14 +95,8 @@ fn value_in(
         FieldKey::Digest => return said_digest(words),
         FieldKey::Last => return Ok(SaidValue::Last),
         FieldKey::Status => status_word(terms, words.word()?)?,
-        FieldKey::Bytes => {
-            let word = words.next_word();
-            words.bytes(word)?
-        }
-        FieldKey::Extra => {
-            let value = words.value(b"extra");
-            words.bytes(value)?
-        }
+        FieldKey::Bytes => words.next_bytes()?,
+        FieldKey::Extra => words.extra()?,
         _ => bytes_in(terms, form, key, words)?,
     };
     Ok(SaidValue::Bytes(bytes))
@@ -114,13 +113,11 @@ pub fn message_in(
         let value = value_in(terms, *form, *key, words)?;
         fields.push(SaidField { form: *form, value })?;
     }
-    let less = words.number(b"less", 0, 65535)?;
-    let extra = words.value(b"extra");
     Ok(SaidPart {
         is_framed: matches!(shape.framing, Framing::Frame),
         fields: SuiteList::from_vec(fields),
-        less: less as usize,
-        extra: words.bytes(extra)?,
+        less: words.number(b"less", 0, 65535)? as usize,
+        extra: words.extra()?,
     })
 }
 

@@ -163,12 +163,24 @@ impl<'a> LineWords<'a> {
         }
     }
 
-    /// The bytes that a word writes, or none where there is no word.
-    pub fn bytes(&self, word: Option<&[u8]>) -> Result<ByteString, ReadFault> {
+    // The bytes that a word writes, or none where there is no word.
+    fn bytes(&self, word: Option<&[u8]>) -> Result<ByteString, ReadFault> {
         match word {
             Some(word) => hex_bytes(self.alloc, word),
             None => Ok(ByteString::new(self.alloc)),
         }
+    }
+
+    /// The bytes that the next word writes, or none where no word is left.
+    pub fn next_bytes(&mut self) -> Result<ByteString, ReadFault> {
+        let word = self.next_word();
+        self.bytes(word)
+    }
+
+    /// The bytes of the name `extra`, or none where the next word has another name.
+    pub fn extra(&mut self) -> Result<ByteString, ReadFault> {
+        let value = self.value(b"extra");
+        self.bytes(value)
     }
 
     /// The flags of the name `flags`, or the usual ones.

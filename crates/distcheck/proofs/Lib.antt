@@ -3,3 +3,4 @@ pub mod Lanes
 pub mod Order
 pub mod Steps
 pub mod Words
+pub mod Worst

@@ -1,7 +1,7 @@
 -- THE VERDICTS OF TALKS, and the exit status.
 use Rattle.std.specs.Prelude.{ℕ, Bool, if◌then◌else◌, List, map}
 use Rattle.std.specs.List.{list_any}
-use Rattle.dist_conformance.specs.declared.verdicts.{RowResult.RowResult, TalkVerdict.TalkVerdict}
+use Rattle.dist_conformance.specs.declared.verdicts.TalkVerdict.{TalkVerdict}
 use Rattle.dist_conformance.specs.Verdicts.{is_counted}
 use Rattle.distcheck.specs.Trying.{tries_verdict, verdicts_of, was_refused}
 use Rattle.distcheck.specs.declared.{queue.QueuedTalk.QueuedTalk, tries.PlayedTalk.PlayedTalk}
@@ -18,10 +18,10 @@ talks_of ps = map (λ (p : PlayedTalk). p.queued) ps
 abbrev pub met_nobody : PlayedTalk → Bool
 met_nobody p = list_any was_refused p.tries.items
 
--- the level of a talk's row, and its verdict
-abbrev pub result_of : PlayedTalk → RowResult
-result_of p = record { level = p.queued.level; verdict = played_verdict p }
+-- the talk makes the exit status 1: it deviates, in a row that counts; strict: or is loose
+abbrev pub is_counted_talk : Bool → PlayedTalk → Bool
+is_counted_talk strict p = is_counted strict p.queued.level (played_verdict p)
 
--- THE EXIT STATUS: 1 if a talk of a row that counts deviates; strict: or is loose
+-- THE EXIT STATUS: 1 if one of the talks does
 abbrev pub exit_of : Bool → List PlayedTalk → ℕ
-exit_of strict ps = if list_any (λ (r : RowResult). is_counted strict r.level r.verdict) (map result_of ps) then 1 else 0
+exit_of strict ps = if list_any (is_counted_talk strict) ps then 1 else 0

@@ -1,11 +1,10 @@
 -- What is seen of a connection.
-use Rattle.std.specs.Prelude.{◌≡◌, ℕ, Bool, true, false, List, ◌++◌, Option, Some, None}
+use Rattle.std.specs.Prelude.{◌≡◌, ℕ, Bool, true, false, List, ◌++◌}
 use Rattle.std.specs.Io.KnownBytes.{prepend_known, IsAtEnd}
 use Rattle.dist_stream.specs.Stream.{StreamState}
-use Rattle.distcheck.specs.declared.{left_out.SkipReason.SkipReason, seen.PeerEnd.PeerEnd, seen.StepFact.StepFact, seen.Untried.Untried}
+use Rattle.distcheck.specs.declared.seen.{PeerEnd.PeerEnd, StepFact.StepFact}
 use Rattle.distcheck.specs.declared.seen.PeerEnd.TheVariants as end
 use Rattle.distcheck.specs.declared.seen.StepFact.TheVariants as seen
-use Rattle.distcheck.specs.declared.seen.Untried.TheVariants as untried
 use Rattle.distcheck.specs.declared.talk_stream.TalkStream.{TalkStream}
 use Rattle.distcheck.specs.declared.talk_stream.TalkStream.TheVariants as talk_stream
 
@@ -24,11 +23,6 @@ end_of end.Reset = true
 abbrev pub is_refusal : StepFact → Bool
 is_refusal seen.Refused = true
 is_refusal other = false
-
--- nothing is tried since the talk is left out
-abbrev pub left_out_in : Option Untried → Option SkipReason
-left_out_in (Some (untried.LeftOut why)) = Some why
-left_out_in other = None
 
 -- WHAT CAME IS WHAT WAS READ: these bytes were read from the stream, and stand behind what had come before
 pub record HearsMore (old new : StreamState) (before after : List ℕ) : Type 0 where

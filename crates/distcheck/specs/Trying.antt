@@ -1,13 +1,11 @@
 -- THE VERDICT OF A TALK, by those of its tries.
 use Rattle.std.specs.List.{list_any}
-use Rattle.std.specs.Prelude.{◌≡◌, Bool, if◌then◌else◌, List, [], ◌∷◌, map}
+use Rattle.std.specs.Prelude.{Bool, if◌then◌else◌, List, [], ◌∷◌, map}
 use Rattle.dist_conformance.specs.declared.verdicts.TalkVerdict.{TalkVerdict}
 use Rattle.dist_conformance.specs.declared.verdicts.TalkVerdict.TheVariants as verdict
 use Rattle.distcheck.specs.{Deciding.counts_first, Deciding.verdict_by_level, Playing.outcome_of, Seeing.is_refusal}
-use Rattle.distcheck.specs.declared.{left_out.SkipReason.SkipReason, queue.QueuedTalk.QueuedTalk, seen.PlayedStep.PlayedStep, seen.StepFact.StepFact}
+use Rattle.distcheck.specs.declared.{queue.QueuedTalk.QueuedTalk, seen.PlayedStep.PlayedStep}
 use Rattle.distcheck.specs.declared.tries.TalkTry.{TalkTry}
-use Rattle.distcheck.specs.declared.seen.StepFact.TheVariants as seen
-use Rattle.distcheck.specs.declared.seen.Untried.TheVariants as untried
 
 -- the verdict of one try, by what was seen in its steps
 abbrev pub try_verdict : QueuedTalk → List PlayedStep → TalkVerdict
@@ -16,14 +14,6 @@ try_verdict talk played = verdict_by_level talk.level (outcome_of talk.terms tal
 -- that of each try
 abbrev pub verdicts_of : QueuedTalk → List TalkTry → List TalkVerdict
 verdicts_of talk tries = map (λ (t : TalkTry). try_verdict talk t.played.items) tries
-
--- what was seen in its steps
-abbrev pub facts_of : TalkTry → List StepFact
-facts_of t = map (λ (p : PlayedStep). p.seen) t.played.items
-
--- A TALK THAT IS LEFT OUT for this reason has one try, and nothing was tried in it for that reason
-abbrev pub IsLeftOut : SkipReason → List TalkTry → Type 0
-IsLeftOut why tries = map facts_of tries ≡ (seen.Untried (untried.LeftOut why) ∷ []) ∷ []
 
 -- nobody listened in one of its steps
 abbrev pub was_refused : TalkTry → Bool

@@ -7,40 +7,55 @@ use dist_epmd_calls::LookupError;
 use dist_program::{CookieFault, HostError, WordFault};
 use std::alloc::{AllocError, AllocFailed};
 use std::fmt;
+use thiserror::Error;
 
 /// The exit status where the node or the port mapper was not reached, or is gone.
 pub const NOT_THERE: u8 = 3;
 
 /// What ends the program before its verdict. Its `Display` comes after `distcheck: ` on standard error.
-#[derive(Drop)]
+#[derive(Drop, Error)]
 pub enum Fault {
     /// Neither a node nor a port mapper is named.
+    #[error("bad command line: no NODE and no --mapper is named (distcheck --help)")]
     NothingNamed,
     /// `--tls-through` is given without a node, or with `--port`, `--make-it-dial` or `--start`.
+    #[error("bad command line: --tls-through goes with a NODE, and not with --port, --make-it-dial or --start")]
     TunnelAlone,
     /// A word of the command line, ERL_EPMD_PORT, or a line of a file of rows is bad: the sentence about it, safe to print.
+    #[error("{0}")]
     BadWord(String),
     /// The folder of the rows, or a file in it, could not be read: its name, safe to print.
+    #[error("ReadFailed: the rows {0}")]
     RowsUnread(String),
     /// There is no row that was asked for.
+    #[error("no row is asked for")]
     NoRow,
     /// The cookie's file gives no cookie, for this cause.
+    #[error("{0}")]
     NoCookie(CookieFault),
     /// The host has no address, for this cause.
+    #[error("NoHost: {}", .0.text())]
     NoHost(HostError),
     /// Somebody was not reached: who that is, in words.
+    #[error("ConnectFailed: {0}")]
     ConnectFailed(&'static str),
     /// The port mapper does not know the node, or did not answer.
+    #[error("{}: {}", .0.name(), .0)]
     NotFound(LookupError),
     /// From this talk on nobody took a connection any more.
+    #[error("ConnectFailed: nobody takes connections any more: from {0} on")]
     Gone(String),
     /// The system had no descriptor left.
+    #[error("NoDescriptors")]
     NoDescriptors,
     /// The system gave no time.
+    #[error("ReadFailed: the system's clock")]
     NoTime,
     /// The output could not be written.
+    #[error("WriteFailed")]
     WriteFailed,
     /// No memory was left.
+    #[error("NoMemory")]
     NoMemory,
 }
 
@@ -57,40 +72,11 @@ impl Fault {
             _ => 2,
         }
     }
-
-    // What is printed of one that has nothing but its cause.
-    fn text(&self) -> &str {
-        match self {
-            Fault::NothingNamed =>
-                "bad command line: no NODE and no --mapper is named (distcheck --help)",
-            Fault::TunnelAlone =>
-                "bad command line: --tls-through goes with a NODE, and not with --port, --make-it-dial or --start",
-            Fault::BadWord(sentence) => sentence.as_str(),
-            Fault::NoRow => "no row is asked for",
-            Fault::NoDescriptors => "NoDescriptors",
-            Fault::NoTime => "ReadFailed: the system's clock",
-            Fault::WriteFailed => "WriteFailed",
-            _ => "NoMemory",
-        }
-    }
 }
 
-impl fmt::Display for Fault {
+impl fmt::Debug for Fault {
     fn fmt<W: fmt::Write>(&self, f: &mut fmt::Formatter<W>) -> fmt::Result {
-        match self {
-            Fault::RowsUnread(name) => write!(f, "ReadFailed: the rows {name}"),
-            Fault::NoCookie(fault) => write!(f, "{fault}"),
-            Fault::NoHost(error) => write!(f, "NoHost: {}", error.text()),
-            Fault::ConnectFailed(who) => write!(f, "ConnectFailed: {who}"),
-            Fault::NotFound(error) => write!(f, "{}: {error}", error.name()),
-            Fault::Gone(talk) => {
-                write!(
-                    f,
-                    "ConnectFailed: nobody takes connections any more: from {talk} on"
-                )
-            }
-            other => f.write_str(other.text()),
-        }
+        write!(f, "{self}")
     }
 }
 

@@ -151,10 +151,7 @@ fn cookie_for(rt: &HostRuntime, order: &CheckOrder<'_>) -> Result<Cookie, Fault>
     if order.node.is_some() {
         return Ok(find_cookie(rt, order.cookie_file, order.is_unsafe)?);
     }
-    match Cookie::from_bytes(rt.alloc(), b"none") {
-        Ok(cookie) => Ok(cookie),
-        Err(_) => Err(Fault::NoMemory),
-    }
+    Cookie::from_bytes(rt.alloc(), b"none").or(Err(Fault::NoMemory))
 }
 
 // Checks a node, a port mapper, or both.
@@ -233,7 +230,7 @@ fn put_report<'a>(
     let alloc = rt.alloc();
     let gone = gone_in(&suite.talks);
     let rows = rows_of(alloc, &suite.talks)?;
-    let exit = exit_of(alloc, &suite.talks, order.strict)?;
+    let exit = exit_of(&suite.talks, order.strict);
     let text = if order.json {
         let exit = if gone.is_some() { NOT_THERE } else { exit };
         objects_of(alloc, suite, &rows, exit)?

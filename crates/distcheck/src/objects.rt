@@ -3,7 +3,7 @@
 use crate::results::{PlayedRow, VERDICTS, count_in, count_left_out};
 use crate::running::PlayedSuite;
 use crate::transcript::{TranscriptLine, digits_of, lines_of};
-use crate::tries::{PlayedTalk, TalkTry};
+use crate::tries::{PlayedTalk, ShownTry};
 use dist_names::escape;
 use json::Writer;
 use std::alloc::{AllocError, Global};
@@ -65,17 +65,20 @@ impl ObjectWriter {
         self.out.end_object()
     }
 
-    // Writes the verdicts of all tries, and the transcript of one, as members.
-    fn put_lists(&mut self, played: &PlayedTalk<'_>, one: &TalkTry) -> Result<(), AllocError> {
+    // Writes the verdicts of all tries, and the transcript of one, as members. A talk that is left out has its own verdict in their place.
+    fn put_lists(&mut self, played: &PlayedTalk<'_>, one: &ShownTry<'_>) -> Result<(), AllocError> {
         self.out.key("tries")?;
         self.out.begin_array()?;
         for it in &played.tries {
             self.out.string(it.verdict.name())?;
         }
+        if played.tries.is_empty() {
+            self.out.string(played.verdict().name())?;
+        }
         self.out.end_array()?;
         self.out.key("transcript")?;
         self.out.begin_array()?;
-        for line in &lines_of(self.alloc, played.steps(), &one.played)? {
+        for line in &lines_of(self.alloc, played.steps(), one.played)? {
             self.put_line(line)?;
         }
         self.out.end_array()
@@ -91,7 +94,7 @@ impl ObjectWriter {
     }
 
     // Writes what became of a talk, of which this try is shown, as members.
-    fn put_talk(&mut self, played: &PlayedTalk<'_>, one: &TalkTry) -> Result<(), AllocError> {
+    fn put_talk(&mut self, played: &PlayedTalk<'_>, one: &ShownTry<'_>) -> Result<(), AllocError> {
         self.put_text("verdict", played.verdict().name())?;
         let came = played.arrival_text(one)?;
         self.put_text("came", &came)?;
@@ -129,12 +132,10 @@ pub fn objects_of(
 ) -> Result<String, AllocError> {
     let mut lines = String::new(alloc);
     for played in &suite.talks {
-        if let Some(one) = played.shown_try() {
-            let mut object = ObjectWriter::begin(alloc, "talk")?;
-            object.put_label(played)?;
-            object.put_talk(played, one)?;
-            object.end(&mut lines)?;
-        }
+        let mut object = ObjectWriter::begin(alloc, "talk")?;
+        object.put_label(played)?;
+        object.put_talk(played, &played.shown_try())?;
+        object.end(&mut lines)?;
     }
     summary_of(alloc, suite, rows, exit)?.end(&mut lines)?;
     Ok(lines)

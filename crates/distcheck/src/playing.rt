@@ -1,14 +1,14 @@
 //! Plays one talk: connects, says, and listens. What is seen in each step is kept, and judged.
 
-ghost use Rattle.std.specs.Prelude.{◌≡◌, ◌<◌, ◌∷◌, [], length, IfOk, OnOk};
+ghost use Rattle.std.specs.Prelude.{◌≡◌, ◌<◌, [], length, IfOk, OnOk};
 ghost use Rattle.distcheck.specs.Deciding.{verdict_by_level};
 ghost use Rattle.distcheck.specs.Playing.{standing_of, standing_after};
-ghost use Rattle.distcheck.specs.Trying.{facts_of, try_verdict};
+ghost use Rattle.distcheck.specs.Trying.{try_verdict};
 
 use crate::calls::{CallPlaces, OwnPort};
 use crate::fault::Fault;
 use crate::queue::QueuedTalk;
-use crate::seen::{PlayedStep, StepFact, Untried};
+use crate::seen::{PlayedStep, StepFact};
 use crate::standing::TalkState;
 use crate::talk_link::{SocketLink, TalkLink};
 use crate::tries::TalkTry;
@@ -92,7 +92,7 @@ impl<'a> TalkPlay<'a> {
         is_tunnelled: bool,
     ) -> Result<StepFact, Fault> {
         let Some(address) = address else {
-            return Ok(StepFact::Untried(Untried::Nobody("nobody to connect to")));
+            return Ok(StepFact::Untried("nobody to connect to"));
         };
         let mut seen = StepFact::Made;
         for _ in 0..CONNECTS {
@@ -133,7 +133,7 @@ impl<'a> TalkPlay<'a> {
     fn order_dial(&mut self, info: &NodeInfo) -> Result<Option<StepFact>, Fault> {
         let rt = self.setting.rt;
         let Some(places) = self.setting.call else {
-            return Ok(Some(StepFact::Untried(Untried::Nobody("nobody makes the node dial"))));
+            return Ok(Some(StepFact::Untried("nobody makes the node dial")));
         };
         if self.own.is_none() {
             self.own = OwnPort::register(rt, &places.mapper, info)?;
@@ -149,7 +149,7 @@ impl<'a> TalkPlay<'a> {
     fn order_start(&mut self) -> Result<Option<StepFact>, Fault> {
         let rt = self.setting.rt;
         let Some(orders) = self.setting.start else {
-            return Ok(Some(StepFact::Untried(Untried::Nobody("nobody starts the node"))));
+            return Ok(Some(StepFact::Untried("nobody starts the node")));
         };
         self.own = OwnPort::open(rt, &orders).ok();
         let Some(own) = &mut self.own else {
@@ -302,21 +302,20 @@ pub fn play<'a>(setting: &Setting<'a>, queued: &QueuedTalk<'a>) -> Result<TalkTr
     })
 }
 
-/// A talk that is not tried for this reason.
+/// One try of a talk that there is nobody to try it with, in these words.
 #[tactic(auto, using(crate::proofs::Steps::nothing_tried))]
-pub fn leave_out(
+pub fn try_with_nobody(
     alloc: Global,
     queued: &QueuedTalk<'_>,
-    why: Untried,
+    why: &'static str,
 ) -> Result<TalkTry, AllocError>
-    ensures verdict { IfOk result (λ one. one.verdict ≡ try_verdict queued.now one.played.items) }
-    ensures seen { IfOk result (λ one. facts_of one ≡ StepFact.Untried why ∷ []) }
+    ensures { IfOk result (λ one. one.verdict ≡ try_verdict queued.now one.played.items) }
 {
     let seen = StepFact::Untried(why);
     Ok(TalkTry {
         played: vec![in alloc; PlayedStep { at: 0, seen }]?,
         verdict: TalkVerdict::Skipped,
-        why: why.text().to_owned(alloc)?,
+        why: why.to_owned(alloc)?,
         took: 0,
     })
 }

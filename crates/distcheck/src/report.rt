@@ -2,11 +2,11 @@
 
 use crate::command::{CheckOrder, command_of};
 use crate::explaining::push_text;
-use crate::results::{PlayedRow, VERDICTS, conform, count_in, count_left_out};
+use crate::results::{PlayedRow, VERDICTS, conform, count_in, count_left_out, count_of_level};
 use crate::running::PlayedSuite;
 use crate::transcript::{TranscriptLine, digits_of, lines_of};
-use crate::tries::TalkTry;
-use dist_conformance::{Level, RowResult, TalkVerdict, count_of, status};
+use crate::tries::ShownTry;
+use dist_conformance::{Level, TalkVerdict, is_counted};
 use dist_names::escape;
 use std::alloc::{AllocError, Global};
 use std::fmt::Write;
@@ -65,9 +65,9 @@ impl Report<'_> {
     }
 
     // Adds what was said and came in a talk, the step that was not kept, and what came in its place.
-    fn put_try(&mut self, row: &PlayedRow<'_>, one: &TalkTry) -> Result<(), AllocError> {
+    fn put_try(&mut self, row: &PlayedRow<'_>, one: &ShownTry<'_>) -> Result<(), AllocError> {
         let shown = row.shown;
-        for line in &lines_of(self.alloc, shown.steps(), &one.played)? {
+        for line in &lines_of(self.alloc, shown.steps(), one.played)? {
             self.put_said(line)?;
         }
         self.text.push_str("        step    ")?;
@@ -83,7 +83,7 @@ impl Report<'_> {
         self.text.push_str("        source  ")?;
         self.put(queued.row.source.as_slice())?;
         self.text.push_str("\n")?;
-        if row.result.verdict != TalkVerdict::Deviates {
+        if row.verdict() != TalkVerdict::Deviates {
             return Ok(());
         }
         let id = queued.row.id.as_slice();
@@ -119,24 +119,22 @@ impl Report<'_> {
 
     // Adds a block for a row that deviates, is loose or was blocked.
     fn put_row(&mut self, row: &PlayedRow<'_>) -> Result<(), AllocError> {
-        let mark = match row.result.verdict {
+        let mark = match row.verdict() {
             TalkVerdict::Deviates => 'x',
             TalkVerdict::Loose => '~',
             TalkVerdict::Blocked => '.',
             _ => return Ok(()),
         };
         self.put_heading(row, mark)?;
-        if let Some(one) = row.shown.shown_try() {
-            self.put_try(row, one)?;
-        }
+        self.put_try(row, &row.shown.shown_try())?;
         self.put_source(row)
     }
 
     // Adds how many rows of each level deviate and are loose.
-    fn put_levels(&mut self, results: &[RowResult]) -> Result<(), AllocError> {
+    fn put_levels(&mut self, rows: &[PlayedRow<'_>]) -> Result<(), AllocError> {
         for level in &LEVELS {
-            let deviating = count_of(results, *level, TalkVerdict::Deviates);
-            let loose = count_of(results, *level, TalkVerdict::Loose);
+            let deviating = count_of_level(rows, *level, TalkVerdict::Deviates);
+            let loose = count_of_level(rows, *level, TalkVerdict::Loose);
             let level = level.name();
             write!(self.text, "{level}: deviates {deviating}, loose {loose}; ")?;
         }
@@ -148,9 +146,9 @@ impl Report<'_> {
         let order = self.order;
         for row in rows {
             let is_named = if counted {
-                status(&[row.result], order.strict) != 0
+                is_counted(row.level, row.verdict(), order.strict)
             } else {
-                row.result.verdict == TalkVerdict::Deviates
+                row.verdict() == TalkVerdict::Deviates
             };
             if is_named {
                 self.text.push_str(" ")?;
@@ -218,8 +216,7 @@ pub fn report_of(
     for row in rows {
         report.put_row(row)?;
     }
-    let results: Vec<RowResult> = rows.iter().map(|row| row.result).collect(alloc)?;
-    report.put_levels(&results)?;
+    report.put_levels(rows)?;
     report.put_counts(rows)?;
     report.put_outcome(rows, suite.rows, exit)?;
     Ok(report.text)

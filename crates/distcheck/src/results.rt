@@ -1,12 +1,12 @@
 //! What became of each row, and of all of them.
 
-ghost use Rattle.std.specs.Prelude.{◌≡◌, map, option_copied, option_map, IfOk, All};
-ghost use Rattle.std.specs.List.{find, flat_map};
-ghost use Rattle.distcheck.specs.Played.{exit_of, met_nobody, played_verdict, result_of};
-ghost use Rattle.distcheck.specs.Rows.{conform, count_in, count_left_out, IsRow};
+ghost use Rattle.std.specs.Prelude.{◌≡◌, option_copied, option_map, IfOk, All, Contains};
+ghost use Rattle.std.specs.List.{find, flat_map, list_any};
+ghost use Rattle.distcheck.specs.Played.{exit_of, is_counted_talk, met_nobody};
+ghost use Rattle.distcheck.specs.Rows.{conform, count_of_level, count_in, count_left_out, row_verdict, IsRow};
 
 use crate::tries::PlayedTalk;
-use dist_conformance::{RowResult, Section, TalkVerdict, status, worst};
+use dist_conformance::{Level, Section, TalkVerdict, is_counted};
 use std::alloc::{AllocError, Global};
 
 /// The verdicts, in the order in which they are counted.
@@ -24,10 +24,10 @@ pub const VERDICTS: [TalkVerdict; 6] = [
 pub struct PlayedRow<'a> {
     /// Its talks.
     pub talks: &'a [PlayedTalk<'a>],
-    /// The first of them that has the row's verdict.
+    /// The first of them with the worst verdict of all.
     pub shown: &'a PlayedTalk<'a>,
-    /// The level of the row, and the worst verdict of its talks.
-    pub result: RowResult,
+    /// Its level.
+    pub level: Level,
 }
 
 impl<'a> PlayedRow<'a> {
@@ -43,9 +43,16 @@ impl<'a> PlayedRow<'a> {
         &shown.queued.file.section
     }
 
+    /// Its verdict: the worst of its talks.
+    pub fn verdict(&self) -> TalkVerdict
+        ensures { result ≡ row_verdict self.now }
+    {
+        self.shown.verdict()
+    }
+
     /// How many of its talks have its verdict.
     pub fn count(&self) -> usize {
-        let verdict = self.result.verdict;
+        let verdict = self.verdict();
         self.talks
             .iter()
             .filter(|talk| talk.verdict() == verdict)
@@ -53,36 +60,38 @@ impl<'a> PlayedRow<'a> {
     }
 }
 
-fn verdicts_of(alloc: Global, talks: &[PlayedTalk<'_>]) -> Result<Vec<TalkVerdict>, AllocError>
-    ensures { IfOk result (λ vs. vs.items ≡ map played_verdict talks.now) }
-{
-    talks.iter().map(|talk| talk.verdict()).collect(alloc)
-}
-
 // The row of these talks, of which this is the first.
-fn row_of<'a>(
-    alloc: Global,
-    talks: &'a [PlayedTalk<'a>],
-    first: &'a PlayedTalk<'a>,
-) -> Result<PlayedRow<'a>, AllocError>
-    ensures { IfOk result (λ row. (row.talks.now ≡ talks.now) × IsRow row) }
+fn row_of<'a>(talks: &'a [PlayedTalk<'a>], first: &'a PlayedTalk<'a>) -> PlayedRow<'a>
+    requires { Contains talks.now first.now }
+    ensures talks { result.talks.now ≡ talks.now }
+    ensures row { IsRow result }
 {
-    let level = first.queued.level;
-    let verdict = worst(&verdicts_of(alloc, talks)?);
-    let shown = talks.iter().find(|talk| talk.verdict() == verdict);
-    Ok(PlayedRow {
+    let mut shown = first;
+    for talk in talks {
+        if shown.verdict().rank() < talk.verdict().rank() {
+            shown = talk;
+        }
+    }
+    PlayedRow {
         talks,
-        shown: shown.unwrap_or(first),
-        result: RowResult { level, verdict },
-    })
+        shown,
+        level: first.queued.level,
+    }
 }
 
 /// How many of these rows have this verdict.
 pub fn count_in(rows: &[PlayedRow<'_>], verdict: TalkVerdict) -> usize
     ensures { result ≡ count_in rows.now verdict }
 {
+    rows.iter().filter(|row| row.verdict() == verdict).count()
+}
+
+/// How many of these rows are of this level and have this verdict.
+pub fn count_of_level(rows: &[PlayedRow<'_>], level: Level, verdict: TalkVerdict) -> usize
+    ensures { result ≡ count_of_level rows.now level verdict }
+{
     rows.iter()
-        .filter(|row| row.result.verdict == verdict)
+        .filter(|row| row.level == level && row.verdict() == verdict)
         .count()
 }
 
@@ -122,30 +131,28 @@ pub fn rows_of<'a>(
     let mut rows = Vec::new(alloc);
     for talks in played.chunk_by(|one, other| one.queued.row.id == other.queued.row.id) {
         if let Some(first) = talks.first() {
-            rows.push(row_of(alloc, talks, first)?)?;
+            rows.push(row_of(talks, first))?;
         }
     }
     Ok(rows)
 }
 
-fn result_of(played: &PlayedTalk<'_>) -> RowResult
-    ensures { result ≡ result_of played.now }
+// Whether a talk makes the exit status 1.
+fn is_counted_talk(played: &PlayedTalk<'_>, strict: bool) -> bool
+    ensures { result ≡ is_counted_talk strict played.now }
 {
-    RowResult {
-        level: played.queued.level,
-        verdict: played.verdict(),
-    }
+    is_counted(played.queued.level, played.verdict(), strict)
 }
 
-fn results_of(alloc: Global, played: &[PlayedTalk<'_>]) -> Result<Vec<RowResult>, AllocError>
-    ensures { IfOk result (λ rs. rs.items ≡ map result_of played.now) }
+fn is_any_counted(played: &[PlayedTalk<'_>], strict: bool) -> bool
+    ensures { result ≡ list_any (is_counted_talk strict) played.now }
 {
-    played.iter().map(|talk| result_of(talk)).collect(alloc)
+    played.iter().any(|talk| is_counted_talk(talk, strict))
 }
 
 /// The exit status, by these talks. With `strict` every level counts.
-pub fn exit_of(alloc: Global, played: &[PlayedTalk<'_>], strict: bool) -> Result<u8, AllocError>
-    ensures { IfOk result (λ exit. exit ≡ exit_of strict played.now) }
+pub fn exit_of(played: &[PlayedTalk<'_>], strict: bool) -> u8
+    ensures { result ≡ exit_of strict played.now }
 {
-    Ok(status(&results_of(alloc, played)?, strict))
+    u8::from(is_any_counted(played, strict))
 }

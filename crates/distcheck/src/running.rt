@@ -3,13 +3,12 @@
 
 ghost use Rattle.std.specs.Prelude.{◌≡◌, ◌<◌, ◌++◌, vec_len, IfOk, OnOk};
 ghost use Rattle.distcheck.specs.Lanes.{all_in, lane_at, lanes_in, lanes_of, queued_talks};
-ghost use Rattle.distcheck.specs.{Played.talks_of, Seeing.left_out_in, Trying.try_verdict};
+ghost use Rattle.distcheck.specs.{Played.talks_of, Trying.try_verdict};
 
 use crate::fault::Fault;
 use crate::lane::LaneReply;
-use crate::playing::{Setting, leave_out, play};
+use crate::playing::{Setting, play, try_with_nobody};
 use crate::queue::{QueuedTalk, TalkQueue, queue_of};
-use crate::seen::Untried;
 use crate::tries::{PlayedTalk, TalkTry};
 use crate::wanted::WantedTalks;
 use dist_conformance::{Level, SectionKind, TalkVerdict};
@@ -108,20 +107,15 @@ impl<'a> TalkCrew<'a> {
         }
     }
 
-    // Why a talk is not tried, if it is not.
-    fn reason_to_skip(&self, queued: &QueuedTalk<'_>) -> Option<Untried>
-        ensures { queued.now.left_out ≡ left_out_in result }
-    {
+    // Why there is nobody to try a talk with, if there is not.
+    fn reason_to_skip(&self, queued: &QueuedTalk<'_>) -> Option<&'static str> {
         let silent = if self.is_serial { SILENT_ALONE } else { SILENT };
-        match queued.left_out {
-            Some(why) => Some(Untried::LeftOut(why)),
-            None if self.is_gone.load(Ordering::SeqCst) => {
-                Some(Untried::Nobody("nobody listens any more"))
-            }
-            None if self.partner(queued).is_silent(silent) => {
-                Some(Untried::Nobody("nothing came in any talk"))
-            }
-            None => None,
+        if self.is_gone.load(Ordering::SeqCst) {
+            Some("nobody listens any more")
+        } else if self.partner(queued).is_silent(silent) {
+            Some("nothing came in any talk")
+        } else {
+            None
         }
     }
 
@@ -145,8 +139,9 @@ impl<'a> TalkCrew<'a> {
             return Ok(played);
         };
         sleep(self.setting.rt, self.setting.breath());
-        let one = self.play_once(&played.queued)?;
-        Ok(played.with(one)?)
+        let PlayedTalk { queued, mut tries } = played;
+        tries.push(self.play_once(&queued)?)?;
+        Ok(PlayedTalk { queued, tries })
     }
 
     // Plays a talk again, if a second try may come to more. As long as nothing was ever heard it does not.
@@ -160,19 +155,27 @@ impl<'a> TalkCrew<'a> {
         self.play_again(played)
     }
 
+    // The first try of a talk.
+    fn first_try(&self, queued: &QueuedTalk<'a>) -> Result<TalkTry, Fault>
+        ensures { IfOk result (λ one. one.verdict ≡ try_verdict queued.now one.played.items) }
+    {
+        match self.reason_to_skip(queued) {
+            Some(why) => Ok(try_with_nobody(self.setting.rt.alloc(), queued, why)?),
+            None => self.play_once(queued),
+        }
+    }
+
     // Plays a talk, or leaves it out.
-    #[tactic(auto, using(crate::proofs::Steps::left_out_try, crate::proofs::Steps::played_try))]
     fn perform(&self, queued: &QueuedTalk<'a>) -> Result<PlayedTalk<'a>, Fault>
         ensures { IfOk result (λ it. it.queued ≡ queued.now) }
     {
-        let alloc = self.setting.rt.alloc();
-        match self.reason_to_skip(queued) {
-            Some(why) => Ok(PlayedTalk::new(alloc, queued, leave_out(alloc, queued, why)?)?),
-            None => {
-                let one = self.play_once(queued)?;
-                self.play_bad_again(PlayedTalk::new(alloc, queued, one)?)
-            }
+        let queued = *queued;
+        let mut tries = Vec::new(self.setting.rt.alloc());
+        if queued.left_out.is_some() {
+            return Ok(PlayedTalk { queued, tries });
         }
+        tries.push(self.first_try(&queued)?)?;
+        self.play_bad_again(PlayedTalk { queued, tries })
     }
 
     fn play_lane(&self, lane: &[QueuedTalk<'a>]) -> Result<Vec<PlayedTalk<'a>>, Fault>

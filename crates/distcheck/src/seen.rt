@@ -3,7 +3,6 @@
 ghost use Rattle.std.specs.Prelude.{◌≡◌};
 ghost use Rattle.distcheck.specs.Seeing.{end_of, is_refusal};
 
-use crate::left_out::SkipReason;
 use dist_names::ByteString;
 
 /// What became of the peer's side of a connection.
@@ -58,25 +57,6 @@ pub struct HeardBytes {
     pub timing: Timing,
 }
 
-/// Why nothing is tried.
-#[derive(Clone, Copy)]
-pub enum Untried {
-    /// The talk is left out.
-    LeftOut(SkipReason),
-    /// There is nobody to try it with, in these words.
-    Nobody(&'static str),
-}
-
-impl Untried {
-    /// In words.
-    pub fn text(self) -> &'static str {
-        match self {
-            Untried::LeftOut(why) => why.text(),
-            Untried::Nobody(text) => text,
-        }
-    }
-}
-
 /// What is seen in a step.
 #[derive(Drop)]
 pub enum StepFact {
@@ -92,8 +72,8 @@ pub enum StepFact {
     Refused,
     /// The message has no more bytes than the step cuts it to.
     Unsaid,
-    /// Nothing was tried, for this reason: the talk is skipped.
-    Untried(Untried),
+    /// There is nobody to try it with, in these words: the talk is skipped.
+    Untried(&'static str),
     /// The step was not made, for this reason: the talk is blocked.
     Failed(&'static str),
 }

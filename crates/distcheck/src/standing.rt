@@ -242,7 +242,7 @@ impl<'a> TalkState<'a> {
             StepFact::Came => self.end(TalkVerdict::Deviates, "the node connects"),
             StepFact::Refused => self.end(TalkVerdict::Blocked, "no connection was taken"),
             StepFact::Unsaid => self.end(TalkVerdict::Skipped, UNSAID),
-            StepFact::Untried(why) => self.end(TalkVerdict::Skipped, why.text()),
+            StepFact::Untried(why) => self.end(TalkVerdict::Skipped, why),
             StepFact::Failed(why) => self.end(TalkVerdict::Blocked, why),
         }
     }

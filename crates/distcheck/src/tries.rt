@@ -1,14 +1,14 @@
 //! A talk, and what became of it in each of its tries.
 
-ghost use Rattle.std.specs.Prelude.{◌≡◌, ◌<◌, ◌∷◌, [], length, IfOk, None};
-ghost use Rattle.std.specs.{List.list_any, Option.ForSome};
-ghost use Rattle.distcheck.specs.Trying.{IsLeftOut, told_verdicts, verdict_of_two, verdict_alone, tries_verdict, try_verdict, verdicts_of, was_refused};
+ghost use Rattle.std.specs.Prelude.{◌≡◌, ◌<◌, [], length};
+ghost use Rattle.std.specs.{List.list_any, Option.ForNone, Option.ForSome};
+ghost use Rattle.distcheck.specs.Trying.{told_verdicts, verdict_of_two, verdict_alone, tries_verdict, verdicts_of, was_refused};
 ghost use Rattle.distcheck.specs.Deciding.{counts_first};
 
 use crate::queue::QueuedTalk;
 use crate::seen::{PlayedStep, StepFact};
 use dist_conformance::{TalkStep, TalkVerdict};
-use std::alloc::{AllocError, Global};
+use std::alloc::AllocError;
 
 /// One try of a talk.
 #[derive(Drop)]
@@ -45,19 +45,30 @@ impl TalkTry {
     }
 }
 
-/// A talk, and all of its tries: two beside other talks, and two more alone where it deviates in these.
+/// A talk, and all of its tries: none where it is left out. Else up to two beside other talks, and two more alone where it deviates in these.
 #[derive(Drop)]
 pub struct PlayedTalk<'a> {
     /// The talk.
     pub queued: QueuedTalk<'a>,
     /// Its tries, in order.
     pub tries: Vec<TalkTry>,
-    // There is one at least.
-    pub ghost tried: { 0 < length tries.items },
+    // Nothing is tried of a talk that is left out.
+    pub ghost left_out: { ForSome queued.left_out (λ why. tries.items ≡ []) },
+    // Any other has a try.
+    pub ghost tried: { ForNone queued.left_out (0 < length tries.items) },
     // The verdict of each is the judgement of what was seen in it.
     pub ghost judged: { told_verdicts tries.items ≡ verdicts_of queued tries.items },
-    // Nothing is tried of a talk that is left out.
-    pub ghost left_out: { ForSome queued.left_out (λ why. IsLeftOut why tries.items) },
+}
+
+/// What is shown of a talk: one of its tries, or why it is left out.
+#[derive(Clone, Copy)]
+pub struct ShownTry<'p> {
+    /// What was seen in its steps, as far as they were made.
+    pub played: &'p [PlayedStep],
+    /// In words, what came and is not what was wanted, or why the talk was not tried.
+    pub why: &'p str,
+    /// How many milliseconds it took.
+    pub took: u32,
 }
 
 // Whether the first of two tries counts: what deviates is not blocked by a second try, which may meet what the first left behind.
@@ -105,40 +116,7 @@ fn tries_verdict(tries: &[TalkTry]) -> TalkVerdict
 }
 
 impl<'a> PlayedTalk<'a> {
-    /// A talk, and its first try.
-    pub fn new(
-        alloc: Global,
-        queued: &QueuedTalk<'a>,
-        first: TalkTry,
-    ) -> Result<PlayedTalk<'a>, AllocError>
-        // `play` and `leave_out` say so of what they return.
-        requires judged { first.verdict ≡ try_verdict queued.now first.played.items }
-        // What is left out is not played.
-        requires left_out { ForSome queued.now.left_out (λ why. IsLeftOut why (first ∷ [])) }
-        ensures { IfOk result (λ it. it.queued ≡ queued.now) }
-    {
-        Ok(PlayedTalk {
-            queued: *queued,
-            tries: vec![in alloc; first]?,
-        })
-    }
-
-    /// The talk with one more try.
-    #[tactic(auto, using(crate::proofs::Steps::played_try))]
-    pub fn with(mut self, one: TalkTry) -> Result<PlayedTalk<'a>, AllocError>
-        // `play` says so of what it returns.
-        requires judged { one.verdict ≡ try_verdict self.queued one.played.items }
-        // What is left out is not played.
-        requires played { self.queued.left_out ≡ None }
-        ensures { IfOk result (λ it. it.queued ≡ self.entry.queued) }
-    {
-        let PlayedTalk { queued, mut tries } = self;
-        tries.push(one)?;
-        Ok(PlayedTalk { queued, tries })
-    }
-
     /// The verdict of the talk.
-    #[tactic(auto, using(crate::proofs::Steps::left_out_verdict))]
     pub fn verdict(&self) -> TalkVerdict
         ensures verdict { result ≡ tries_verdict (verdicts_of self.now.queued self.now.tries.items) }
         ensures left_out { ForSome self.now.queued.left_out (λ why. result ≡ TalkVerdict.Skipped) }
@@ -160,12 +138,13 @@ impl<'a> PlayedTalk<'a> {
             .map_or(TalkVerdict::Skipped, |one| one.verdict)
     }
 
-    /// In words, what came in this try.
-    pub fn arrival_text(&self, one: &TalkTry) -> Result<String, AllocError> {
+    /// In words, what came in this try, or why the talk is left out.
+    pub fn arrival_text(&self, one: &ShownTry<'_>) -> Result<String, AllocError> {
+        let alloc = *self.tries.allocator();
         if self.tries.len() > 2 && self.verdict() == TalkVerdict::Loose {
-            format!(in *one.why.allocator(); "only beside other talks: {}", one.why)
+            format!(in alloc; "only beside other talks: {}", one.why)
         } else {
-            one.why.clone()
+            one.why.to_owned(alloc)
         }
     }
 
@@ -176,20 +155,32 @@ impl<'a> PlayedTalk<'a> {
     }
 
     /// The step that decided: the last that was made in this try, as the row has it.
-    pub fn demand_text(&self, one: &TalkTry) -> &'a [u8] {
+    pub fn demand_text(&self, one: &ShownTry<'_>) -> &'a [u8] {
         match self.steps().get(one.played.len().saturating_sub(1)) {
             Some(step) => step.text.as_slice(),
             None => &[],
         }
     }
 
-    /// The try that is shown: the last that deviates, where one counts that does, and else the last.
-    pub fn shown_try(&self) -> Option<&TalkTry> {
+    /// The try that is shown: the last that deviates, where one counts that does, and else the last. Of a talk that is left out, the reason.
+    pub fn shown_try(&self) -> ShownTry<'_> {
         let counts = matches!(self.verdict(), TalkVerdict::Deviates | TalkVerdict::Loose);
         let deviates = |one: &&TalkTry| one.verdict == TalkVerdict::Deviates;
-        match self.tries.iter().rfind(deviates) {
+        let shown = match self.tries.iter().rfind(deviates) {
             Some(one) if counts => Some(one),
             _ => self.tries.last(),
+        };
+        match shown {
+            Some(one) => ShownTry {
+                played: &one.played,
+                why: &one.why,
+                took: one.took,
+            },
+            None => ShownTry {
+                played: &[],
+                why: self.queued.left_out.map_or("", |why| why.text()),
+                took: 0,
+            },
         }
     }
 }

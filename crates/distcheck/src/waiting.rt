@@ -16,18 +16,13 @@ use std::time::{Duration, Instant};
 
 /// How many milliseconds ago this was.
 pub fn milliseconds_since(rt: &HostRuntime, since: Instant) -> Result<u32, Fault> {
-    match since.elapsed(rt) {
-        Ok(time) => Ok(u32::try_from(time.as_millis()).unwrap_or(u32::MAX)),
-        Err(_) => Err(Fault::NoTime),
-    }
+    let time = since.elapsed(rt).or(Err(Fault::NoTime))?;
+    Ok(u32::try_from(time.as_millis()).unwrap_or(u32::MAX))
 }
 
 /// Now.
 pub fn now(rt: &HostRuntime) -> Result<Instant, Fault> {
-    match Instant::now(rt) {
-        Ok(now) => Ok(now),
-        Err(_) => Err(Fault::NoTime),
-    }
+    Instant::now(rt).or(Err(Fault::NoTime))
 }
 
 // Whether a step that listens is over: by the judgement of what it demands, or by time alone where it tells.

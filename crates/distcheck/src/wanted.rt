@@ -14,7 +14,7 @@ use crate::playing::Setting;
 use crate::queue::QueuedTalk;
 use crate::standing::JudgingTerms;
 use crate::suite::SuiteFile;
-use dist_conformance::{Level, RowTalk, SectionKind, SuiteRow};
+use dist_conformance::{Level, RowTalk, SectionKind, SuiteRow, first_part};
 use dist_names::{is_same_text, number_32};
 use std::alloc::{AllocError, Global};
 
@@ -91,24 +91,13 @@ fn is_named_by(queued: &QueuedTalk<'_>, word: &[u8]) -> bool
         || is_number(word, queued.file.section.number)
 }
 
-// The first of these words, and those behind its comma.
-fn first_word(words: &[u8]) -> (&[u8], Option<&[u8]>)
-    ensures parts { parts_of 44 words.now ≡ result.0.now ∷ parts_in 44 (option_copied result.1) }
-    ensures fewer { bytes_left (option_copied result.1) ≤ length words.now }
-{
-    match words.iter().position(|byte| *byte == b',') {
-        Some(place) => (&words[..place], Some(&words[place + 1..])),
-        None => (words, None),
-    }
-}
-
 // Whether one of these words, with commas between them, names a talk.
 fn is_named_in(queued: &QueuedTalk<'_>, words: &[u8]) -> bool
     ensures { result ≡ list_any (is_named_by (as_wanted queued.now)) (parts_of 44 words.now) }
 {
     let mut rest = Some(words);
     while let Some(words) = rest {
-        let (word, behind) = first_word(words);
+        let (word, behind) = first_part(words, b',');
         if is_named_by(queued, word) {
             return true;
         }
