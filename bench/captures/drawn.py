@@ -197,6 +197,18 @@ def late_copies(line):
 
 
 @play
+def doubted(line):
+    """Somebody else resets the connection in the name of b, behind the reply of a. What b itself answers is lost; a tick of it comes then."""
+    dial = line.dial(1, 2, 5012)
+    dial.begin(A)
+    dial.say("a", challenge(FLAGS, 17, 2, B))
+    dial.say("d", reply(b"secret", 17, 18))
+    dial.send("a", RESET | ACK)
+    dial.next["a"] += len(ack(b"secret", 18))
+    dial.say("a", bytes(4))
+
+
+@play
 def mapper(line):
     """What a port mapper is asked: to register two nodes of one name, for a node that is not there, for all names."""
     first = register(line, b"b", 5012, registered(2))

@@ -1,20 +1,19 @@
 -- What a register stands for.
-use Rattle.std.proofs.Common.{◌≡◌, inl, inr, ℕ, ◌<◌, Bool, true, false, cond, eqb, List, [], ◌∷◌, ◌++◌, length, get_or, Option, Some, None, is_some, IsSome, Result, Ok, Err, OnOk, refl, sym, ap, subst, ◌∙◌, arith, append_assoc, append-nil, take, drop, drop_of_length-le}
+use Rattle.std.proofs.Common.{◌≡◌, ◌⊎◌, inl, inr, ℕ, ◌<◌, Option, Some, None, Bool, true, false, ◌||◌, cond, eqb, List, [], ◌∷◌, ◌++◌, length, get_or, refl, sym, ap, subst, ◌∙◌, arith, append_assoc, append-nil, take, drop, drop_of_length-le}
 use Rattle.std.proofs.lemmas.List.{take_all}
-use Rattle.std.proofs.lemmas.Bool.{false≢true}
-use Rattle.std.specs.List.{remove}
+use Rattle.std.specs.{List.Contains, List.remove}
+use Rattle.std.specs.Prelude.{if◌then◌else◌}
+use Rattle.dist_messages.specs.declared.message.Side.{TheVariants.Dialler}
 use Rattle.dist_talk.specs.{Words.status_of, declared.terms.Terms.Terms, declared.verdict.HandshakeVerdict.HandshakeVerdict}
 use Rattle.dist_capture.specs.declared.segment.{Endpoint.Endpoint, Segment.Segment}
-use Rattle.distping_capture.specs.{Attempts.verdict_on, Captures.CountsTo, Carried.IsShown, Crossings.Meets, Endings.IsConcluded, Flows.IsGone}
-use Rattle.distping_capture.specs.Connections.{Follows, IsAttempt, IsNew, Judges, SameConnection, SameEnds, SaysNoMore}
-use Rattle.distping_capture.specs.Exits.{Adds, AddsOf, Closes, ClosesAs, Counts, CountsBy, GoesOnCounting, GoesOnWatching, History, IsExit, IsJudged, IsOfTalk}
-use Rattle.distping_capture.specs.Exits.{NextAttempt, NoAttempt, Notes, NotesBy, NotesOnce, SameAttempts, StandsFor, StandsStill, TakesOn, Watches, exit_of, first_exit}
-use Rattle.distping_capture.specs.Printing.{PrintsEnd, PrintsNoted, is_talk}
-use Rattle.distping_report.specs.Sinks.{SinkState}
-use Rattle.distping_capture.specs.declared.{connection.CapturedConnection.CapturedConnection, dials.PastDial.PastDial, register.Register.Register}
+use Rattle.distping_capture.specs.{Attempts.name_said, Attempts.verdict_on, Captures.CountsTo, Carried.IsShown, Crossings.Meets, Endings.ended_or}
+use Rattle.distping_capture.specs.Exits.{Adds, AddsOf, Counts, History, IsExit, IsJudged, LearnsNode}
+use Rattle.distping_capture.specs.Exits.{NextAttempt, NoAttempt, SameAttempts, SameKnown, StandsFor, StandsStill, exit_of, finds, first_exit, is_asked}
+use Rattle.distping_capture.specs.{Listeners.LearnsAny, Listeners.places_of, Listeners.with_place}
+use Rattle.distping_capture.specs.declared.{connection.CapturedConnection.CapturedConnection, dials.PastDial.PastDial}
+use Rattle.distping_capture.specs.declared.{nodes.NodesSeen.NodesSeen, register.Register.Register}
 use Rattle.distping_capture.specs.declared.traffic.Traffic.{Traffic}
-use Rattle.distping_capture.specs.declared.traffic.Traffic.TheVariants as traffic
-use Rattle.distping_capture.proofs.Watching.{shown_more, shown_no_more, shown_of, shown_stays, stands_follows, stands_forgotten, stands_judged, stands_new, stands_settled}
+use Rattle.distping_capture.proofs.Watching.{shown_more}
 
 -- ---- the first status
 
@@ -94,13 +93,17 @@ written n xs ys is same =
 
 -- ---- nothing was added
 
+none_before : (a b : Bool) → (a || b) ≡ false → a ≡ false
+none_before false b e = refl
+none_before true b e = e
+
 module _ {W : Type 0} where
   pub stands_same : (r s : Register W) → StandsStill r s → (attempts : List PastDial) → StandsFor r attempts → StandsFor s attempts
   stands_same r s same attempts p = record {
     earlier = p.earlier;
     all = p.all ∙ ap (λ (l : List PastDial). p.earlier ++ l) (sym same.dials);
     status = same.status ∙ p.status;
-    nothing = λ e. p.nothing (same.found e);
+    nothing = λ e. p.nothing (sym same.found ∙ e);
   }
 
   pub still_then : (r s u : Register W) → StandsStill r s → StandsStill s u → StandsStill r u
@@ -109,11 +112,8 @@ module _ {W : Type 0} where
     quiet = q.quiet ∙ p.quiet;
     dials = q.dials ∙ p.dials;
     status = q.status ∙ p.status;
-    found = λ e. p.found (q.found e);
+    found = q.found ∙ p.found;
   }
-
-  pub same_then : (r s u : Register W) → SameAttempts r s → SameAttempts s u → SameAttempts r u
-  same_then r s u p q = (still_then r s u p.0 q.0, q.1 ∙ p.1)
 
   -- a register that is the same but for what was printed
   pub still_printed : (r s : Register W) → s ≡ record r { results = s.results } → StandsStill r s
@@ -122,46 +122,66 @@ module _ {W : Type 0} where
     quiet = ap (λ (x : Register W). x.lines.quiet) is;
     dials = ap (λ (x : Register W). x.dials.items) is;
     status = ap (λ (x : Register W). x.status) is;
-    found = λ e. sym (ap (λ (x : Register W). x.has_found) is) ∙ e;
+    found = ap (λ (x : Register W). x.has_found) is;
   }
 
-  added_then : (c : CapturedConnection) (v : HandshakeVerdict) (r s u : Register W) → AddsOf c v r s → StandsStill s u → AddsOf c v r u
-  added_then c v r s u p q = record {
-    attempt = p.attempt;
-    between = p.between;
-    verdict = p.verdict;
-    exit = p.exit;
-    adds = record {
-      terms = q.terms ∙ p.adds.terms;
-      quiet = q.quiet ∙ p.adds.quiet;
-      left = p.adds.left;
-      others = p.adds.others;
-      meets = p.adds.meets;
-      adds = λ earlier e. stands_same s u q (earlier ++ (p.adds.others ++ p.adds.left ∷ [])) (p.adds.adds earlier e);
-    };
+  -- a register that is the same but for the nodes that are known
+  pub still_nodes : (r s : Register W) → s ≡ record r { nodes = s.nodes } → StandsStill r s
+  still_nodes r s is = record {
+    terms = ap (λ (x : Register W). x.terms) is;
+    quiet = ap (λ (x : Register W). x.lines.quiet) is;
+    dials = ap (λ (x : Register W). x.dials.items) is;
+    status = ap (λ (x : Register W). x.status) is;
+    found = ap (λ (x : Register W). x.has_found) is;
   }
 
-  pub notes_then : (talk : Bool) (c : CapturedConnection) (v : HandshakeVerdict) (r s u : Register W) → Notes talk c v r s → SameAttempts s u → Notes talk c v r u
-  notes_then talk c v r s u p q = record {
-    added = added_then c v r s u p.added q.0;
-    prints = subst (λ (x : SinkState). PrintsNoted r.lines.quiet talk v r.results x) (sym q.1) p.prints;
-  }
+  pub known_printed : (r s : Register W) → s ≡ record r { results = s.results } → SameKnown r s
+  known_printed r s is = record { hosts = ap (λ (x : Register W). x.hosts.items) is; places = ap (λ (x : Register W). places_of x.nodes) is }
 
--- between the two ports of a connection
-abbrev pub IsBetween : CapturedConnection → PastDial → Type 0
-IsBetween c attempt = (attempt.dialler ≡ c.dialler) × (attempt.acceptor ≡ c.acceptor)
+  pub known_then : (r s u : Register W) → SameKnown r s → SameKnown s u → SameKnown r u
+  known_then r s u p q = record { hosts = q.hosts ∙ p.hosts; places = q.places ∙ p.places }
+
+  pub same_attempts : (r : Register W) → SameAttempts r r
+  same_attempts r = (still_printed r r refl, refl, record { hosts = refl; places = refl })
+
+-- a port is among those that are known later
+abbrev Learnt : Endpoint → List Endpoint → List Endpoint → Type 0
+Learnt place known later = (Contains known place × (later ≡ known)) ⊎ ((Contains known place → ⊥) × (later ≡ with_place place known))
+
+-- what is learned is told by the ports that are known
+pub learns_by : (place : Option Endpoint) (n m k l : NodesSeen) → places_of n ≡ places_of k → places_of l ≡ places_of m → LearnsAny place k m → LearnsAny place n l
+learns_by None n m k l before after p = after ∙ p ∙ sym before
+learns_by (Some place) n m k l before after p = subst (λ (x : List Endpoint). Learnt place x (places_of l)) (sym before) (subst (Learnt place (places_of k)) (sym after) p)
 
 module _ {W : Type 0} where
-  pub noted : (c : CapturedConnection) (v : HandshakeVerdict) (attempt : PastDial) (r s u : Register W) → StandsStill r s → IsBetween c attempt → attempt.verdict ≡ v → attempt.exit ≡ status_of v
-      → Adds attempt s u → AddsOf c v r u
-  noted c v attempt r s u same between verdict exit q = record {
+  pub learns_between : (talk : Bool) (c : CapturedConnection) (r s t u : Register W) → SameKnown r s → LearnsNode talk c s t → SameKnown t u → LearnsNode talk c r u
+  learns_between talk c r s t u before p after = record {
+    hosts = after.hosts ∙ p.hosts ∙ before.hosts;
+    places = learns_by (if talk then None else Some c.acceptor) r.nodes t.nodes s.nodes u.nodes (sym before.places) after.places p.places;
+  }
+
+-- an attempt of a connection, which came up or ended by this time
+abbrev pub IsOf : CapturedConnection → PastDial → Type 0
+IsOf c attempt = (attempt.dialler ≡ c.dialler) × (attempt.acceptor ≡ c.acceptor)
+
+abbrev pub HasTimes : ℕ → CapturedConnection → PastDial → Type 0
+HasTimes now c attempt = (attempt.began ≡ c.began) × (attempt.ended ≡ ended_or c now)
+
+module _ {W : Type 0} where
+  -- it was added once nothing else was
+  pub noted : (now : ℕ) (c : CapturedConnection) (v : HandshakeVerdict) (attempt : PastDial) (r s u : Register W) → StandsStill r s → attempt.name ≡ name_said Dialler c.content → IsOf c attempt → HasTimes now c attempt → attempt.verdict ≡ v
+      → attempt.exit ≡ status_of v → Adds attempt s u → AddsOf now c v r u
+  noted now c v attempt r s u same name between times verdict exit q = record {
     attempt = attempt;
+    name = name;
     between = between;
+    times = times;
     verdict = verdict;
     exit = exit;
     adds = record {
       terms = q.terms ∙ same.terms;
       quiet = q.quiet ∙ same.quiet;
+      found = q.found;
       left = q.left;
       others = q.others;
       meets = subst (λ (l : List PastDial). Meets attempt l q.left q.others) same.dials q.meets;
@@ -169,24 +189,11 @@ module _ {W : Type 0} where
     };
   }
 
-  pub then_added : (c : CapturedConnection) (v : HandshakeVerdict) (r s u : Register W) → StandsStill r s → AddsOf c v s u → AddsOf c v r u
-  then_added c v r s u p q = noted c v q.attempt r s u p q.between q.verdict q.exit q.adds
-
-  pub then_notes : (talk : Bool) (c : CapturedConnection) (v : HandshakeVerdict) (r s u : Register W) → SameAttempts r s → Notes talk c v s u → Notes talk c v r u
-  then_notes talk c v r s u p q = record {
-    added = then_added c v r s u p.0 q.added;
-    prints = subst (λ (b : Bool). PrintsNoted b talk v r.results u.results) p.0.quiet (subst (λ (x : SinkState). PrintsNoted s.lines.quiet talk v x u.results) p.1 q.prints);
-  }
-
-  -- its verdict was printed, and then it was added
-  pub printed_added : (talk : Bool) (c : CapturedConnection) (v : HandshakeVerdict) (r s u : Register W) → s ≡ record r { results = s.results } → PrintsNoted r.lines.quiet talk v r.results s.results
-      → AddsOf c v s u → u.results ≡ s.results → Notes talk c v r u
-  printed_added talk c v r s u is prints added same = record {
-    added = then_added c v r s u (still_printed r s is) added;
-    prints = subst (λ (x : SinkState). PrintsNoted r.lines.quiet talk v r.results x) (sym same) prints;
-  }
-
   -- ---- a whole capture
+
+  -- it counts attempts that were judged by the same terms as before, of the same segments
+  abbrev pub GoesOnCounting : Register W → Register W → Type 0
+  GoesOnCounting r s = (t : Terms) (segments : List Segment) → Counts t segments r → Counts t segments s
 
   pub counts_still : (r s : Register W) → StandsStill r s → GoesOnCounting r s
   counts_still r s same t segments p = record {
@@ -196,18 +203,31 @@ module _ {W : Type 0} where
     stands = stands_same r s same p.attempts p.stands;
   }
 
+  pub counts_found : (carried : Traffic) (r : Register W) → GoesOnCounting r (finds carried r)
+  counts_found carried r t segments p = record {
+    terms = p.terms;
+    attempts = p.attempts;
+    history = p.history;
+    stands = record {
+      earlier = p.stands.earlier;
+      all = p.stands.all;
+      status = p.stands.status;
+      nothing = λ e. p.stands.nothing (none_before r.has_found (is_asked carried) e);
+    };
+  }
+
   pub counts_same : (r s : Register W) → SameAttempts r s → GoesOnCounting r s
   counts_same r s same = counts_still r s same.0
 
-judged_at : (segments : List Segment) (c : CapturedConnection) (attempt : PastDial) (carried : Traffic) → IsBetween c attempt → IsShown segments c.dialler c.acceptor carried
+judged_at : (segments : List Segment) (c : CapturedConnection) (attempt : PastDial) (carried : Traffic) → (attempt.dialler ≡ c.dialler) × (attempt.acceptor ≡ c.acceptor) → IsShown segments c.dialler c.acceptor carried
     → IsShown segments attempt.dialler attempt.acceptor carried
 judged_at segments c attempt carried p q =
     subst (λ (x : Endpoint). IsShown segments x attempt.acceptor carried) (sym p.0) (subst (λ (x : Endpoint). IsShown segments c.dialler x carried) (sym p.1) q)
 
 module _ {W : Type 0} where
-  pub counts_more : (c : CapturedConnection) (r s : Register W) (at_mapper : Bool) (carried : Traffic) → AddsOf c (verdict_on r.terms at_mapper carried) r s
+  pub counts_more : (now : ℕ) (c : CapturedConnection) (r s : Register W) (at_mapper : Bool) (carried : Traffic) → AddsOf now c (verdict_on r.terms at_mapper carried) r s
       → (t : Terms) (segments : List Segment) → IsShown segments c.dialler c.acceptor carried → Counts t segments r → Counts t segments s
-  counts_more c r s at_mapper carried q t segments shown p =
+  counts_more now c r s at_mapper carried q t segments shown p =
       let verdict : q.attempt.verdict ≡ verdict_on t at_mapper carried = q.verdict ∙ ap (λ (u : Terms). verdict_on u at_mapper carried) p.terms in
       let judged : IsJudged t segments q.attempt = record {
         at_mapper = at_mapper;
@@ -238,200 +258,6 @@ history_more t segments more attempts (NextAttempt earlier before history attemp
 module _ {W : Type 0} where
   pub counts_on : (t : Terms) (segments more : List Segment) (r : Register W) → Counts t segments r → Counts t (segments ++ more) r
   counts_on t segments more r p = record { terms = p.terms; attempts = p.attempts; history = history_more t segments more p.attempts p.history; stands = p.stands }
-
-  -- ---- once
-
-  by_then : (talk : Bool) (c : CapturedConnection) (before after : Option HandshakeVerdict) (r s u : Register W) → NotesBy talk c before after r s → SameAttempts s u → NotesBy talk c before after r u
-  by_then talk c None None r s u p q = (p.0, same_then r s u p.1 q)
-  by_then talk c None (Some v) r s u p q = notes_then talk c v r s u p q
-  by_then talk c (Some w) None r s u p q = (p.0, same_then r s u p.1 q)
-  by_then talk c (Some w) (Some v) r s u p q = (p.0, same_then r s u p.1 q)
-
-  pub then_by : (talk : Bool) (c : CapturedConnection) (before after : Option HandshakeVerdict) (r s u : Register W) → SameAttempts r s → NotesBy talk c before after s u → NotesBy talk c before after r u
-  then_by talk c None None r s u p q = (q.0, same_then r s u p q.1)
-  then_by talk c None (Some v) r s u p q = then_notes talk c v r s u p q
-  then_by talk c (Some w) None r s u p q = (q.0, same_then r s u p q.1)
-  then_by talk c (Some w) (Some v) r s u p q = (q.0, same_then r s u p q.1)
-
-  by_new : (talk : Bool) (c : CapturedConnection) (before : Option HandshakeVerdict) (v : HandshakeVerdict) (r s : Register W) → is_some before ≡ false → Notes talk c v r s → NotesBy talk c before (Some v) r s
-  by_new talk c None v r s e p = p
-  by_new talk c (Some w) v r s e p = absurd (false≢true (sym e))
-
-  pub added_at : (c d : CapturedConnection) (v : HandshakeVerdict) (r s : Register W) → SameEnds c d → AddsOf d v r s → AddsOf c v r s
-  added_at c d v r s ends p = record {
-    attempt = p.attempt;
-    between = (p.between.0 ∙ ends.1, p.between.1 ∙ ends.2);
-    verdict = p.verdict;
-    exit = p.exit;
-    adds = p.adds;
-  }
-
-  pub by_at : (talk : Bool) (c d : CapturedConnection) (before after : Option HandshakeVerdict) (r s : Register W) → SameEnds c d → NotesBy talk d before after r s → NotesBy talk c before after r s
-  by_at talk c d None None r s ends p = p
-  by_at talk c d None (Some v) r s ends p = record { added = added_at c d v r s ends p.added; prints = p.prints }
-  by_at talk c d (Some w) None r s ends p = p
-  by_at talk c d (Some w) (Some v) r s ends p = p
-
-  pub none_before : (talk : Bool) (c : CapturedConnection) (before after : Option HandshakeVerdict) (r s : Register W) → NotesBy talk c before after r s → after ≡ None → before ≡ None
-  none_before talk c None after r s p e = refl
-  none_before talk c (Some w) None r s p e = absurd (let no : None ≡ Some w = p.0 in cc)
-  none_before talk c (Some w) (Some v) r s p e = absurd cc
-
-  pub once_then : (talk : Bool) (c e : CapturedConnection) (r s u : Register W) → NotesOnce talk c e r s → SameAttempts s u → NotesOnce talk c e r u
-  once_then talk c e r s u p q = record {
-    once = by_then talk c c.verdict e.verdict r s u p.once q;
-    counting = λ t segments shown x. counts_same s u q t segments (p.counting t segments shown x);
-  }
-
-  pub then_once : (talk : Bool) (c e : CapturedConnection) (r s u : Register W) → SameAttempts r s → NotesOnce talk c e s u → NotesOnce talk c e r u
-  then_once talk c e r s u p q = record {
-    once = then_by talk c c.verdict e.verdict r s u p q.once;
-    counting = λ t segments shown x. q.counting t segments shown (counts_same r s p t segments x);
-  }
-
-none_of : (o : Option HandshakeVerdict) → is_some o ≡ false → o ≡ None
-none_of None e = refl
-none_of (Some v) e = absurd (false≢true (sym e))
-
-module _ {W : Type 0} where
-  -- it is judged, where it was not
-  pub once_new : (talk : Bool) (c e : CapturedConnection) (r s : Register W) → is_some c.verdict ≡ false → Judges r.terms c e → Notes talk c (verdict_on r.terms e.is_at_mapper e.content) r s → NotesOnce talk c e r s
-  once_new talk c e r s open_ judges p = record {
-    once = subst (λ (v : Option HandshakeVerdict). NotesBy talk c c.verdict v r s) (sym judges.verdict) (by_new talk c c.verdict (verdict_on r.terms e.is_at_mapper e.content) r s open_ p);
-    counting = λ t segments shown x.
-        counts_more c r s e.is_at_mapper e.content p.added t segments (shown_stays segments c.dialler c.acceptor c e judges.stays (shown (none_of c.verdict open_))) x;
-  }
-
--- and a talk with a port mapper stays one
-pub concluded_talk : (t : Terms) (c : CapturedConnection) (now : ℕ) (before after : Traffic) → IsConcluded t c now before after → is_talk after ≡ is_talk before
-concluded_talk t c now (traffic.Handshake h) (traffic.Handshake k) p = refl
-concluded_talk t c now before after p = ap is_talk p
-
--- how a handshake ended is noted in it
-pub concluded_attempt : (t : Terms) (c : CapturedConnection) (now : ℕ) (before after : Traffic) → IsConcluded t c now before after → IsAttempt before → IsAttempt after
-concluded_attempt t c now (traffic.Handshake h) (traffic.Handshake k) p q = tt
-concluded_attempt t c now before after p q = subst IsAttempt (sym p) q
-
-module _ {W : Type 0} where
-  pub settled_by : (r : Register W) (c e : CapturedConnection) → Judges r.terms c e → IsSome e.verdict
-  settled_by r c e judges = subst IsSome (sym judges.verdict) refl
-
-  -- the same where only the verdict changes
-  pub once_judged : (talk : Bool) (c : CapturedConnection) (v : HandshakeVerdict) (r s : Register W) → is_some c.verdict ≡ false → v ≡ verdict_on r.terms c.is_at_mapper c.content
-      → Notes talk c (verdict_on r.terms c.is_at_mapper c.content) r s → NotesOnce talk c (record c { verdict = Some v }) r s
-  once_judged talk c v r s open_ is p =
-      once_new talk c (record c { verdict = Some v }) r s open_
-      (record { stays = record { ends = (refl, refl, refl); tells = λ b q. q }; attempt = λ q. q; verdict = ap (λ (w : HandshakeVerdict). Some w) is }) p
-
-  -- the verdict on what a connection carries was printed, and its attempt added
-  pub notes_judged : (c e : CapturedConnection) (v w : HandshakeVerdict) (r s u : Register W) → SameEnds c e → v ≡ w → s ≡ record r { results = s.results }
-      → PrintsNoted r.lines.quiet false v r.results s.results → AddsOf e v s u → u.results ≡ s.results → Notes false c w r u
-  notes_judged c e v w r s u ends is printed prints added same =
-      subst (λ (x : HandshakeVerdict). Notes false c x r u) is (printed_added false c v r s u printed prints (added_at c e v s u ends added) same)
-
-  pub mapper_judged : (c : CapturedConnection) (v : HandshakeVerdict) (attempt : PastDial) (r s u : Register W) → is_some c.verdict ≡ false → v ≡ verdict_on r.terms c.is_at_mapper c.content
-      → s ≡ record r { results = s.results } → PrintsNoted r.lines.quiet true v r.results s.results → IsBetween c attempt → attempt.verdict ≡ v → attempt.exit ≡ status_of v → Adds attempt s u
-      → u.results ≡ s.results → NotesOnce true c (record c { verdict = Some v }) r u
-  mapper_judged c v attempt r s u open_ is printed prints between verdict exit adds same =
-      once_judged true c v r u open_ is
-      (subst (λ (x : HandshakeVerdict). Notes true c x r u) is
-      (printed_added true c v r s u printed prints (noted c v attempt s s u (still_printed s s refl) between verdict exit adds) same))
-
-  -- nothing was noted
-  pub unnoted : (talk : Bool) (c : CapturedConnection) (r : Register W) → NotesOnce talk c c r r
-  unnoted talk c r = record { once = by c.verdict; counting = λ t segments shown x. x } where
-    by : (o : Option HandshakeVerdict) → NotesBy talk c o o r r
-    by None = (refl, (still_printed r r refl, refl))
-    by (Some v) = (refl, (still_printed r r refl, refl))
-
-  -- before and behind what was added the connection says no more
-  pub counts_between : (c d : CapturedConnection) (r s : Register W) → d.verdict ≡ c.verdict → SameEnds c d → SaysNoMore c d → CountsBy d r s → CountsBy c r s
-  counts_between c d r s same ends says p = λ t segments shown x. p t segments (shown_no_more segments c d says ends same shown) x
-
-  by_between : (talk : Bool) (c d e k : CapturedConnection) (r s : Register W) → d.verdict ≡ c.verdict → SameEnds c d → NotesBy talk d d.verdict e.verdict r s → k.verdict ≡ e.verdict → NotesBy talk c c.verdict k.verdict r s
-  by_between talk c d e k r s same ends p later =
-      subst (λ (v : Option HandshakeVerdict). NotesBy talk c c.verdict v r s) (sym later)
-      (subst (λ (v : Option HandshakeVerdict). NotesBy talk c v e.verdict r s) same (by_at talk c d d.verdict e.verdict r s ends p))
-
-  pub once_between : (talk : Bool) (c d e k : CapturedConnection) (r s : Register W) → d.verdict ≡ c.verdict → SameEnds c d → SaysNoMore c d → NotesOnce talk d e r s → k.verdict ≡ e.verdict → NotesOnce talk c k r s
-  once_between talk c d e k r s same ends says p later = record {
-    once = by_between talk c d e k r s same ends p.once later;
-    counting = counts_between c d r s same ends says p.counting;
-  }
-
-  -- ---- a connection that is closed
-
-  -- of a talk with a port mapper nothing more is printed
-  pub talk_closes : (c e : CapturedConnection) (r s : Register W) → NotesOnce true c e r s → ClosesAs true c e r s
-  talk_closes c e r s p = record { noted = s; once = p.once; prints = refl; still = still_printed s s refl }
-
-  -- of another attempt its object
-  pub other_closes : (c e : CapturedConnection) (r mid s : Register W) → NotesOnce false c e r mid → s ≡ record mid { results = s.results }
-      → PrintsEnd false mid.lines.quiet e.verdict mid.results s.results → ClosesAs false c e r s
-  other_closes c e r mid s p is prints = record { noted = mid; once = p.once; prints = prints; still = still_printed mid s is }
-
-  pub other_counts : (c e : CapturedConnection) (r mid s : Register W) → NotesOnce false c e r mid → s ≡ record mid { results = s.results } → CountsBy c r s
-  other_counts c e r mid s p is = λ t segments shown x. counts_still mid s (still_printed mid s is) t segments (p.counting t segments shown x)
-
-  pub closes_between : (talk : Bool) (c d e k : CapturedConnection) (r s : Register W) → d.verdict ≡ c.verdict → SameEnds c d → IsOfTalk c talk → ClosesAs talk d e r s → k.verdict ≡ e.verdict → Closes c k r s
-  closes_between talk c d e k r s same ends of_talk p later = record {
-    talk = talk;
-    of_talk = of_talk;
-    closes = record {
-      noted = p.noted;
-      once = by_between talk c d e k r p.noted same ends p.once later;
-      prints = subst (λ (v : Option HandshakeVerdict). PrintsEnd talk p.noted.lines.quiet v p.noted.results s.results) (sym later) p.prints;
-      still = p.still;
-    };
-  }
-
-  -- ---- a connection that is watched
-
-  pub watches_settled : (c e : CapturedConnection) (r s : Register W) → CountsBy c r s → SameEnds c e → (e.verdict ≡ None → ⊥) → GoesOnWatching r c s e
-  watches_settled c e r s counting ends some t segments w = record {
-    counts = counting t segments (shown_of segments c w.stands) w.counts;
-    stands = stands_settled segments c e ends some w.stands;
-  }
-
-  pub watches_judged : (talk : Bool) (c e : CapturedConnection) (r s : Register W) → NotesOnce talk c e r s → e ≡ record c { verdict = e.verdict } → GoesOnWatching r c s e
-  watches_judged talk c e r s once is t segments w = record {
-    counts = once.counting t segments (shown_of segments c w.stands) w.counts;
-    stands = stands_judged segments c e is (none_before talk c c.verdict e.verdict r s once.once) w.stands;
-  }
-
-  pub watches_ended : (c e : CapturedConnection) (r s : Register W) → CountsBy c r s → SameEnds c e → e.content ≡ traffic.Other → IsGone e.from_dialler → IsGone e.from_acceptor → GoesOnWatching r c s e
-  watches_ended c e r s counting ends other one two t segments w = record {
-    counts = counting t segments (shown_of segments c w.stands) w.counts;
-    stands = stands_forgotten segments c e ends other one two w.stands;
-  }
-
-is_none : (o : Option HandshakeVerdict) → IsSome o → o ≡ None → ⊥
-is_none None p e = absurd (false≢true p)
-is_none (Some v) p e = absurd cc
-
-module _ {W : Type 0} where
-  pub watches_put : (c e : CapturedConnection) (r s : Register W) {X E : Type 0} (result : Result X E) → SameConnection c e → OnOk result (IsSome e.verdict) → OnOk result (NotesOnce false c e r s)
-      → OnOk result (GoesOnWatching r c s e)
-  watches_put c e r s (Ok x) same some once = watches_settled c e r s once.counting same.ends (is_none e.verdict some)
-  watches_put c e r s (Err fault) same some once = tt
-
-pub ended_between : (c d e k : CapturedConnection) → SameEnds c d → SameConnection d e → SameEnds e k → SameEnds c k
-ended_between c d e k p q r = (r.0 ∙ q.ends.0 ∙ p.0, r.1 ∙ q.ends.1 ∙ p.1, r.2 ∙ q.ends.2 ∙ p.2)
-
-module _ {W : Type 0} where
-  -- another one takes its place
-  pub watches_new : (port : ℕ) (s : Segment) (c : CapturedConnection) (t : Terms) (segments : List Segment) (r : Register W) → IsNew port s c → Counts t segments r → Watches t segments r c
-  watches_new port s c t segments r new counts = record { counts = counts; stands = stands_new port segments s c new }
-
-  pub takes_segment : (c e : CapturedConnection) (r : Register W) (next : Segment) → Follows c next e → e.verdict ≡ c.verdict → TakesOn next r c r e
-  takes_segment c e r next follows same t segments among ends w = record {
-    counts = w.counts;
-    stands = stands_follows segments c e next among ends follows same w.stands;
-  }
-
-  -- and its mapper's answer is judged
-  pub takes_judged : (talk : Bool) (c d e : CapturedConnection) (r s : Register W) (next : Segment) → Follows c next d → d.verdict ≡ c.verdict → NotesOnce talk d e r s → e ≡ record d { verdict = e.verdict } → TakesOn next r c s e
-  takes_judged talk c d e r s next follows same once is t segments among ends w = watches_judged talk d e r s once is t segments (takes_segment c d r next follows same t segments among ends w)
 
   pub begins : (t : Terms) (segments : List Segment) (r : Register W) → r.terms ≡ t → r.dials.items ≡ [] → r.status ≡ 0 → Counts t segments r
   begins t segments r terms dials status = record {

@@ -1,7 +1,7 @@
 -- A side is read, frame by frame.
 use Rattle.std.proofs.Common.{◌≡◌, ℕ, zero, suc, ◌+◌, ◌<◌, ◌≤◌, ◌⊎◌, inl, inr, Bool, true, false, cond, ◌||◌, List, [], ◌∷◌, ◌++◌, length, take, drop, Option, Some, None}
-use Rattle.std.proofs.Common.{refl, sym, ap, subst, ◌∙◌, arith, lit<, w16, le_refl, drop-drop, length-append, length-take-le, drop_of_length-le, option_map, Bor}
-use Rattle.std.proofs.lemmas.List.{drop-append-le}
+use Rattle.std.proofs.Common.{refl, sym, ap, subst, ◌∙◌, arith, lit<, w16, le_refl, drop-drop, length-append, length-take-le, drop_of_length-le, option_map, Bor, append_assoc, append-nil, rules}
+use Rattle.std.proofs.lemmas.List.{drop-append-le, Elements.All-append}
 use Rattle.dist_names.proofs.Fields.{wide16}
 use Rattle.dist_frames.specs.Stream.{bodies, first_body, split_bodies, split_rest, has_first, front, behind, head}
 use Rattle.dist_frames.proofs.Streams.{starts, bodies_one, bodies_none, rest_one, grow, by_first}
@@ -11,7 +11,7 @@ use Rattle.dist_talk.specs.{Handshake.Says, Handshake.Takes, Handshake.said_by}
 use Rattle.dist_talk.specs.declared.{bodies.NextBody.NextBody, handshake.Handshake.Handshake, handshake.SentContent.SentContent, handshake.SentMessage.SentMessage}
 use Rattle.dist_talk.specs.declared.bodies.NextBody.TheVariants as next
 use Rattle.dist_capture.specs.Streams.{Gathering, consumed}
-use Rattle.distping_capture.specs.Delivered.{AreSaid, IsEnough, IsRead, NoneFollows, OthersSame, Reads, Waits, count_of}
+use Rattle.distping_capture.specs.Delivered.{AreSaid, IsEnough, IsRead, NoneFollows, OthersSame, Reads, SaysMore, Waits, count_of}
 use Rattle.distping_capture.specs.Flows.{SameBehind, bytes_of, ready_in, without_first}
 use Rattle.distping_capture.specs.declared.flow.Flow.{Flow}
 
@@ -60,6 +60,18 @@ foreign_stands side s (suc len) (first, more, is, some, small, other) =
     (λ h. subst (NoneFollows side) (sym (bodies_one w16 s (lit< tt) h)) (λ (b : IsBodyOf (tags_of side) (front w16 s)). foreign_front side len first more other (subst (IsBodyOf (tags_of side)) at_front b)))
     (λ h. subst (NoneFollows side) (sym (bodies_none w16 s (lit< tt) h)) tt)
 
+-- a whole body of this side stands first, and so no such length
+one_stands : (side : Side) (s body : List ℕ) (len : ℕ) → first_body w16 s ≡ Some body → IsBodyOf (tags_of side) body
+    → BeginsForeign (tags_of side) len s → ⊥
+one_stands side s body len e of foreign = subst (NoneFollows side) (stands s body e).bodies_are (foreign_stands side s len foreign) of
+
+-- where something else than such a length stands first, there is none
+pub not_foreign : (side : Side) (s : List ℕ) (n : NextBody) → StandsFirst side s n → ((len : ℕ) → n ≡ next.Front len → ⊥) → (len : ℕ)
+    → BeginsForeign (tags_of side) len s → ⊥
+not_foreign side s (next.Whole body) (is, of) other len foreign = one_stands side s body.now len is of foreign
+not_foreign side s (next.Front first) is other len foreign = other first refl
+not_foreign side s next.Open (none, no_such) other len foreign = no_such len foreign
+
 -- ---- the messages
 
 or_false : (a b : Bool) → a || b ≡ false → (a ≡ false) × (b ≡ false)
@@ -100,32 +112,32 @@ drop_next n xs later x e = let two : drop 1 (drop n xs) ≡ drop (n + 1) xs = dr
 
 -- ---- one side
 
--- how many messages it said, once it said one more
-abbrev pub Pushes : List SentMessage → SentContent → List SentMessage → Type 0
-Pushes said c more = (s : SentMessage) × (s.content ≡ c) × (more ≡ said ++ s ∷ [])
+-- it said one more, at this time
+abbrev pub Pushes : ℕ → List SentMessage → SentContent → List SentMessage → Type 0
+Pushes at said c more = (s : SentMessage) × (s.content ≡ c) × (more ≡ said ++ s ∷ []) × (s.at ≡ at)
 
-pub record TakesMessage (side : Side) (c : SentContent) (h k : Handshake) : Type 0 where
-  pub pushes : Pushes (said_by side h) c (said_by side k)
+pub record TakesMessage (side : Side) (c : SentContent) (at : ℕ) (h k : Handshake) : Type 0 where
+  pub pushes : Pushes at (said_by side h) c (said_by side k)
   pub others : OthersSame side h k
   pub more : count_of k ≡ count_of h + 1
 
-takes_message : (side : Side) (c : SentContent) (at : ℕ) (h k : Handshake) → Takes side c at h k → TakesMessage side c h k
+takes_message : (side : Side) (c : SentContent) (at : ℕ) (h k : Handshake) → Takes side c at h k → TakesMessage side c at h k
 takes_message Dialler c at h k (s, is, when, mine, other, ending, missing) = record {
-  pushes = (s, is, mine);
+  pushes = (s, is, mine, when);
   others = (other, ending, missing);
   more = rw (mine, other) (omega (arith, length-append h.dialler.items (s ∷ [])));
 }
 takes_message Acceptor c at h k (s, is, when, mine, other, ending, missing) = record {
-  pushes = (s, is, mine);
+  pushes = (s, is, mine, when);
   others = (other, ending, missing);
   more = rw (mine, other) (omega (arith, length-append h.acceptor.items (s ∷ [])));
 }
 
 -- it says one more
-read_more : (side : Side) (bytes body : List ℕ) (c : SentContent) (h k : Handshake) (f g : Flow) → first_body w16 (bytes_of f) ≡ Some body → IsBodyOf (tags_of side) body
-    → Says side body c → TakesMessage side c h k → is_done side (said_by side h) ≡ false → count_of h < 16 → bytes_of g ≡ drop (length body + 2) (bytes_of f)
+read_more : (side : Side) (bytes body : List ℕ) (c : SentContent) (at : ℕ) (h k : Handshake) (f g : Flow) → first_body w16 (bytes_of f) ≡ Some body → IsBodyOf (tags_of side) body
+    → Says side body c → TakesMessage side c at h k → is_done side (said_by side h) ≡ false → count_of h < 16 → bytes_of g ≡ drop (length body + 2) (bytes_of f)
     → IsRead side bytes h f → Waits (length (said_by side h)) bytes (bytes_of f) → IsRead side bytes k g
-read_more side bytes body c h k f g first of says takes open_ few left p w =
+read_more side bytes body c at h k f g first of says takes open_ few left p w =
     let front = stands (bytes_of f) body first in
     let s = takes.pushes.0 in
     let here : drop (length (said_by side h)) (bodies bytes) ≡ body ∷ bodies (drop (length body + 2) (bytes_of f)) = sym w.bodies_left ∙ front.bodies_are in
@@ -143,31 +155,70 @@ not_enough : (side : Side) (h : Handshake) → is_done side (said_by side h) ≡
 not_enough side h open_ few (inl done) = absurd cc
 not_enough side h open_ few (inr many) = omega arith
 
-reads_one_at : (side : Side) (bytes body : List ℕ) (c : SentContent) (h k : Handshake) (f g : Flow) → first_body w16 (bytes_of f) ≡ Some body → IsBodyOf (tags_of side) body
-    → Says side body c → TakesMessage side c h k → is_done side (said_by side h) ≡ false → count_of h < 16 → bytes_of g ≡ drop (length body + 2) (bytes_of f)
+reads_one_at : (side : Side) (bytes body : List ℕ) (c : SentContent) (at : ℕ) (h k : Handshake) (f g : Flow) → first_body w16 (bytes_of f) ≡ Some body → IsBodyOf (tags_of side) body
+    → Says side body c → TakesMessage side c at h k → is_done side (said_by side h) ≡ false → count_of h < 16 → bytes_of g ≡ drop (length body + 2) (bytes_of f)
     → IsRead side bytes h f → (Waits (length (said_by side h)) bytes (bytes_of f) ⊎ IsEnough side h) → IsRead side bytes k g
-reads_one_at side bytes body c h k f g first of says takes open_ few left p (inl w) = read_more side bytes body c h k f g first of says takes open_ few left p w
-reads_one_at side bytes body c h k f g first of says takes open_ few left p (inr enough) = absurd (not_enough side h open_ few enough)
+reads_one_at side bytes body c at h k f g first of says takes open_ few left p (inl w) = read_more side bytes body c at h k f g first of says takes open_ few left p w
+reads_one_at side bytes body c at h k f g first of says takes open_ few left p (inr enough) = absurd (not_enough side h open_ few enough)
 
 -- what is left when the first bytes were taken away
 left_of : (o : Option Gathering) (count : ℕ) → ready_in (option_map (λ s. consumed s count) o) ≡ drop count (ready_in o)
 left_of None count = sym (drop_of_length-le [] (omega arith))
 left_of (Some s) count = refl
 
+-- it says one more, and that at this time
+says_one : (at : ℕ) (c : SentContent) (said more : List SentMessage) → Pushes at said c more → SaysMore at said more
+says_one at c said more p = (p.0 ∷ [], p.2, search (rules, p.3))
+
 pub reads_one : (side : Side) (body : List ℕ) (c : SentContent) (at : ℕ) (h k : Handshake) (f g : Flow) → first_body w16 (bytes_of f) ≡ Some body → IsBodyOf (tags_of side) body
-    → Says side body c → Takes side c at h k → is_done side (said_by side h) ≡ false → count_of h < 16 → g ≡ without_first f (length body + 2) → SameBehind f g → Reads side h k f g
+    → Says side body c → Takes side c at h k → is_done side (said_by side h) ≡ false → count_of h < 16 → g ≡ without_first f (length body + 2) → SameBehind f g → Reads side at h k f g
 reads_one side body c at h k f g first of says takes open_ few is same =
     let one = takes_message side c at h k takes in
     let left : bytes_of g ≡ drop (length body + 2) (bytes_of f) = ap bytes_of is ∙ left_of f.stream (length body + 2) in
     record {
-      reads = λ bytes p. reads_one_at side bytes body c h k f g first of says one open_ few left p p.goes_on;
+      said = says_one at c (said_by side h) (said_by side k) one.pushes;
+      reads = λ bytes p. reads_one_at side bytes body c at h k f g first of says one open_ few left p p.goes_on;
       behind = same;
       others = one.others;
       more = omega (arith, one.more);
     }
 
-pub reads_none : (side : Side) (h : Handshake) (f : Flow) → Reads side h h f f
-reads_none side h f = record { reads = λ bytes p. p; behind = record { behind = refl; same = refl }; others = (refl, refl, refl); more = le_refl (count_of h) }
+-- a side says no more
+pub says_none : (at : ℕ) (said : List SentMessage) → SaysMore at said said
+says_none at said = ([], sym (append-nil said), search rules)
+
+pub reads_none : (side : Side) (at : ℕ) (h : Handshake) (f : Flow) → Reads side at h h f f
+reads_none side at h f = record {
+  said = says_none at (said_by side h);
+  reads = λ bytes p. p;
+  behind = record { behind = refl; rest = refl };
+  others = (refl, refl, refl);
+  more = le_refl (count_of h);
+}
+
+-- ---- two steps
+
+pub says_then : (at : ℕ) (one two three : List SentMessage) → SaysMore at one two → SaysMore at two three → SaysMore at one three
+says_then at one two three p q = (
+  p.0 ++ q.0,
+  q.1 ∙ ap (λ (l : List SentMessage). l ++ q.0) p.1 ∙ append_assoc one p.0 q.0,
+  All-append (λ (s : SentMessage). s.at ≡ at) p.0 q.0 p.2 q.2,
+)
+
+pub behind_then : (f g k : Flow) → SameBehind f g → SameBehind g k → SameBehind f k
+behind_then f g k p q = record { behind = q.behind ∙ p.behind; rest = q.rest ∙ ap (λ (x : Flow). record x { stream = k.stream }) p.rest }
+
+others_then : (side : Side) (h k l : Handshake) → OthersSame side h k → OthersSame side k l → OthersSame side h l
+others_then side h k l p q = (q.0 ∙ p.0, q.1 ∙ p.1, q.2 ∙ p.2)
+
+pub reads_twice : (side : Side) (at : ℕ) (h k l : Handshake) (f g j : Flow) → Reads side at h k f g → Reads side at k l g j → Reads side at h l f j
+reads_twice side at h k l f g j p q = record {
+  said = says_then at (said_by side h) (said_by side k) (said_by side l) p.said q.said;
+  reads = λ bytes r. q.reads bytes (p.reads bytes r);
+  behind = behind_then f g j p.behind q.behind;
+  others = others_then side h k l p.others q.others;
+  more = omega (arith, p.more, q.more);
+}
 
 -- ---- more bytes come
 

@@ -1,7 +1,11 @@
 pub mod Agreeing
+pub mod Answered
+pub mod Carrying
 pub mod Counting
 pub mod Ending
+pub mod Forgetting
 pub mod Frames
+pub mod Listeners
 pub mod Meeting
 pub mod Pieces
 pub mod Recognizing

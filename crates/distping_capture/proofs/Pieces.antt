@@ -1,8 +1,9 @@
 -- The bytes that a segment delivers.
-use Rattle.std.proofs.Common.{◌≡◌, ℕ, Bool, true, false, cond, List, [], ◌++◌, length, Option, Some, None, option_map, refl, sym, ap, ◌∙◌, append-nil, eqb, ltb}
-use Rattle.dist_capture.specs.Streams.{Gathering, is_near, laid, leading, new_part, settled, taken, with_new}
+use Rattle.std.proofs.Common.{◌≡◌, ℕ, Bool, true, false, cond, List, [], ◌++◌, length, Option, Some, None, option_map, unwrap_or, refl, sym, ap, ◌∙◌, append-nil, eqb, ltb}
+use Rattle.dist_capture.specs.Streams.{Gathering, awaiting, is_near, laid, leading, new_part, settled, taken, with_new}
 use Rattle.dist_capture.specs.declared.segment.Segment.{Segment}
-use Rattle.distping_capture.specs.Flows.{BeginsBy, Delivers, bytes_of, gathered, number_of_first, ready_in}
+use Rattle.distping_capture.specs.Flows.{Delivers, ready_in}
+use Rattle.distping_capture.specs.Numbers.{begun_by, first_read, gathered, number_of_first, size_of, with_segment}
 use Rattle.distping_capture.specs.declared.flow.Flow.{Flow}
 
 -- what is ready is longer by a piece
@@ -31,22 +32,27 @@ waits_longer : (s : Segment) (o : Option Gathering) → Waits (option_map (gathe
 waits_longer s None = ([], refl)
 waits_longer s (Some g) = gathered_longer s g
 
-begins_same : (reads : Bool) (o later : Option Gathering) → BeginsBy reads o later → ready_in later ≡ ready_in o
-begins_same reads (Some g) later e = ap ready_in e
-begins_same false None later e = ap ready_in e
-begins_same true None later (first, small, e) = ap ready_in e
+-- nothing is ready of a stream that begins
+begun_ready : (reads : Bool) (o : Option Gathering) (first : ℕ) → ready_in (cond reads (Some (unwrap_or o (awaiting first 65536))) o) ≡ ready_in o
+begun_ready true (Some g) first = refl
+begun_ready true None first = refl
+begun_ready false o first = refl
 
-pub delivers : (f : Flow) (s : Segment) (begun : Option Gathering) (later : Flow) → BeginsBy f.is_read f.stream begun → later.stream ≡ option_map (gathered s) begun → later.is_read ≡ f.is_read
-    → (piece : List ℕ) × Delivers f s piece later
-delivers f s begun later begins stream same =
-    let more = waits_longer s begun in
-    let before : ready_in begun ≡ bytes_of f = begins_same f.is_read f.stream begun begins in (
+pub same_ready : (s : Segment) (f : Flow) → ready_in (begun_by s f) ≡ ready_in f.stream
+same_ready s f = begun_ready f.is_read f.stream (first_read f.acknowledged s)
+
+read_by : (b : Bool) (f g : Flow) → g.is_read ≡ f.is_read → (cond b f g).is_read ≡ f.is_read
+read_by true f g e = refl
+read_by false f g e = e
+
+-- A SEGMENT CAME that is no reset.
+pub delivers : (s : Segment) (f : Flow) → (piece : List ℕ) × Delivers f s piece (with_segment s f)
+delivers s f =
+    let more = waits_longer s (begun_by s f) in (
       more.0,
       record {
-        begun = begun;
-        begins = begins;
-        stream = stream;
-        bytes = ap ready_in stream ∙ more.1 ∙ ap (λ (l : List ℕ). l ++ more.0) before;
-        same = same;
+        stream = refl;
+        bytes = more.1 ∙ ap (λ (l : List ℕ). l ++ more.0) (same_ready s f);
+        same = read_by (eqb (size_of s) 0) f _ refl;
       },
     )

@@ -1,16 +1,16 @@
 -- A segment of a connection is taken.
-use Rattle.std.proofs.Common.{◌≡◌, ◌⊎◌, inl, inr, ℕ, Bool, true, false, List, ◌++◌, ◌||◌, length, Option, Result, Ok, Err, IfOk, refl, sym, ap, subst, ◌∙◌, append-nil}
-use Rattle.dist_capture.specs.Streams.{Gathering}
+use Rattle.std.proofs.Common.{◌≡◌, ◌⊎◌, ℕ, Bool, true, false, cond, List, [], ◌++◌, ◌||◌, not, length, Option, Some, None, is_some, Result, Ok, Err, IfOk, refl, sym, ap, subst, ◌∙◌, append-nil}
 use Rattle.dist_capture.specs.declared.segment.Segment.{Segment}
 use Rattle.dist_messages.specs.declared.message.Side.{Side, TheVariants.Dialler, TheVariants.Acceptor}
 use Rattle.dist_talk.specs.{Handshake.said_by, Speaking.other_side, declared.handshake.Handshake.Handshake}
-use Rattle.distping_capture.specs.Connections.{AllWait, Finds, Follows, Gathers, GoesOn, Holds, IsFrom, IsOf, KeepsEnds, ReadsBoth, ReadsTalk, Recognizes, SameEnds, SameStreams, SaidBoth, Sent, Still, Tells, exchanged, flow_of, with_piece}
+use Rattle.distping_capture.specs.Connections.{Follows, Gathers, GoesOn, Holds, IsFrom, IsOf, KeepsEnds, Recognizes, SameEnds, Sent, with_piece}
 use Rattle.distping_capture.specs.Delivered.{IsEnough, IsRead, Waits}
-use Rattle.distping_capture.specs.Flows.{Brings, BringsBy, BeginsBy, IsGone, IsReadOn, SameBehind, SameBytes, behind_in, bytes_of, ready_in}
+use Rattle.distping_capture.specs.Flows.{BringsBy, SameBytes, bytes_of, ready_in}
+use Rattle.distping_capture.specs.Numbers.{awaited_of, can_end, end_before, flow_of, is_beyond, once_taken, with_answer, with_end, with_end_of, with_ending, with_flows}
+use Rattle.distping_capture.specs.Numbers.{with_numbers, with_segment, with_sign}
 use Rattle.distping_capture.specs.declared.{connection.CapturedConnection.CapturedConnection, flow.Flow.Flow, traffic.Traffic.Traffic}
 use Rattle.distping_capture.specs.declared.traffic.Traffic.TheVariants as traffic
-use Rattle.distping_capture.specs.Recognized.{TalkIn, is_over, is_read_whole, talk_read}
-use Rattle.distping_capture.proofs.{Frames.grown, Talking.talk_answered_more, Talking.talk_asked_more, Talking.talk_holds, Talking.whole_open}
+use Rattle.distping_capture.proofs.{Frames.grown, Pieces.delivers, Talking.talk_answered_more, Talking.talk_asked_more}
 
 -- ---- one side
 
@@ -61,173 +61,167 @@ acceptor_of (traffic.Unreached u) b piece f g f' g' p q r = tt
 acceptor_of traffic.Tls b piece f g f' g' p q r = tt
 acceptor_of traffic.Other b piece f g f' g' p q r = tt
 
-gathers_hold : (side : Side) (c : CapturedConnection) (s : Segment) (e : CapturedConnection) (b : Sent) → (p : Gathers side c s e) → Holds c b → Holds e (with_piece side p.piece b)
-gathers_hold Dialler c s e b p q =
-    subst (λ (t : Traffic). IsOf t (with_piece Dialler p.piece b) e.from_dialler e.from_acceptor) (sym p.content)
-    (dialler_of c.content b p.piece c.from_dialler c.from_acceptor e.from_dialler e.from_acceptor (brings_by s.is_reset c.from_dialler s p.piece e.from_dialler p.brings) p.other q)
-gathers_hold Acceptor c s e b p q =
-    subst (λ (t : Traffic). IsOf t (with_piece Acceptor p.piece b) e.from_dialler e.from_acceptor) (sym p.content)
-    (acceptor_of c.content b p.piece c.from_dialler c.from_acceptor e.from_dialler e.from_acceptor p.other (brings_by s.is_reset c.from_acceptor s p.piece e.from_acceptor p.brings) q)
+-- ---- what is the same once a segment was taken, and nothing read
 
--- ---- the ends
+-- what is carried, who dialled, and the verdict are the same
+pub record Keeps (c e : CapturedConnection) : Type 0 where
+  pub content : e.content ≡ c.content
+  pub ends : SameEnds c e
+  pub verdict : e.verdict ≡ c.verdict
 
-ends_then : (c d e : CapturedConnection) → SameEnds c d → SameEnds d e → SameEnds c e
-ends_then c d e p q = (q.0 ∙ p.0, q.1 ∙ p.1, q.2 ∙ p.2)
+-- and so are the bytes of both sides
+record Still (c e : CapturedConnection) : Type 0 where
+  pub dialler : SameBytes c.from_dialler e.from_dialler
+  pub acceptor : SameBytes c.from_acceptor e.from_acceptor
+  pub keeps : Keeps c e
+
+keeps_then : (c d e : CapturedConnection) → Keeps c d → Keeps d e → Keeps c e
+keeps_then c d e p q = record {
+  content = q.content ∙ p.content;
+  ends = (q.ends.0 ∙ p.ends.0, q.ends.1 ∙ p.ends.1);
+  verdict = q.verdict ∙ p.verdict;
+}
 
 bytes_then : (f g k : Flow) → SameBytes f g → SameBytes g k → SameBytes f k
 bytes_then f g k p q = record { stream = q.stream ∙ p.stream; same = q.same ∙ p.same }
 
--- what a side brings, where its bytes are those of another flow, before and after
-brings_same : (f g h k : Flow) (s : Segment) (piece : List ℕ) → SameBytes f g → Brings g s piece h → SameBytes h k → Brings f s piece k
-brings_same f g h k s piece p r u = by s.is_reset r where
-  by : (b : Bool) → BringsBy b g s piece h → BringsBy b f s piece k
-  by false q = record {
-    begun = q.begun;
-    begins = subst (λ (o : Option Gathering). BeginsBy f.is_read o q.begun) p.stream (subst (λ (b : Bool). BeginsBy b g.stream q.begun) p.same q.begins);
-    stream = u.stream ∙ q.stream;
-    bytes = same_waiting h k u ∙ q.bytes ∙ ap (λ (l : List ℕ). l ++ piece) (same_waiting f g p);
-    same = u.same ∙ q.same ∙ p.same;
-  }
-  by true q = (q.0, bytes_then f h k (bytes_then f g h p q.1) u)
+same_if : (b : Bool) (f g h : Flow) → SameBytes f g → SameBytes f h → SameBytes f (cond b g h)
+same_if true f g h p q = p
+same_if false f g h p q = q
+
+still_if : (b : Bool) (c d e : CapturedConnection) → Still c d → Still c e → Still c (cond b d e)
+still_if true c d e p q = p
+still_if false c d e p q = q
+
+answer_same : (o : Option ℕ) (f : Flow) → SameBytes f (with_answer o f)
+answer_same None f = record { stream = refl; same = refl }
+answer_same (Some number) f = same_if (is_beyond number f.acknowledged) f _ f (record { stream = refl; same = refl }) (record { stream = refl; same = refl })
+
+end_same : (s : Segment) (other f : Flow) → SameBytes f (with_end s other f)
+end_same s other f = same_if (is_some (end_before f.end (awaited_of f))) f f _ (record { stream = refl; same = refl }) (record { stream = refl; same = refl })
+
+end_still : (side : Side) (s : Segment) (c : CapturedConnection) → Still c (with_end_of side s c)
+end_still Dialler s c = record {
+  dialler = end_same s (with_answer s.acknowledges c.from_acceptor) c.from_dialler;
+  acceptor = answer_same s.acknowledges c.from_acceptor;
+  keeps = record { content = refl; ends = (refl, refl); verdict = refl };
+}
+end_still Acceptor s c = record {
+  dialler = answer_same s.acknowledges c.from_dialler;
+  acceptor = end_same s (with_answer s.acknowledges c.from_dialler) c.from_acceptor;
+  keeps = record { content = refl; ends = (refl, refl); verdict = refl };
+}
+
+still_refl : (c : CapturedConnection) → Still c c
+still_refl c = record {
+  dialler = record { stream = refl; same = refl };
+  acceptor = record { stream = refl; same = refl };
+  keeps = record { content = refl; ends = (refl, refl); verdict = refl };
+}
+
+-- a close or a reset changes no bytes
+ending_still : (side : Side) (s : Segment) (c : CapturedConnection) → Still c (with_ending side s c)
+ending_still side s c =
+    still_if (not (s.is_fin || s.is_reset)) c c _ (still_refl c) (still_if (can_end side s c) c _ _ (end_still side s c) (record {
+      dialler = record { stream = refl; same = refl };
+      acceptor = record { stream = refl; same = refl };
+      keeps = record { content = refl; ends = (refl, refl); verdict = refl };
+    }))
+
+-- ---- a piece is delivered
+
+-- a segment of a side, by whether it is a reset, delivered a piece of its bytes, and nothing of the other one's
+record Takes (b : Bool) (side : Side) (c : CapturedConnection) (s : Segment) (e : CapturedConnection) : Type 0 where
+  pub piece : List ℕ
+  pub brings : BringsBy b (flow_of side c) s piece (flow_of side e)
+  pub other : SameBytes (flow_of (other_side side) c) (flow_of (other_side side) e)
+  pub keeps : Keeps c e
+
+numbers_take : (b : Bool) (side : Side) (s : Segment) (c : CapturedConnection)
+    → Takes b side c s (cond b c (with_flows side (with_segment s (flow_of side c)) (with_answer s.acknowledges (flow_of (other_side side) c)) c))
+numbers_take true side s c = record {
+  piece = [];
+  brings = (refl, record { stream = refl; same = refl });
+  other = record { stream = refl; same = refl };
+  keeps = record { content = refl; ends = (refl, refl); verdict = refl };
+}
+numbers_take false Dialler s c =
+    let p = delivers s c.from_dialler in
+    record {
+      piece = p.0;
+      brings = p.1;
+      other = answer_same s.acknowledges c.from_acceptor;
+      keeps = record { content = refl; ends = (refl, refl); verdict = refl };
+    }
+numbers_take false Acceptor s c =
+    let p = delivers s c.from_acceptor in
+    record {
+      piece = p.0;
+      brings = p.1;
+      other = answer_same s.acknowledges c.from_dialler;
+      keeps = record { content = refl; ends = (refl, refl); verdict = refl };
+    }
+
+brings_then : (b : Bool) (f g k : Flow) (s : Segment) (piece : List ℕ) → BringsBy b f s piece g → SameBytes g k → BringsBy b f s piece k
+brings_then false f g k s piece p q = record { stream = q.stream ∙ p.stream; bytes = same_waiting g k q ∙ p.bytes; same = q.same ∙ p.same }
+brings_then true f g k s piece p q = (p.0, bytes_then f g k p.1 q)
 
 still_flow : (side : Side) (c e : CapturedConnection) → Still c e → SameBytes (flow_of side c) (flow_of side e)
 still_flow Dialler c e p = p.dialler
 still_flow Acceptor c e p = p.acceptor
 
--- a segment is taken between two steps that take none
-gathers_between : (side : Side) (c noted gone ended : CapturedConnection) (s : Segment) → Still c noted → Gathers side noted s gone → Still gone ended → Gathers side c s ended
-gathers_between side c noted gone ended s p q r = record {
-  piece = q.piece;
-  brings = brings_same (flow_of side c) (flow_of side noted) (flow_of side gone) (flow_of side ended) s q.piece (still_flow side c noted p) q.brings (still_flow side gone ended r);
-  other = bytes_then _ _ _ (bytes_then _ _ _ (still_flow (other_side side) c noted p) q.other) (still_flow (other_side side) gone ended r);
-  content = r.content ∙ q.content ∙ p.content;
-  ends = ends_then c gone ended (ends_then c noted gone p.ends q.ends) r.ends;
+takes_then : (b : Bool) (side : Side) (c d e : CapturedConnection) (s : Segment) → Takes b side c s d → Still d e → Takes b side c s e
+takes_then b side c d e s p q = record {
+  piece = p.piece;
+  brings = brings_then b (flow_of side c) (flow_of side d) (flow_of side e) s p.piece p.brings (still_flow side d e q);
+  other = bytes_then _ _ _ p.other (still_flow (other_side side) d e q);
+  keeps = keeps_then c d e p.keeps q.keeps;
 }
 
-pub follows : (side : Side) (c noted gone ended e : CapturedConnection) (s : Segment) → IsFrom c s side → Still c noted → Gathers side noted s gone → Still gone ended → KeepsEnds ended e
-    → ended.is_certain ≡ (c.is_certain || s.is_syn) → Recognizes ended e → ((b : Sent) → Holds ended b → GoesOn ended e b) → Follows c s e
-follows side c noted gone ended e s from p q r keeps certain recognized goes_on =
-    let all = gathers_between side c noted gone ended s p q r in
+-- what a segment shows of its connection changes no bytes
+signed : (b : Bool) (side : Side) (c e : CapturedConnection) (s : Segment) → Takes b side (with_sign s c) s e → Takes b side c s e
+signed b Dialler c e s p = record { piece = p.piece; brings = p.brings; other = p.other; keeps = record { content = p.keeps.content; ends = p.keeps.ends; verdict = p.keeps.verdict } }
+signed b Acceptor c e s p = record { piece = p.piece; brings = p.brings; other = p.other; keeps = record { content = p.keeps.content; ends = p.keeps.ends; verdict = p.keeps.verdict } }
+
+takes : (side : Side) (s : Segment) (c : CapturedConnection) → Takes s.is_reset side c s (once_taken side s c)
+takes side s c =
+    let n = with_sign s c in
+    signed s.is_reset side c _ s
+    (takes_then s.is_reset side n (with_numbers side s n) _ s (numbers_take s.is_reset side s n) (ending_still side s (with_numbers side s n)))
+
+-- once all of that is known, what is carried, who dialled, and the verdict are the same
+pub taken_keeps : (side : Side) (s : Segment) (c e : CapturedConnection) → e ≡ once_taken side s c → Keeps c e
+taken_keeps side s c e known = subst (Keeps c) (sym known) (takes side s c).keeps
+
+pub gathers : (side : Side) (s : Segment) (c e : CapturedConnection) → e ≡ once_taken side s c → Gathers side c s e
+gathers side s c e known =
+    let t = subst (Takes s.is_reset side c s) (sym known) (takes side s c) in
+    record { known = known; piece = t.piece; brings = t.brings; other = t.other }
+
+gathers_hold : (side : Side) (c : CapturedConnection) (s : Segment) (e : CapturedConnection) (b : Sent) → (p : Gathers side c s e) → Holds c b → Holds e (with_piece side p.piece b)
+gathers_hold Dialler c s e b p q =
+    subst (λ (t : Traffic). IsOf t (with_piece Dialler p.piece b) e.from_dialler e.from_acceptor) (sym (taken_keeps Dialler s c e p.known).content)
+    (dialler_of c.content b p.piece c.from_dialler c.from_acceptor e.from_dialler e.from_acceptor (brings_by s.is_reset c.from_dialler s p.piece e.from_dialler p.brings) p.other q)
+gathers_hold Acceptor c s e b p q =
+    subst (λ (t : Traffic). IsOf t (with_piece Acceptor p.piece b) e.from_dialler e.from_acceptor) (sym (taken_keeps Acceptor s c e p.known).content)
+    (acceptor_of c.content b p.piece c.from_dialler c.from_acceptor e.from_dialler e.from_acceptor p.other (brings_by s.is_reset c.from_acceptor s p.piece e.from_acceptor p.brings) q)
+
+-- A SEGMENT WAS TAKEN: what it shows is noted, its bytes are gathered, its end is noted; then the connection is read.
+pub follows : (side : Side) (c noted gathered ended e : CapturedConnection) (s : Segment) → IsFrom c s side → noted ≡ with_sign s c → gathered ≡ with_numbers side s noted
+    → ended ≡ with_ending side s gathered → Recognizes s.time ended e → KeepsEnds ended e → ((b : Sent) → Holds ended b → GoesOn ended e b) → Follows c s e
+follows side c noted gathered ended e s from one two three recognized keeps goes_on =
+    let known : ended ≡ once_taken side s c = three ∙ ap (with_ending side s) (two ∙ ap (with_numbers side s) one) in
+    let all = gathers side s c ended known in
     record {
       side = side;
       from = from;
       unread = ended;
       gathers = all;
-      certain = certain;
       recognized = recognized;
       ends = keeps;
       goes_on = λ b holds. goes_on (with_piece side all.piece b) (gathers_hold side c s ended b all holds);
     }
 
--- ---- what is carried is read
-
 pub ok_both : {T E : Type 0} (r : Result T E) (P Q : T → Type 0) → IfOk r P → IfOk r Q → IfOk r (λ x. P x × Q x)
 ok_both (Ok x) P Q p q = (p, q)
 ok_both (Err e) P Q p q = tt
-
-behind_same : (f g : Flow) → SameBytes f g → SameBehind f g
-behind_same f g p = record { behind = ap behind_in p.stream; same = p.same }
-
-behind_then : (f g k : Flow) → SameBehind f g → SameBehind g k → SameBehind f k
-behind_then f g k p q = record { behind = q.behind ∙ p.behind; same = q.same ∙ p.same }
-
-on_then : (f g k : Flow) → SameBytes f g → SameBehind g k → IsReadOn f k
-on_then f g k p q = inl (behind_then f g k (behind_same f g p) q)
-
-pub ends_on : (c d e : CapturedConnection) → KeepsEnds c d → SameEnds d e → KeepsEnds c e
-ends_on c d e (inl p) q = inl (ends_then c d e p q)
-ends_on c d e (inr p) q = inr (q.0 ∙ p.0, q.1 ∙ p.1, q.2 ∙ p.2)
-
--- it was found out, and read
-pub reads_then : (c d e : CapturedConnection) → ((b : Sent) → Holds c b → Finds c d b) → SameStreams d e → ((b : Sent) → Holds d b → Holds e b × Tells e b)
-    → (b : Sent) → Holds c b → GoesOn c e b
-reads_then c d e finds same both b holds = elim (finds b holds) [
-  | inl p ↦
-      let q = both b p.3 in
-      inl (
-        (ends_then c d e p.0 same.ends, on_then c.from_dialler d.from_dialler e.from_dialler p.1 same.dialler, on_then c.from_acceptor d.from_acceptor e.from_acceptor p.2 same.acceptor),
-        q.0,
-        q.1,
-      )
-  | inr p ↦
-      let q = both (exchanged b) p.3 in
-      inr (
-        ((same.ends.0 ∙ p.0.0, same.ends.1 ∙ p.0.1, same.ends.2 ∙ p.0.2), on_then c.from_dialler d.from_acceptor e.from_acceptor p.1 same.acceptor, on_then c.from_acceptor d.from_dialler e.from_dialler p.2 same.dialler),
-        q.0,
-        q.1,
-      )
-]
-
-pub streams_then : (c d e : CapturedConnection) → SameStreams c d → SameStreams d e → SameStreams c e
-streams_then c d e p q = record {
-  ends = ends_then c d e p.ends q.ends;
-  dialler = behind_then c.from_dialler d.from_dialler e.from_dialler p.dialler q.dialler;
-  acceptor = behind_then c.from_acceptor d.from_acceptor e.from_acceptor p.acceptor q.acceptor;
-}
-
--- what is carried was read as far as it is whole
-abbrev Keeps : CapturedConnection → CapturedConnection → Type 0
-Keeps c e = SameStreams c e × ((b : Sent) → Holds c b → Tells c b → Holds e b × Tells e b)
-
--- what was said to a port mapper was read, if that was not whole
-pub keeps_talk : (c e : CapturedConnection) → is_over c.content ≡ false → e ≡ record c { content = e.content } → ReadsTalk c.content c e → Keeps c e
-keeps_talk c e goes rest talk = (
-  record {
-    ends = (ap (λ (x : CapturedConnection). x.ends) rest, ap (λ (x : CapturedConnection). x.dialler) rest, ap (λ (x : CapturedConnection). x.acceptor) rest);
-    dialler = behind_at c.from_dialler e.from_dialler (ap (λ (x : CapturedConnection). x.from_dialler) rest);
-    acceptor = behind_at c.from_acceptor e.from_acceptor (ap (λ (x : CapturedConnection). x.from_acceptor) rest);
-  },
-  λ b holds tells. by c.content refl talk b holds tells,
-) where
-  behind_at : (f g : Flow) → g ≡ f → SameBehind f g
-  behind_at f g e = record { behind = ap (λ (x : Flow). behind_in x.stream) e; same = ap (λ (x : Flow). x.is_read) e }
-
-  -- it is the same connection
-  kept : (b : Sent) → e ≡ c → Holds c b → Tells c b → Holds e b × Tells e b
-  kept b same p q = subst (λ (x : CapturedConnection). Holds x b × Tells x b) (sym same) (p, q)
-
-  by : (t : Traffic) → c.content ≡ t → ReadsTalk t c e → (b : Sent) → Holds c b → Tells c b → Holds e b × Tells e b
-  by traffic.Unknown is same b p q = kept b same p q
-  by (traffic.Handshake h) is same b p q = kept b same p q
-  by (traffic.Mapper talk) is read b p q =
-      let not_whole : is_read_whole talk ≡ false = subst (λ (x : Traffic). is_over x ≡ false) is goes in
-      let here : TalkIn b.dialler b.acceptor talk × (is_read_whole talk ≡ false → AllWait b c.from_dialler c.from_acceptor) =
-      subst (λ (x : Traffic). IsOf x b c.from_dialler c.from_acceptor) is p in
-      let waits = here.1 not_whole in
-      let carries : e.content ≡ talk_read talk b.dialler b.acceptor =
-      subst (λ (l : List ℕ). e.content ≡ talk_read talk b.dialler l) (sym waits.1) (subst (λ (l : List ℕ). e.content ≡ talk_read talk l (bytes_of c.from_acceptor)) (sym waits.0) read) in
-      let of_dialler : c.from_dialler ≡ e.from_dialler = sym (ap (λ (x : CapturedConnection). x.from_dialler) rest) in
-      let of_acceptor : c.from_acceptor ≡ e.from_acceptor = sym (ap (λ (x : CapturedConnection). x.from_acceptor) rest) in
-      let both : AllWait b e.from_dialler e.from_acceptor = (waits.0 ∙ ap bytes_of of_dialler, waits.1 ∙ ap bytes_of of_acceptor) in
-      subst (λ (x : Traffic). IsOf x b e.from_dialler e.from_acceptor × SaidBoth x b) (sym carries) (talk_holds talk b e.from_dialler e.from_acceptor both here.0)
-  by (traffic.Unreached u) is same b p q = kept b same p q
-  by traffic.Tls is same b p q = kept b same p q
-  by traffic.Other is same b p q = kept b same p q
-
--- and what was said to a port mapper too
-pub reads_more : (c d e k : CapturedConnection) → ((b : Sent) → Holds c b → Finds c d b) → ReadsBoth d e → Keeps e k → (b : Sent) → Holds c b → GoesOn c k b
-reads_more c d e k finds both keeps =
-    reads_then c d k finds (streams_then d e k both.0 keeps.0) (λ b holds. let q = both.1 b holds in keeps.1 b q.0 q.1)
-
--- what is left needs no more bytes
-left_holds : (t : Traffic) (b : Sent) (f g f' g' : Flow) → is_over t ≡ true → IsOf t b f g → IsOf t b f' g' × SaidBoth t b
-left_holds traffic.Unknown b f g f' g' p q = absurd cc
-left_holds (traffic.Handshake h) b f g f' g' p q = absurd cc
-left_holds (traffic.Mapper talk) b f g f' g' p q = ((q.0, λ goes. absurd (whole_open (is_read_whole talk) p goes)), q.0)
-left_holds (traffic.Unreached u) b f g f' g' p q = (tt, tt)
-left_holds traffic.Tls b f g f' g' p q = (tt, tt)
-left_holds traffic.Other b f g f' g' p q = (tt, tt)
-
--- no more of it is read
-pub reads_no_more : (c d e k : CapturedConnection) → ((b : Sent) → Holds c b → Finds c d b) → ReadsBoth d e → is_over e.content ≡ true → k.content ≡ e.content → SameEnds e k
-    → IsGone k.from_dialler → IsGone k.from_acceptor → (b : Sent) → Holds c b → GoesOn c k b
-reads_no_more c d e k finds both left same ends one other b holds =
-    let says : (b : Sent) → Holds d b → Holds k b × Tells k b = λ b here.
-    let q = left_holds e.content b e.from_dialler e.from_acceptor k.from_dialler k.from_acceptor left (both.1 b here).0 in
-    subst (λ (t : Traffic). IsOf t b k.from_dialler k.from_acceptor × SaidBoth t b) (sym same) q in
-    elim (finds b holds) [
-      | inl p ↦ inl ((ends_then c d k p.0 (ends_then d e k both.0.ends ends), inr one, inr other), (says b p.3).0, (says b p.3).1)
-      | inr p ↦
-          let all = ends_then d e k both.0.ends ends in
-          inr (((all.0 ∙ p.0.0, all.1 ∙ p.0.1, all.2 ∙ p.0.2), inr other, inr one), (says (exchanged b) p.3).0, (says (exchanged b) p.3).1)
-    ]

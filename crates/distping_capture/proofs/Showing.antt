@@ -49,7 +49,7 @@ shows_outcome left_out v link word n status line is_link is_word is_status objec
 
 -- with `--json` the object of the capture is printed at its end
 pub capture_printed : (quiet found : Bool) (left_out : PacketsLeftOut) (v : Option HandshakeVerdict) (status : ℕ) (line : List ℕ) (a b : SinkState) → quiet ≡ true → v ≡ capture_verdict found
-    → IsObjectLine (capture_layout left_out v status) line → Prints line a b → PrintsOutcome quiet found status a b
+    → IsObjectLine (capture_layout left_out v status) line → Prints line a b → PrintsOutcome quiet found left_out status a b
 capture_printed true found left_out v status line a b p is object printed =
-    record { left_out = left_out; line = line; object = subst (λ (w : Option HandshakeVerdict). IsObjectLine (capture_layout left_out w status) line) is object; printed = printed }
+    record { line = line; object = subst (λ (w : Option HandshakeVerdict). IsObjectLine (capture_layout left_out w status) line) is object; printed = printed }
 capture_printed false found left_out v status line a b p is object printed = absurd cc

@@ -1,15 +1,17 @@
 -- What a stream delivers, and what waits in it, stands in the segments that it took; each byte has a number.
 use Rattle.std.proofs.Common.{◌≡◌, ℕ, zero, suc, ◌+◌, ◌-◌, ◌%◌, ◌^◌, ◌<◌, ◌≤◌, ◌⊎◌, inl, inr, Bool, true, false, cond, ltb, leb, eqb, List, [], ◌∷◌, ◌++◌, length, drop, Option, Some, None}
-use Rattle.std.proofs.Common.{refl, sym, ap, subst, ◌∙◌, arith, slice_get, append-nil, length-append, option_map}
+use Rattle.std.proofs.Common.{refl, sym, ap, subst, ◌∙◌, arith, slice_get, append-nil, length-append, option_map, unwrap_or, not, ◌&&◌}
 use Rattle.std.proofs.lemmas.{Bool.cases_lt, Bool.lt-leb, List.append_cancel_left, List.get_or-drop}
 use Rattle.std.specs.List.{Contains}
 use Rattle.dist_capture.specs.declared.segment.{Endpoint.Endpoint, Segment.Segment}
-use Rattle.dist_capture.specs.Streams.{Gathering, byte_at, first_of, is_near, known_at, laid, leading, new_part, past, settled, taken, with_new}
+use Rattle.dist_capture.specs.Streams.{Gathering, awaiting, byte_at, first_of, is_near, known_at, laid, leading, new_part, past, settled, taken, with_new}
 use Rattle.dist_capture.proofs.Known.{known_laid, slice_get-drop}
 use Rattle.distping_capture.specs.Carried.{AwaitsBy, Carried, Stands, StandsAt}
 use Rattle.distping_capture.specs.Connections.{Goes}
-use Rattle.distping_capture.specs.Flows.{BeginsBy, Brings, BringsBy, IsGone, IsReadOn, IsUnbegun, SameBehind, SameBytes, behind_in, gathered, number_of_first, ready_in}
+use Rattle.distping_capture.specs.Flows.{Brings, BringsBy, IsReadOn, SameBehind, SameBytes, behind_in, ready_in}
+use Rattle.distping_capture.specs.Numbers.{begun_by, distance, first_read, gathered, gone, number_of_first}
 use Rattle.distping_capture.specs.declared.flow.Flow.{Flow}
+use Rattle.distping_capture.proofs.Pieces.{same_ready}
 
 -- these bytes have the numbers from one on
 abbrev pub BytesAt : (ℕ → ℕ → Type 0) → ℕ → List ℕ → Type 0
@@ -161,17 +163,30 @@ record Behind (segments : List Segment) (from to : Endpoint) (bytes : List ℕ) 
   pub each : BytesAt (StandsAt segments from to) first bytes
   pub awaits : AwaitsBy segments from to first bytes reads (behind_in o)
 
-begun_behind : (segments : List Segment) (from to : Endpoint) (bytes : List ℕ) (reads : Bool) (o begun : Option Gathering) → BeginsBy reads o begun
-    → Behind segments from to bytes reads o → Behind segments from to bytes reads begun
-begun_behind segments from to bytes reads (Some g) begun e p = subst (Behind segments from to bytes reads) (sym e) p
-begun_behind segments from to bytes false None begun e p = subst (Behind segments from to bytes false) (sym e) p
-begun_behind segments from to bytes true None begun (n, small, is) p =
+-- a stream that begins awaits a number of which there are 2^32
+small_if : (b : Bool) (m n : ℕ) → m < 2 ^ 32 → n < 2 ^ 32 → cond b m n < 2 ^ 32
+small_if true m n p q = p
+small_if false m n p q = q
+
+first_small : (o : Option ℕ) (s : Segment) → first_read o s < 2 ^ 32
+first_small None s = omega arith
+first_small (Some number) s = small_if (not s.is_syn && ltb (distance (number_of_first s) number) 65536) (number % 2 ^ 32) (number_of_first s) (omega arith) (omega arith)
+
+begun_at : (segments : List Segment) (from to : Endpoint) (bytes : List ℕ) (reads : Bool) (o : Option Gathering) (first : ℕ) → first < 2 ^ 32
+    → Behind segments from to bytes reads o → Behind segments from to bytes reads (cond reads (Some (unwrap_or o (awaiting first 65536))) o)
+begun_at segments from to bytes false o first small p = p
+begun_at segments from to bytes true (Some g) first small p = p
+begun_at segments from to bytes true None first small p =
     let count : length bytes ≡ 0 = ap length p.awaits in
-    subst (Behind segments from to bytes true) (sym is) (record {
-      first = n;
-      each = none_at (StandsAt segments from to) n bytes p.awaits;
+    record {
+      first = first;
+      each = none_at (StandsAt segments from to) first bytes p.awaits;
       awaits = (omega (arith, count, small), λ i b e. absurd cc);
-    })
+    }
+
+begun_behind : (segments : List Segment) (from to : Endpoint) (bytes : List ℕ) (s : Segment) (f : Flow) → Behind segments from to bytes f.is_read f.stream
+    → Behind segments from to bytes f.is_read (begun_by s f)
+begun_behind segments from to bytes s f p = begun_at segments from to bytes f.is_read f.stream (first_read f.acknowledged s) (first_small f.acknowledged s) p
 
 gathered_none : (segments : List Segment) (from to : Endpoint) (bytes piece : List ℕ) (reads : Bool) → [] ≡ [] ++ piece → Behind segments from to bytes reads None → Behind segments from to (bytes ++ piece) reads None
 gathered_none segments from to bytes piece reads none p =
@@ -198,20 +213,23 @@ gathered_behind : (segments : List Segment) (from to : Endpoint) (s : Segment) (
 gathered_behind segments from to s bytes piece reads None among goes real ready p = gathered_none segments from to bytes piece reads ready p
 gathered_behind segments from to s bytes piece reads (Some g) among goes real ready p = gathered_some segments from to s bytes piece reads g among goes real ready p
 
-begun_ready : (reads : Bool) (o begun : Option Gathering) → BeginsBy reads o begun → ready_in begun ≡ ready_in o
-begun_ready reads (Some g) begun e = ap ready_in e
-begun_ready false None begun e = ap ready_in e
-begun_ready true None begun (n, small, is) = ap ready_in is
-
-pub stands_behind : (segments : List Segment) (from to : Endpoint) (bytes : List ℕ) (f g : Flow) → SameBehind f g → Stands segments from to bytes f → Stands segments from to bytes g
-stands_behind segments from to bytes f g same p = record {
+stands_at : (segments : List Segment) (from to : Endpoint) (bytes : List ℕ) (f g : Flow) → behind_in g.stream ≡ behind_in f.stream → g.is_read ≡ f.is_read
+    → Stands segments from to bytes f → Stands segments from to bytes g
+stands_at segments from to bytes f g behind reads p = record {
   first = p.first;
   each = p.each;
-  awaits = subst (AwaitsBy segments from to p.first bytes g.is_read) (sym same.behind) (subst (λ (b : Bool). AwaitsBy segments from to p.first bytes b (behind_in f.stream)) (sym same.same) p.awaits);
+  awaits = subst (AwaitsBy segments from to p.first bytes g.is_read) (sym behind) (subst (λ (b : Bool). AwaitsBy segments from to p.first bytes b (behind_in f.stream)) (sym reads) p.awaits);
 }
 
+stands_behind : (segments : List Segment) (from to : Endpoint) (bytes : List ℕ) (f g : Flow) → SameBehind f g → Stands segments from to bytes f → Stands segments from to bytes g
+stands_behind segments from to bytes f g same p = stands_at segments from to bytes f g same.behind (ap (λ (x : Flow). x.is_read) same.rest) p
+
 pub stands_same : (segments : List Segment) (from to : Endpoint) (bytes : List ℕ) (f g : Flow) → SameBytes f g → Stands segments from to bytes f → Stands segments from to bytes g
-stands_same segments from to bytes f g same p = stands_behind segments from to bytes f g (record { behind = ap behind_in same.stream; same = same.same }) p
+stands_same segments from to bytes f g same p = stands_at segments from to bytes f g (ap behind_in same.stream) same.same p
+
+-- none of its bytes are kept, and no more are read
+abbrev pub IsGone : Flow → Type 0
+IsGone f = (f.stream ≡ None) × (f.is_read ≡ false)
 
 pub stands_gone : (segments : List Segment) (from to : Endpoint) (bytes : List ℕ) (f : Flow) → IsGone f → Carried segments from to bytes → Stands segments from to bytes f
 stands_gone segments from to bytes f gone p = record {
@@ -220,12 +238,18 @@ stands_gone segments from to bytes f gone p = record {
   awaits = subst (λ (o : Option Gathering). AwaitsBy segments from to p.first bytes f.is_read (behind_in o)) (sym gone.0) (subst (λ (b : Bool). AwaitsBy segments from to p.first bytes b None) (sym gone.1) tt);
 }
 
-pub stands_on : (segments : List Segment) (from to : Endpoint) (bytes : List ℕ) (f g : Flow) → IsReadOn f g → Stands segments from to bytes f → Stands segments from to bytes g
-stands_on segments from to bytes f g (inl same) p = stands_behind segments from to bytes f g same p
-stands_on segments from to bytes f g (inr gone) p = stands_gone segments from to bytes g gone (record { first = p.first; each = p.each })
+pub stands_on : (segments : List Segment) (from to : Endpoint) (bytes : List ℕ) (b : Bool) (f g : Flow) → IsReadOn b f g → Stands segments from to bytes f
+    → Stands segments from to bytes g
+stands_on segments from to bytes false f g same p = stands_behind segments from to bytes f g same p
+stands_on segments from to bytes true f g is p =
+    subst (Stands segments from to bytes) (sym is) (stands_gone segments from to bytes (gone f) (refl, refl) (record { first = p.first; each = p.each }))
 
 pub nothing_carried : (segments : List Segment) (from to : Endpoint) → Carried segments from to []
 nothing_carried segments from to = record { first = 0; each = none_at (StandsAt segments from to) 0 [] refl }
+
+-- nothing of it came yet
+abbrev pub IsUnbegun : Flow → Type 0
+IsUnbegun f = (f.stream ≡ None) × (f.is_read ≡ true)
 
 pub stands_unbegun : (segments : List Segment) (from to : Endpoint) (f : Flow) → IsUnbegun f → Stands segments from to [] f
 stands_unbegun segments from to f new = record {
@@ -244,9 +268,10 @@ stands_brings segments from to bytes piece f s later among goes brings p = by s.
       subst (λ (l : List ℕ). Stands segments from to l later) same (stands_same segments from to bytes f later q.1 p)
   by false e q =
       let before : Behind segments from to bytes f.is_read f.stream = record { first = p.first; each = p.each; awaits = p.awaits } in
-      let ready : ready_in (option_map (gathered s) q.begun) ≡ ready_in q.begun ++ piece =
-      sym (ap ready_in q.stream) ∙ q.bytes ∙ ap (λ (l : List ℕ). l ++ piece) (sym (begun_ready f.is_read f.stream q.begun q.begins)) in
-      let all = gathered_behind segments from to s bytes piece f.is_read q.begun among goes e ready (begun_behind segments from to bytes f.is_read f.stream q.begun q.begins before) in
+      let begun = begun_by s f in
+      let ready : ready_in (option_map (gathered s) begun) ≡ ready_in begun ++ piece =
+      sym (ap ready_in q.stream) ∙ q.bytes ∙ ap (λ (l : List ℕ). l ++ piece) (sym (same_ready s f)) in
+      let all = gathered_behind segments from to s bytes piece f.is_read begun among goes e ready (begun_behind segments from to bytes s f before) in
       let there : Behind segments from to (bytes ++ piece) later.is_read later.stream =
-      subst (λ (o : Option Gathering). Behind segments from to (bytes ++ piece) later.is_read o) (sym q.stream) (subst (λ (b : Bool). Behind segments from to (bytes ++ piece) b (option_map (gathered s) q.begun)) (sym q.same) all) in
+      subst (λ (o : Option Gathering). Behind segments from to (bytes ++ piece) later.is_read o) (sym q.stream) (subst (λ (b : Bool). Behind segments from to (bytes ++ piece) b (option_map (gathered s) begun)) (sym q.same) all) in
       record { first = there.first; each = there.each; awaits = there.awaits }

@@ -7,7 +7,7 @@ use Rattle.dist_frames.specs.Stream.{first_body, front, head}
 use Rattle.dist_frames.proofs.Streams.{Starts, by_first, head-append, starts, starts_true}
 use Rattle.dist_epmd.specs.declared.{epmd_error.EpmdError.EpmdError, message.Answer.Answer, message.Request.Request}
 use Rattle.distping_capture.specs.Connections.{AllWait, IsOf, SaidBoth, Sent}
-use Rattle.distping_capture.specs.{Recognized.IsAnswerIn, Recognized.TalkIn, Recognized.answered_by, Recognized.asked_by, Recognized.empty_talk}
+use Rattle.distping_capture.specs.{Recognized.IsAnswerIn, Recognized.TalkIn, Recognized.answered_by, Recognized.asked_by}
 use Rattle.distping_capture.specs.{Recognized.talk_asked, Recognized.talk_read}
 use Rattle.distping_capture.specs.declared.{flow.Flow.Flow, traffic.MapperTalk.MapperTalk}
 
@@ -118,9 +118,6 @@ talk_holds talk b f g waits p = by (asked_by talk.request (first_body w16 b.dial
       → IsOf (talk_asked talk b.acceptor r) b f g × SaidBoth (talk_asked talk b.acceptor r) b
   by (Ok request) is = let q = said_on b.dialler b.acceptor talk request is p in ((q, λ _. waits), q)
   by (Err fault) is = (tt, tt)
-
-pub nothing_talked : TalkIn [] [] empty_talk
-nothing_talked = record { asked = tt; answered = tt }
 
 -- all was read, or it was not
 pub whole_open : (b : Bool) → b ≡ true → b ≡ false → ⊥

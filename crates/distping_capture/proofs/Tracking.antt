@@ -1,24 +1,24 @@
 -- All connections of a capture, segment by segment.
-use Rattle.std.proofs.Common.{◌≡◌, Bool, ℕ, suc, ◌<◌, ◌≤◌, List, [], ◌∷◌, ◌++◌, length, take, drop, map, get_or, set, Option, Some, None, Ok, Err, Result, refl, sym, ap, subst, ◌∙◌, append-nil, append_assoc, arith, slice_get, ◌+◌, IfSome}
-use Rattle.std.specs.List.{All, Contains, insert, remove}
+use Rattle.std.proofs.Common.{◌≡◌, ◌⊎◌, inl, inr, Bool, true, false, ℕ, suc, ◌<◌, ◌≤◌, List, [], ◌∷◌, ◌++◌, length, take, drop, map, get_or, set, Option, Some, None, Ok, Err, Result, refl, sym, ap, subst, ◌∙◌, append-nil, append_assoc, arith, slice_get, ◌+◌, IfSome, MatchBool}
+use Rattle.std.specs.List.{All, Contains, remove}
 use Rattle.std.specs.Io.KnownBytes.{Consumes, IsAtEnd}
 use Rattle.std.proofs.KnownBytes.{Consumes-trans, Consumes-whole}
-use Rattle.std.proofs.lemmas.List.Edits.{get_or-insert_at, length-insert}
-use Rattle.std.proofs.lemmas.List.Elements.{All-append, All-cons, All-drop, All-get_or, All-nil, All-set, All-take, All-weaker}
+use Rattle.std.proofs.lemmas.{Bool.cases_lt, List.get_or_default, List.get_or_push, List.length_push}
+use Rattle.std.proofs.lemmas.List.Elements.{All-append, All-drop, All-get_or, All-nil, All-push, All-set, All-take, All-weaker}
 use Rattle.std.specs.Result.{IfOk}
 use Rattle.std.proofs.lemmas.{Fn.FoldsTo-push, Option.slice_get-get_or}
-use Rattle.dist_capture.specs.Reading.{Done, EndsAt, Next, Reading, Reads, Was, Opened, Fed, Asked, unread, view_of, whole, with_bytes}
-use Rattle.dist_capture.specs.{Tcp.Said, declared.segment.Endpoint.Endpoint, declared.segment.Segment.Segment}
+use Rattle.dist_capture.specs.Reading.{Done, EndsAt, Next, Reading, Reads, Was, Opened, Fed, Asked, is_cut_off, unread, view_of, whole, with_bytes}
+use Rattle.dist_capture.specs.{Tcp.Said, declared.segment.Segment.Segment}
 use Rattle.dist_talk.specs.declared.terms.Terms.{Terms}
 use Rattle.std.specs.declared.boxed.Box.{Box}
 use Rattle.std.specs.Global.{Global}
 use Rattle.distping_capture.specs.Captures.{AreAll, CountsTo, EndsWith, FinishesWith, IsAt, IsFresh, ReadsIn, TakesIn, TakesOne, Tracks, TracksNext}
-use Rattle.distping_capture.specs.{Carried.StandsOn, Connections.EndsOf}
-use Rattle.distping_capture.specs.Exits.{Counts, GoesOnCounting, GoesOnWatching, TakesOn}
+use Rattle.distping_capture.specs.{Carried.StandsOn, Connections.IsBetween, Connections.IsNew, Endings.is_before}
+use Rattle.distping_capture.specs.Exits.{Counts, Ends, GoesOnWatching, Renews, SameAttempts, TakesOn, TakesYet}
 use Rattle.distping_capture.specs.declared.{connection.CapturedConnection.CapturedConnection, finder.Finder.Finder, register.Register.Register}
 use Rattle.distping_report.specs.Sinks.{SinkState}
 use Rattle.distping_capture.proofs.Counting.{counts_on}
-use Rattle.distping_capture.proofs.Watching.{stands_more}
+use Rattle.distping_capture.proofs.Watching.{new_between, stands_more}
 
 abbrev pub Boxed : Type 0
 Boxed = Box CapturedConnection Global
@@ -51,54 +51,73 @@ module _ {W : Type 0} where
   )
 
   -- one is added
-  pub tracks_added : (t : Terms) (segments : List Segment) (r : Register W) (xs ys : List Boxed) (place : ℕ) (b : Boxed) (c : CapturedConnection) → ys ≡ insert xs place b → b.value ≡ c → StandsOn segments c
+  pub tracks_added : (t : Terms) (segments : List Segment) (r : Register W) (xs ys : List Boxed) (b : Boxed) (c : CapturedConnection) → ys ≡ xs ++ b ∷ [] → b.value ≡ c → StandsOn segments c
       → TracksBy t segments r xs → TracksBy t segments r ys
-  tracks_added t segments r xs ys place b c items value stands p = (
-    p.0,
-    subst (All (IsOn segments)) (sym items) (All-append (IsOn segments) (take place xs) (b ∷ drop place xs) (All-take (IsOn segments) place xs p.1)
-        (All-cons (IsOn segments) b (drop place xs) (subst (StandsOn segments) (sym value) stands) (All-drop (IsOn segments) place xs p.1))),
-  )
+  tracks_added t segments r xs ys b c items value stands p =
+      (p.0, subst (All (IsOn segments)) (sym items) (All-push (IsOn segments) xs b p.1 (subst (StandsOn segments) (sym value) stands)))
 
 -- ---- a connection's place
 
 -- a connection at this place is between the two ports of this segment
 abbrev pub IsPlaceIn : Segment → List Boxed → ℕ → Type 0
-IsPlaceIn s xs place = IfSome (slice_get xs place) (λ (b : Boxed). EndsOf s b.value.ends)
+IsPlaceIn s xs place = IfSome (slice_get xs place) (λ (b : Boxed). IsBetween b.value s)
 
-pub place_found : (s : Segment) (xs : List Boxed) (place : ℕ) (b : Boxed) (ends : Endpoint × Endpoint) → slice_get xs place ≡ Some b → b.value.ends ≡ ends → EndsOf s ends → IsPlaceIn s xs place
-place_found s xs place b ends here same of =
-    subst (λ (o : Option Boxed). IfSome o (λ (x : Boxed). EndsOf s x.value.ends)) (sym here) (subst (EndsOf s) (sym same) of)
+pub place_found : (s : Segment) (xs : List Boxed) (place : ℕ) (b : Boxed) → slice_get xs place ≡ Some b → IsBetween b.value s → IsPlaceIn s xs place
+place_found s xs place b here of = subst (λ (o : Option Boxed). IfSome o (λ (x : Boxed). IsBetween x.value s)) (sym here) of
 
 pub here_is : (xs : List Boxed) (place : ℕ) (b : Boxed) → place < length xs → b ≡ get_or xs place b → slice_get xs place ≡ Some b
 here_is xs place b within is = slice_get-get_or xs place b within ∙ ap (λ (x : Boxed). Some x) (sym is)
 
-pub place_made : (s : Segment) (xs ys : List Boxed) (place : ℕ) (b : Boxed) (c : CapturedConnection) → place ≤ length xs → ys ≡ insert xs place b → b.value ≡ c → EndsOf s c.ends → IsPlaceIn s ys place
-place_made s xs ys place b c within items value ends =
-    let n : length ys ≡ length xs + 1 = ap length items ∙ length-insert xs place b within in
-    let at : get_or ys place b ≡ b = ap (λ (l : List Boxed). get_or l place b) items ∙ get_or-insert_at xs place b b within in
-    place_found s ys place b c.ends (here_is ys place b (omega (arith, n)) (sym at)) (ap (λ (x : CapturedConnection). x.ends) value) ends
+pub place_made : (s : Segment) (xs ys : List Boxed) (place : ℕ) (b : Boxed) (c : CapturedConnection) → place ≡ length xs → ys ≡ xs ++ b ∷ [] → b.value ≡ c → IsBetween c s → IsPlaceIn s ys place
+place_made s xs ys place b c last items value between =
+    let n : length ys ≡ length xs + 1 = ap length items ∙ length_push xs b in
+    let at : get_or ys place b ≡ b = ap (λ (l : List Boxed). get_or l place b) items ∙ get_or_push xs b b place (sym last) in
+    place_found s ys place b (here_is ys place b (omega (arith, n, last)) (sym at)) (subst (λ (x : CapturedConnection). IsBetween x s) (sym value) between)
 
-pub made_within : (xs ys : List Boxed) (place : ℕ) (b : Boxed) → place ≤ length xs → ys ≡ insert xs place b → place < length ys
-made_within xs ys place b within items = let n : length ys ≡ length xs + 1 = ap length items ∙ length-insert xs place b within in omega (arith, n, within)
+-- none of those behind this place is between the two ports
+abbrev pub NoneBehind : Segment → List Boxed → ℕ → Type 0
+NoneBehind s xs place = (k : ℕ) (d : Boxed) → place ≤ k → k < length xs → IsBetween (get_or xs k d).value s → ⊥
+
+pub none_more : (s : Segment) (xs : List Boxed) (place : ℕ) (b : Boxed) → place < length xs → b ≡ get_or xs place b → (IsBetween b.value s → ⊥) → NoneBehind s xs (place + 1) → NoneBehind s xs place
+none_more s xs place b within is none behind k d from inside = by (cases_lt place k) where
+  by : (place < k) ⊎ (k ≤ place) → IsBetween (get_or xs k d).value s → ⊥
+  by (inl before) = behind k d (omega (arith, before)) inside
+  by (inr here) =
+      let itself : get_or xs k d ≡ b = ap (λ (n : ℕ). get_or xs n d) (omega (arith, here, from)) ∙ get_or_default xs place d b within ∙ sym is in
+      λ between. none (subst (λ (x : Boxed). IsBetween x.value s) itself between)
 
 module _ {W : Type 0} where
   -- one takes a segment
   pub hands_on : (s : Segment) (r between u : Register W) (xs : List Boxed) (place : ℕ) (b b' : Boxed) (c mid e : CapturedConnection) → place < length xs → b ≡ get_or xs place b → c ≡ b.value → b'.value ≡ e
-      → (EndsOf s c.ends → EndsOf s mid.ends) → GoesOnWatching r c between mid → TakesOn s between mid u e → IsPlaceIn s xs place
+      → (IsBetween c s → IsBetween mid s) → GoesOnWatching r c between mid → TakesOn s between mid u e → IsPlaceIn s xs place
       → (t : Terms) (segments : List Segment) → Contains segments s → TracksBy t segments r xs → TracksBy t segments u (set xs place b')
   hands_on s r between u xs place b b' c mid e within is value made ends renews takes of t segments among p =
-      let own : EndsOf s b.value.ends = subst (λ (o : Option Boxed). IfSome o (λ (x : Boxed). EndsOf s x.value.ends)) (here_is xs place b within is) of in
-      let mine : EndsOf s c.ends = subst (λ (x : CapturedConnection). EndsOf s x.ends) (sym value) own in
+      let own : IsBetween b.value s = subst (λ (o : Option Boxed). IfSome o (λ (x : Boxed). IsBetween x.value s)) (here_is xs place b within is) of in
+      let mine : IsBetween c s = subst (λ (x : CapturedConnection). IsBetween x s) (sym value) own in
       let w = takes t segments among (ends mine) (renews t segments (record { counts = p.0; stands = stands_at segments xs place b c within is value p.1 })) in
       (w.counts, All-set (IsOn segments) xs place b' (subst (StandsOn segments) (sym made) w.stands) p.1)
 
-  -- ---- a segment
+  -- it goes on between the same two ports
+  pub renews_between : (port : ℕ) (s : Segment) (c e : CapturedConnection) (r u : Register W) → Renews port s c e r u → IsBetween c s → IsBetween e s
+  renews_between port s c e r u p between = by (is_before c s) p where
+    by : (b : Bool) → MatchBool b (IsNew port s e × Ends c.latest c r u) ((e ≡ c) × SameAttempts r u) → IsBetween e s
+    by true q = new_between port s e q.0
+    by false q = subst (λ (x : CapturedConnection). IsBetween x s) (sym q.0) between
 
-  -- the finder goes on with this segment behind those that were taken
-  pub noted_next : (t : Terms) (segments : List Segment) (s : Segment) (r noted : Register W) (xs : List Boxed) → GoesOnCounting r noted → TracksBy t segments r xs → TracksBy t (segments ++ s ∷ []) noted xs
-  noted_next t segments s r noted xs counting p =
-      let more = tracks_more t segments (s ∷ []) r xs p in
-      (counting t (segments ++ s ∷ []) more.0, more.1)
+  pub takes_at : (port : ℕ) (s : Segment) (xs ys : List Boxed) (place : ℕ) (b later : Boxed) (c now e : CapturedConnection) (r between u : Register W) (count later_count : ℕ) → later_count ≡ count → slice_get xs place ≡ Some b → c ≡ b.value
+      → later.value ≡ e → ys ≡ set xs place later → Renews port s c now r between → TakesYet s now e between u
+      → IfSome (slice_get xs place) (λ (x : Boxed). (n : CapturedConnection) × (k : Register W) × (l : Boxed) × Renews port s x.value n r k × TakesYet s n l.value k u × (ys ≡ set xs place l) × (later_count ≡ count))
+  takes_at port s xs ys place b later c now e r between u count later_count counted here value made is renews takes =
+      let all : (n : CapturedConnection) × (k : Register W) × (l : Boxed) × Renews port s b.value n r k × TakesYet s n l.value k u × (ys ≡ set xs place l) × (later_count ≡ count) = (
+        now,
+        between,
+        later,
+        subst (λ (x : CapturedConnection). Renews port s x now r between) value renews,
+        subst (λ (x : CapturedConnection). TakesYet s now x between u) (sym made) takes,
+        is,
+        counted,
+      ) in
+      subst (λ (o : Option Boxed). IfSome o (λ (x : Boxed). (n : CapturedConnection) × (k : Register W) × (l : Boxed) × Renews port s x.value n r k × TakesYet s n l.value k u × (ys ≡ set xs place l) × (later_count ≡ count))) (sym here) all
 
 -- ---- the reader
 
@@ -154,7 +173,7 @@ both_ok (Err e) P Q p q = tt
 
 module _ {W : Type 0} where
   pub read_ends : (t : Terms) (port : ℕ) (json : Bool) (r s : Reading) (f g : Finder W) (bytes : List ℕ) (old new : SinkState) (status : ℕ) → Tracks t [] f → IsFresh t port json old f → r ≡ unread → ReadsIn bytes r f s g
-      → whole s ≡ Ok None → FinishesWith g status new → ((t : Terms) (segments : List Segment) → Tracks t segments g → CountsTo t segments status) → EndsWith W t port json bytes old new status
+      → whole s ≡ Ok None → FinishesWith g s.counts (is_cut_off s) status new → ((t : Terms) (segments : List Segment) → Tracks t segments g → CountsTo t segments status) → EndsWith W t port json bytes old new status
   read_ends t port json r s f g bytes old new status tracks fresh new_ reads no_more finishes ends =
       let begun : IsAt t f [] r f = record { segments = []; was = subst (λ (x : Reading). Was x [] []) (sym new_) Opened; took = refl; tracks = tracks } in
       let all = reads t f [] begun in

@@ -1,5 +1,5 @@
 -- What a connection carries stands in the segments that were taken.
-use Rattle.std.proofs.Common.{◌≡◌, ◌⊎◌, inl, inr, ℕ, Bool, true, false, List, [], ◌++◌, length, drop, Option, Some, None, refl, sym, ap, subst, ◌∙◌, lit<, w16}
+use Rattle.std.proofs.Common.{◌≡◌, ◌⊎◌, inl, inr, ℕ, Bool, true, false, List, [], ◌++◌, length, drop, Option, Some, None, cond, refl, sym, ap, subst, ◌∙◌, lit<, w16}
 use Rattle.std.specs.List.{Contains}
 use Rattle.std.proofs.lemmas.List.Elements.{Contains-append_left}
 use Rattle.dist_capture.specs.declared.segment.{Endpoint.Endpoint, Segment.Segment}
@@ -8,37 +8,25 @@ use Rattle.dist_frames.proofs.Streams.{bodies_none}
 use Rattle.dist_messages.specs.declared.message.Side.{Side, TheVariants.Dialler, TheVariants.Acceptor}
 use Rattle.dist_talk.specs.{Handshake.said_by, declared.handshake.Handshake.Handshake, declared.handshake.SentMessage.SentMessage}
 use Rattle.distping_capture.specs.Carried.{AwaitsBy, Carried, IsBacked, IsShown, IsShownYet, Stands, StandsAt, StandsOn}
-use Rattle.distping_capture.specs.Connections.{AreEnds, EndsOf, Follows, Gathers, Goes, GoesOn, IsFrom, IsNew, IsOf, KeepsEnds, NothingSaid, SaidBoth, SameEnds, SameTalk, SaysNoMore, Sent, Stays, nothing_sent, with_piece}
+use Rattle.distping_capture.specs.Connections.{Follows, Gathers, Goes, GoesOn, IsBetween, IsFrom, IsNew, IsOf, NothingSaid, SaidBoth, SameTalk, SaysNoMore, Sent, Stays, is_from_dialler, nothing_sent, with_piece}
 use Rattle.distping_capture.specs.Delivered.{AreSaid, NoneFollows, SaidIn}
-use Rattle.distping_capture.specs.Flows.{IsGone, behind_in}
+use Rattle.distping_capture.specs.{Endings.forgotten, Flows.behind_in, Numbers.new_flow, Recognized.is_over}
 use Rattle.distping_capture.specs.declared.{connection.CapturedConnection.CapturedConnection, flow.Flow.Flow, traffic.Traffic.Traffic}
 use Rattle.distping_capture.specs.declared.traffic.Traffic.TheVariants as traffic
-use Rattle.distping_capture.proofs.Talking.{same_talk}
-use Rattle.distping_capture.proofs.Standing.{nothing_carried, stands_brings, stands_gone, stands_on, stands_same, stands_unbegun}
+use Rattle.distping_capture.proofs.{Segments.taken_keeps, Talking.same_talk}
+use Rattle.distping_capture.proofs.Standing.{IsGone, IsUnbegun, nothing_carried, stands_brings, stands_gone, stands_on, stands_same, stands_unbegun}
 
 -- ---- the ends
 
-ends_kept : (c e : CapturedConnection) → KeepsEnds c e → AreEnds c → AreEnds e
-ends_kept c e (inl p) (inl q) = inl (p.0 ∙ q ∙ ap (λ (x : Endpoint). (x, c.acceptor)) (sym p.1) ∙ ap (λ (x : Endpoint). (e.dialler, x)) (sym p.2))
-ends_kept c e (inl p) (inr q) = inr (p.0 ∙ q ∙ ap (λ (x : Endpoint). (x, c.dialler)) (sym p.2) ∙ ap (λ (x : Endpoint). (e.acceptor, x)) (sym p.1))
-ends_kept c e (inr p) (inl q) = inr (p.0 ∙ q ∙ ap (λ (x : Endpoint). (x, c.acceptor)) (sym p.2) ∙ ap (λ (x : Endpoint). (e.acceptor, x)) (sym p.1))
-ends_kept c e (inr p) (inr q) = inl (p.0 ∙ q ∙ ap (λ (x : Endpoint). (x, c.dialler)) (sym p.1) ∙ ap (λ (x : Endpoint). (e.dialler, x)) (sym p.2))
+-- the ports of the two sides, by which of them sends the segment that begins the connection
+new_by : (b : Bool) (s : Segment) (dialler acceptor : Endpoint) → ◌≡◌ {A = Endpoint × Endpoint} (dialler, acceptor) (cond b (s.from, s.to) (s.to, s.from))
+    → Goes dialler acceptor s ⊎ Goes acceptor dialler s
+new_by true s dialler acceptor e = inl (sym (ap (λ (p : Endpoint × Endpoint). p.0) e), sym (ap (λ (p : Endpoint × Endpoint). p.1) e))
+new_by false s dialler acceptor e = inr (sym (ap (λ (p : Endpoint × Endpoint). p.1) e), sym (ap (λ (p : Endpoint × Endpoint). p.0) e))
 
--- a segment goes from one end of the connection to the other
-abbrev IsBetween : CapturedConnection → Segment → Type 0
-IsBetween c s = Goes c.dialler c.acceptor s ⊎ Goes c.acceptor c.dialler s
-
-first_is : (a b c d : Endpoint) → ◌≡◌ {A = Endpoint × Endpoint} (a, b) (c, d) → a ≡ c
-first_is a b c d e = ap (λ (p : Endpoint × Endpoint). p.0) e
-
-second_is : (a b c d : Endpoint) → ◌≡◌ {A = Endpoint × Endpoint} (a, b) (c, d) → b ≡ d
-second_is a b c d e = ap (λ (p : Endpoint × Endpoint). p.1) e
-
-between : (c : CapturedConnection) (s : Segment) → AreEnds c → EndsOf s c.ends → IsBetween c s
-between c s (inl p) (inl q) = let e = sym q ∙ p in inl (first_is s.from s.to c.dialler c.acceptor e, second_is s.from s.to c.dialler c.acceptor e)
-between c s (inl p) (inr q) = let e = sym q ∙ p in inr (second_is s.to s.from c.dialler c.acceptor e, first_is s.to s.from c.dialler c.acceptor e)
-between c s (inr p) (inl q) = let e = sym q ∙ p in inr (first_is s.from s.to c.acceptor c.dialler e, second_is s.from s.to c.acceptor c.dialler e)
-between c s (inr p) (inr q) = let e = sym q ∙ p in inl (second_is s.to s.from c.acceptor c.dialler e, first_is s.to s.from c.acceptor c.dialler e)
+-- a new connection is between the ports of its segment
+pub new_between : (port : ℕ) (s : Segment) (c : CapturedConnection) → IsNew port s c → IsBetween c s
+new_between port s c new = new_by (is_from_dialler port s) s c.dialler c.acceptor new.sides
 
 from_dialler : (c : CapturedConnection) (s : Segment) → IsBetween c s → s.from ≡ c.dialler → Goes c.dialler c.acceptor s
 from_dialler c s (inl g) e = g
@@ -63,15 +51,19 @@ read_backed segments c e b d a (inl p) = record {
   bytes = b;
   holds = p.1;
   tells = p.2;
-  of_dialler = at_ends segments c.dialler c.acceptor e.dialler e.acceptor b.dialler e.from_dialler p.0.0.1 p.0.0.2 (stands_on segments c.dialler c.acceptor b.dialler c.from_dialler e.from_dialler p.0.1 d);
-  of_acceptor = at_ends segments c.acceptor c.dialler e.acceptor e.dialler b.acceptor e.from_acceptor p.0.0.2 p.0.0.1 (stands_on segments c.acceptor c.dialler b.acceptor c.from_acceptor e.from_acceptor p.0.2 a);
+  of_dialler = at_ends segments c.dialler c.acceptor e.dialler e.acceptor b.dialler e.from_dialler p.0.0.0 p.0.0.1
+      (stands_on segments c.dialler c.acceptor b.dialler (is_over e.content) c.from_dialler e.from_dialler p.0.1 d);
+  of_acceptor = at_ends segments c.acceptor c.dialler e.acceptor e.dialler b.acceptor e.from_acceptor p.0.0.1 p.0.0.0
+      (stands_on segments c.acceptor c.dialler b.acceptor (is_over e.content) c.from_acceptor e.from_acceptor p.0.2 a);
 }
 read_backed segments c e b d a (inr p) = record {
   bytes = record { dialler = b.acceptor; acceptor = b.dialler };
   holds = p.1;
   tells = p.2;
-  of_dialler = at_ends segments c.acceptor c.dialler e.dialler e.acceptor b.acceptor e.from_dialler p.0.0.1 p.0.0.2 (stands_on segments c.acceptor c.dialler b.acceptor c.from_acceptor e.from_dialler p.0.2 a);
-  of_acceptor = at_ends segments c.dialler c.acceptor e.acceptor e.dialler b.dialler e.from_acceptor p.0.0.2 p.0.0.1 (stands_on segments c.dialler c.acceptor b.dialler c.from_dialler e.from_acceptor p.0.1 d);
+  of_dialler = at_ends segments c.acceptor c.dialler e.dialler e.acceptor b.acceptor e.from_dialler p.0.0.0 p.0.0.1
+      (stands_on segments c.acceptor c.dialler b.acceptor (is_over e.content) c.from_acceptor e.from_dialler p.0.2 a);
+  of_acceptor = at_ends segments c.dialler c.acceptor e.acceptor e.dialler b.dialler e.from_acceptor p.0.0.1 p.0.0.0
+      (stands_on segments c.dialler c.acceptor b.dialler (is_over e.content) c.from_dialler e.from_acceptor p.0.1 d);
 }
 
 -- what stands in the segments once one was gathered, of each side
@@ -93,29 +85,30 @@ follows_backed : (segments : List Segment) (c e : CapturedConnection) (s : Segme
 follows_backed segments c e s among is p q =
     let b = with_piece p.side p.gathers.piece q.bytes in
     let u = p.unread in
-    let ends = p.gathers.ends in
+    let ends = (taken_keeps p.side s c u p.gathers.known).ends in
     let both = gathered_backed segments p.side c u s among is p.from p.gathers q in
-    read_backed segments u e b (at_ends segments c.dialler c.acceptor u.dialler u.acceptor b.dialler u.from_dialler ends.1 ends.2 both.0)
-    (at_ends segments c.acceptor c.dialler u.acceptor u.dialler b.acceptor u.from_acceptor ends.2 ends.1 both.1) (p.goes_on q.bytes q.holds)
+    read_backed segments u e b (at_ends segments c.dialler c.acceptor u.dialler u.acceptor b.dialler u.from_dialler ends.0 ends.1 both.0)
+    (at_ends segments c.acceptor c.dialler u.acceptor u.dialler b.acceptor u.from_acceptor ends.1 ends.0 both.1) (p.goes_on q.bytes q.holds)
 
-pub stands_follows : (segments : List Segment) (c e : CapturedConnection) (s : Segment) → Contains segments s → EndsOf s c.ends → Follows c s e → e.verdict ≡ c.verdict → StandsOn segments c → StandsOn segments e
-stands_follows segments c e s among ends p same q = record {
-  ends = ends_kept p.unread e p.ends (ends_kept c p.unread (inl p.gathers.ends) q.ends);
-  backed = λ none. follows_backed segments c e s among (between c s q.ends ends) p (q.backed (sym same ∙ none));
-}
+-- the verdict is the same
+pub follows_verdict : (c e : CapturedConnection) (s : Segment) → Follows c s e → e.verdict ≡ c.verdict
+follows_verdict c e s p = ap (λ (x : CapturedConnection). x.verdict) p.recognized.rest ∙ (taken_keeps p.side s c p.unread p.gathers.known).verdict
+
+pub stands_follows : (segments : List Segment) (c e : CapturedConnection) (s : Segment) → Contains segments s → IsBetween c s → Follows c s e → StandsOn segments c → StandsOn segments e
+stands_follows segments c e s among is p q none = follows_backed segments c e s among is p (q (sym (follows_verdict c e s p) ∙ none))
 
 -- ---- a connection begins and ends
 
+unbegun : (f : Flow) (at : ℕ) → f ≡ new_flow at → IsUnbegun f
+unbegun f at e = (ap (λ (x : Flow). x.stream) e, ap (λ (x : Flow). x.is_read) e)
+
 pub stands_new : (port : ℕ) (segments : List Segment) (s : Segment) (c : CapturedConnection) → IsNew port s c → StandsOn segments c
-stands_new port segments s c new = record {
-  ends = new.ends.0;
-  backed = λ none. record {
-    bytes = nothing_sent;
-    holds = new.holds;
-    tells = new.tells;
-    of_dialler = stands_unbegun segments c.dialler c.acceptor c.from_dialler new.unbegun.0;
-    of_acceptor = stands_unbegun segments c.acceptor c.dialler c.from_acceptor new.unbegun.1;
-  };
+stands_new port segments s c new none = record {
+  bytes = nothing_sent;
+  holds = new.holds;
+  tells = new.tells;
+  of_dialler = stands_unbegun segments c.dialler c.acceptor c.from_dialler (unbegun c.from_dialler s.time new.flows.0);
+  of_acceptor = stands_unbegun segments c.acceptor c.dialler c.from_acceptor (unbegun c.from_acceptor s.time new.flows.1);
 }
 
 forgotten_backed : (segments : List Segment) (c : CapturedConnection) → c.content ≡ traffic.Other → IsGone c.from_dialler → IsGone c.from_acceptor → IsBacked segments c
@@ -127,30 +120,14 @@ forgotten_backed segments c other one two = record {
   of_acceptor = stands_gone segments c.acceptor c.dialler [] c.from_acceptor two (nothing_carried segments c.acceptor c.dialler);
 }
 
-pub stands_forgotten : (segments : List Segment) (c e : CapturedConnection) → SameEnds c e → e.content ≡ traffic.Other → IsGone e.from_dialler → IsGone e.from_acceptor → StandsOn segments c → StandsOn segments e
-stands_forgotten segments c e ends other one two p = record {
-  ends = ends_kept c e (inl ends) p.ends;
-  backed = λ none. forgotten_backed segments e other one two;
-}
-
--- only its verdict may change
-pub stands_judged : (segments : List Segment) (c e : CapturedConnection) → e ≡ record c { verdict = e.verdict } → (e.verdict ≡ None → c.verdict ≡ None) → StandsOn segments c → StandsOn segments e
-stands_judged segments c e is before p =
-    let there : StandsOn segments (record c { verdict = e.verdict }) = record {
-      ends = p.ends;
-      backed = λ none. let q = p.backed (before none) in record { bytes = q.bytes; holds = q.holds; tells = q.tells; of_dialler = q.of_dialler; of_acceptor = q.of_acceptor };
-    } in
-    subst (StandsOn segments) (sym is) there
-
--- it has its verdict
-pub stands_settled : (segments : List Segment) (c e : CapturedConnection) → SameEnds c e → (e.verdict ≡ None → ⊥) → StandsOn segments c → StandsOn segments e
-stands_settled segments c e ends some p = record { ends = ends_kept c e (inl ends) p.ends; backed = λ none. absurd (some none) }
+pub stands_forgotten : (segments : List Segment) (c : CapturedConnection) → StandsOn segments (forgotten c)
+stands_forgotten segments c none = forgotten_backed segments (forgotten c) refl (refl, refl) (refl, refl)
 
 -- ---- what is shown
 
 pub shown_of : (segments : List Segment) (c : CapturedConnection) → StandsOn segments c → IsShownYet segments c
 shown_of segments c p none =
-    let q = p.backed none in
+    let q = p none in
     record {
       bytes = q.bytes;
       both = q.tells;
@@ -186,9 +163,6 @@ shown_nothing segments dialler acceptor t p = record {
   of_acceptor = nothing_carried segments acceptor dialler;
 }
 
-shown_at : (segments : List Segment) (c e : CapturedConnection) (t : Traffic) → SameEnds c e → IsShown segments c.dialler c.acceptor t → IsShown segments e.dialler e.acceptor t
-shown_at segments c e t ends p = subst (λ (x : Endpoint). IsShown segments x e.acceptor t) (sym ends.1) (subst (λ (x : Endpoint). IsShown segments c.dialler x t) (sym ends.2) p)
-
 -- the same was said to a port mapper
 same_said : (t u : Traffic) (b : Sent) → SameTalk t u → SaidBoth t b → SaidBoth u b
 same_said (traffic.Mapper talk) (traffic.Mapper later) b p q = same_talk b.dialler b.acceptor talk later p.0 p.1 q
@@ -203,14 +177,11 @@ same_said (traffic.Unreached v) u b p q = absurd p
 same_said traffic.Tls u b p q = absurd p
 same_said traffic.Other u b p q = absurd p
 
-pub shown_no_more : (segments : List Segment) (c e : CapturedConnection) → SaysNoMore c e → SameEnds c e → e.verdict ≡ c.verdict → IsShownYet segments c → IsShownYet segments e
-shown_no_more segments c e says ends same p none = by says where
-  by : SaysNoMore c e → IsShown segments e.dialler e.acceptor e.content
-  by (inl content) = subst (IsShown segments e.dialler e.acceptor) (sym content) (shown_at segments c e c.content ends (p (sym same ∙ none)))
-  by (inr (inl nothing)) = shown_nothing segments e.dialler e.acceptor e.content nothing
-  by (inr (inr talk)) =
-      let q = shown_at segments c e c.content ends (p (sym same ∙ none)) in
-      record { bytes = q.bytes; both = same_said c.content e.content q.bytes talk q.both; of_dialler = q.of_dialler; of_acceptor = q.of_acceptor }
+pub shown_no_more : (segments : List Segment) (dialler acceptor : Endpoint) (c e : CapturedConnection) → SaysNoMore c e → IsShown segments dialler acceptor c.content → IsShown segments dialler acceptor e.content
+shown_no_more segments dialler acceptor c e (inl content) p = subst (IsShown segments dialler acceptor) (sym content) p
+shown_no_more segments dialler acceptor c e (inr (inl nothing)) p = shown_nothing segments dialler acceptor e.content nothing
+shown_no_more segments dialler acceptor c e (inr (inr talk)) p =
+    record { bytes = p.bytes; both = same_said c.content e.content p.bytes talk p.both; of_dialler = p.of_dialler; of_acceptor = p.of_acceptor }
 
 -- ---- more segments
 
@@ -250,15 +221,12 @@ side_more segments more from to bytes f p = record {
 }
 
 pub stands_more : (segments more : List Segment) (c : CapturedConnection) → StandsOn segments c → StandsOn (segments ++ more) c
-stands_more segments more c p = record {
-  ends = p.ends;
-  backed = λ none.
-      let q = p.backed none in
-      record {
-        bytes = q.bytes;
-        holds = q.holds;
-        tells = q.tells;
-        of_dialler = side_more segments more c.dialler c.acceptor q.bytes.dialler c.from_dialler q.of_dialler;
-        of_acceptor = side_more segments more c.acceptor c.dialler q.bytes.acceptor c.from_acceptor q.of_acceptor;
-      };
-}
+stands_more segments more c p none =
+    let q = p none in
+    record {
+      bytes = q.bytes;
+      holds = q.holds;
+      tells = q.tells;
+      of_dialler = side_more segments more c.dialler c.acceptor q.bytes.dialler c.from_dialler q.of_dialler;
+      of_acceptor = side_more segments more c.acceptor c.dialler q.bytes.acceptor c.from_acceptor q.of_acceptor;
+    }

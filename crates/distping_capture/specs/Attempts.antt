@@ -1,10 +1,12 @@
 -- WHAT A CONNECTION IN A CAPTURE COMES TO: the verdict on its handshake, by the one table (dist_talk, Ended.antt); why it was never made; or
 -- what a port mapper answered, or that it did not.
-use Rattle.std.specs.Prelude.{ℕ, Bool, true, false, Option, Some, None, Ok, Err, ◌==◌, if◌then◌else◌, unwrap_or}
+use Rattle.std.specs.Prelude.{ℕ, Bool, true, false, List, [], Option, Some, None, Ok, Err, ◌==◌, if◌then◌else◌, unwrap_or}
+use Rattle.std.specs.Option.{option_map_or}
 use Rattle.dist_epmd.specs.declared.message.Answer.{Answer}
 use Rattle.dist_epmd.specs.declared.message.Answer.TheVariants as answer
 use Rattle.dist_epmd_calls.specs.declared.lookup_error.LookupError.{LookupError}
-use Rattle.dist_talk.specs.{Ended.verdict_of, Unreached.mapper_verdict, Unreached.port_verdict}
+use Rattle.dist_messages.specs.declared.message.Side.{Side}
+use Rattle.dist_talk.specs.{Described.description_of, Ended.verdict_of, Unreached.mapper_verdict, Unreached.port_verdict}
 use Rattle.dist_talk.specs.declared.{terms.Terms.Terms, verdict.HandshakeVerdict.HandshakeVerdict}
 use Rattle.dist_talk.specs.declared.verdict.HandshakeVerdict.TheVariants as verdict
 use Rattle.distping_capture.specs.declared.traffic.Traffic.{Traffic}
@@ -39,3 +41,8 @@ verdict_on t true (traffic.Unreached u) = mapper_verdict u
 verdict_on t false (traffic.Unreached u) = port_verdict u
 verdict_on t at_mapper (traffic.Mapper talk) = unwrap_or (talk_verdict talk.answer talk.fault) verdict.Unfinished
 verdict_on t at_mapper rest = verdict.Unfinished
+
+-- the name that a side says in a handshake; empty if it says none
+abbrev pub name_said : Side → Traffic → List ℕ
+name_said side (traffic.Handshake h) = option_map_or (λ description. description.0) (description_of side h) []
+name_said side any = []

@@ -3,8 +3,8 @@ use Rattle.std.specs.Prelude.{◌≡◌, ℕ, ◌+◌, ◌%◌, ◌^◌, Bool, t
 use Rattle.std.specs.List.{Contains}
 use Rattle.dist_capture.specs.Streams.{known_at}
 use Rattle.dist_capture.specs.declared.segment.{Endpoint.Endpoint, Segment.Segment}
-use Rattle.distping_capture.specs.{Connections.AreEnds, Connections.Goes, Connections.Holds, Connections.SaidBoth, Connections.Sent, Connections.Tells}
-use Rattle.distping_capture.specs.Flows.{behind_in, number_of_first}
+use Rattle.distping_capture.specs.{Connections.Goes, Connections.Holds, Connections.SaidBoth, Connections.Sent, Connections.Tells}
+use Rattle.distping_capture.specs.{Flows.behind_in, Numbers.number_of_first}
 use Rattle.distping_capture.specs.declared.{connection.CapturedConnection.CapturedConnection, flow.Flow.Flow, traffic.Traffic.Traffic}
 
 -- THE BYTE AT A SEQUENCE NUMBER stands in one of these segments, which goes from one port to the other; a reset has none.
@@ -57,9 +57,8 @@ pub record IsBacked (segments : List Segment) (c : CapturedConnection) : Type 0 
   pub of_acceptor : Stands segments c.acceptor c.dialler bytes.acceptor c.from_acceptor
 
 -- Until it is judged.
-pub record StandsOn (segments : List Segment) (c : CapturedConnection) : Type 0 where
-  pub ends : AreEnds c
-  pub backed : c.verdict ≡ None → IsBacked segments c
+abbrev pub StandsOn : List Segment → CapturedConnection → Type 0
+StandsOn segments c = c.verdict ≡ None → IsBacked segments c
 
 -- what an attempt would be judged by is shown, unless it was judged
 abbrev pub IsShownYet : List Segment → CapturedConnection → Type 0

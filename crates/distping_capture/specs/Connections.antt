@@ -1,12 +1,12 @@
 -- WHAT A CONNECTION SAYS, by the bytes that were delivered of its two sides.
-use Rattle.std.specs.Prelude.{◌≡◌, ◌↔◌, ◌⊎◌, ℕ, Bool, true, false, not, ◌||◌, ◌==◌, if◌then◌else◌, List, [], ◌++◌, Option, Some, None}
+use Rattle.std.specs.Prelude.{◌≡◌, ◌↔◌, ◌⊎◌, ℕ, Bool, true, false, not, ◌==◌, if◌then◌else◌, List, [], ◌++◌, Option, None}
 use Rattle.dist_capture.specs.declared.segment.{Endpoint.Endpoint, Segment.Segment}
 use Rattle.dist_messages.specs.declared.message.Side.{Side, TheVariants.Dialler, TheVariants.Acceptor}
-use Rattle.dist_talk.specs.{Speaking.other_side, declared.terms.Terms.Terms, declared.verdict.HandshakeVerdict.HandshakeVerdict}
-use Rattle.distping_capture.specs.Attempts.{verdict_on}
-use Rattle.distping_capture.specs.{Delivered.IsRead, Delivered.SaidIn, Flows.Brings, Flows.IsReadOn, Flows.IsUnbegun}
+use Rattle.dist_talk.specs.{Speaking.other_side, declared.handshake.Handshake.Handshake, declared.handshake.HandshakeEnd.HandshakeEnd}
+use Rattle.distping_capture.specs.{Delivered.IsRead, Delivered.SaidIn, Delivered.SaysMore, Flows.Brings, Flows.IsReadOn}
 use Rattle.distping_capture.specs.Flows.{SameBehind, SameBytes, bytes_of}
-use Rattle.distping_capture.specs.Recognized.{TalkIn, empty_talk, is_read_whole, look_of, shown_of, talk_after, talk_read}
+use Rattle.distping_capture.specs.Numbers.{flow_of, gone, new_flow, once_taken}
+use Rattle.distping_capture.specs.Recognized.{TalkIn, empty_talk, is_over, is_read_whole, look_of, shown_of, talk_after}
 use Rattle.distping_capture.specs.declared.{connection.CapturedConnection.CapturedConnection, flow.Flow.Flow, traffic.Shown.Shown, traffic.Traffic.Traffic}
 use Rattle.distping_capture.specs.declared.traffic.Shown.TheVariants as shown
 use Rattle.distping_capture.specs.declared.traffic.Traffic.TheVariants as traffic
@@ -28,11 +28,6 @@ nothing_sent = record { dialler = []; acceptor = [] }
 -- the same where the other side is found to have dialled
 abbrev pub exchanged : Sent → Sent
 exchanged b = record { dialler = b.acceptor; acceptor = b.dialler }
-
--- what a side sends
-abbrev pub flow_of : Side → CapturedConnection → Flow
-flow_of Dialler c = c.from_dialler
-flow_of Acceptor c = c.from_acceptor
 
 -- all of these bytes wait
 abbrev pub AllWait : Sent → Flow → Flow → Type 0
@@ -66,20 +61,16 @@ Tells c b = SaidBoth c.content b
 abbrev pub Goes : Endpoint → Endpoint → Segment → Type 0
 Goes from to s = (s.from ≡ from) × (s.to ≡ to)
 
--- the two ports of a segment, in either order
-abbrev pub EndsOf : Segment → Endpoint × Endpoint → Type 0
-EndsOf s ends = (ends ≡ (s.from, s.to)) ⊎ (ends ≡ (s.to, s.from))
-
--- a connection's two ports are those of its sides, in either order
-abbrev pub AreEnds : CapturedConnection → Type 0
-AreEnds c = (c.ends ≡ (c.dialler, c.acceptor)) ⊎ (c.ends ≡ (c.acceptor, c.dialler))
+-- it goes from one port of a connection to the other one
+abbrev pub IsBetween : CapturedConnection → Segment → Type 0
+IsBetween c s = Goes c.dialler c.acceptor s ⊎ Goes c.acceptor c.dialler s
 
 -- the same side dialled, or it is found that the other one did
 abbrev pub SameEnds : CapturedConnection → CapturedConnection → Type 0
-SameEnds c e = (e.ends ≡ c.ends) × (e.dialler ≡ c.dialler) × (e.acceptor ≡ c.acceptor)
+SameEnds c e = (e.dialler ≡ c.dialler) × (e.acceptor ≡ c.acceptor)
 
 abbrev pub ExchangedEnds : CapturedConnection → CapturedConnection → Type 0
-ExchangedEnds c e = (e.ends ≡ c.ends) × (e.dialler ≡ c.acceptor) × (e.acceptor ≡ c.dialler)
+ExchangedEnds c e = (e.dialler ≡ c.acceptor) × (e.acceptor ≡ c.dialler)
 
 abbrev pub KeepsEnds : CapturedConnection → CapturedConnection → Type 0
 KeepsEnds c e = SameEnds c e ⊎ ExchangedEnds c e
@@ -88,64 +79,87 @@ KeepsEnds c e = SameEnds c e ⊎ ExchangedEnds c e
 abbrev pub IsFrom : CapturedConnection → Segment → Side → Type 0
 IsFrom c s side = (side ≡ Dialler) ↔ (s.from ≡ c.dialler)
 
--- no byte came of either side
+-- no byte came of either side; and none are kept where no more of what is carried is to be read
 abbrev pub ReadsOn : CapturedConnection → CapturedConnection → Type 0
-ReadsOn c e = SameEnds c e × IsReadOn c.from_dialler e.from_dialler × IsReadOn c.from_acceptor e.from_acceptor
+ReadsOn c e =
+    SameEnds c e × IsReadOn (is_over e.content) c.from_dialler e.from_dialler × IsReadOn (is_over e.content) c.from_acceptor e.from_acceptor
 
 abbrev pub ReadsExchanged : CapturedConnection → CapturedConnection → Type 0
-ReadsExchanged c e = ExchangedEnds c e × IsReadOn c.from_dialler e.from_acceptor × IsReadOn c.from_acceptor e.from_dialler
+ReadsExchanged c e =
+    ExchangedEnds c e × IsReadOn (is_over e.content) c.from_dialler e.from_acceptor × IsReadOn (is_over e.content) c.from_acceptor e.from_dialler
 
 -- of these bytes, which were delivered, the connection goes on
 abbrev pub GoesOn : CapturedConnection → CapturedConnection → Sent → Type 0
 GoesOn c e b = (ReadsOn c e × Holds e b × Tells e b) ⊎ (ReadsExchanged c e × Holds e (exchanged b) × Tells e (exchanged b))
 
--- a handshake is carried
-abbrev pub IsHandshake : Traffic → Type 0
-IsHandshake (traffic.Handshake h) = Unit {0}
-IsHandshake any = ⊥
+-- A HANDSHAKE GOES ON: both sides may say more, at this time. How it ended, and what the capture lacks of it, is noted later.
+pub record GoesOnAt (at : ℕ) (h k : Handshake) : Type 0 where
+  pub dialler : SaysMore at h.dialler.items k.dialler.items
+  pub acceptor : SaysMore at h.acceptor.items k.acceptor.items
+  pub same : (k.ending ≡ h.ending) × (k.missing ≡ h.missing)
+
+-- nothing was said in a handshake that ended so, and nothing of it is missing
+pub record IsUnsaid (ending : Option HandshakeEnd) (h : Handshake) : Type 0 where
+  pub nothing : (h.dialler.items ≡ []) × (h.acceptor.items ≡ [])
+  pub ended : h.ending ≡ ending
+  pub missing : h.missing ≡ record { beginning = false; dialler = false; acceptor = false }
+
+-- this handshake goes on; or a new one begins
+abbrev pub CarriesOn : ℕ → Handshake → Traffic → Type 0
+CarriesOn at h (traffic.Handshake k) = GoesOnAt at h k
+CarriesOn at h any = ⊥
+
+abbrev pub CarriesNew : ℕ → Traffic → Type 0
+CarriesNew at carried = (h : Handshake) × IsUnsaid None h × CarriesOn at h carried
 
 -- what the first bytes of both sides show, which wait to be read
 abbrev pub shown_on : CapturedConnection → Shown
 shown_on c = shown_of c.is_certain (look_of (bytes_of c.from_dialler)) (look_of (bytes_of c.from_acceptor))
 
 -- what a connection of which that was not known is recognized as, and whether the other side is found to have dialled
-abbrev pub IsShownAs : Shown → CapturedConnection → CapturedConnection → Type 0
-IsShownAs shown.Nothing c e = (e.content ≡ traffic.Unknown) × SameEnds c e
-IsShownAs (shown.Handshake false) c e = IsHandshake e.content × SameEnds c e
-IsShownAs (shown.Handshake true) c e = IsHandshake e.content × ExchangedEnds c e
-IsShownAs shown.Tls c e = (e.content ≡ traffic.Tls) × SameEnds c e
-IsShownAs shown.Other c e = (e.content ≡ traffic.Other) × SameEnds c e
+abbrev pub IsShownAs : ℕ → Shown → CapturedConnection → CapturedConnection → Type 0
+IsShownAs at shown.Nothing c e = (e.content ≡ traffic.Unknown) × SameEnds c e
+IsShownAs at (shown.Handshake false) c e = CarriesNew at e.content × SameEnds c e
+IsShownAs at (shown.Handshake true) c e = CarriesNew at e.content × ExchangedEnds c e
+IsShownAs at shown.Tls c e = (e.content ≡ traffic.Tls) × SameEnds c e
+IsShownAs at shown.Other c e = (e.content ≡ traffic.Other) × SameEnds c e
 
 -- what a connection that carried this carries, once the bytes were read that wait
-abbrev pub CarriesThen : Traffic → CapturedConnection → CapturedConnection → Type 0
-CarriesThen traffic.Unknown c e = IsShownAs (shown_on c) c e
-CarriesThen (traffic.Handshake h) c e = IsHandshake e.content × SameEnds c e
-CarriesThen (traffic.Mapper talk) c e = (e.content ≡ talk_after talk (bytes_of c.from_dialler) (bytes_of c.from_acceptor)) × SameEnds c e
-CarriesThen any c e = (e.content ≡ any) × SameEnds c e
+abbrev pub CarriesThen : ℕ → Traffic → CapturedConnection → CapturedConnection → Type 0
+CarriesThen at traffic.Unknown c e = IsShownAs at (shown_on c) c e
+CarriesThen at (traffic.Handshake h) c e = CarriesOn at h e.content × SameEnds c e
+CarriesThen at (traffic.Mapper talk) c e = (e.content ≡ talk_after talk (bytes_of c.from_dialler) (bytes_of c.from_acceptor)) × SameEnds c e
+CarriesThen at any c e = (e.content ≡ any) × SameEnds c e
 
--- WHAT A CONNECTION CARRIES, once the bytes were read that wait: where it was not known, what the first bytes of both sides show; a handshake
--- stays one; a talk with a port mapper goes on, or is found to be anything else; TLS and anything else stay that.
-abbrev pub Recognizes : CapturedConnection → CapturedConnection → Type 0
-Recognizes c e = CarriesThen c.content c e
+-- WHAT A CONNECTION CARRIES, once the bytes were read that wait, at this time: where it was not known, what the first bytes of both sides show; a
+-- handshake goes on; a talk with a port mapper goes on, or is found to be anything else; TLS and anything else stay that. But for what is
+-- carried, who dialled, and the bytes that were read, all that is known of it is the same.
+pub record Recognizes (at : ℕ) (c e : CapturedConnection) : Type 0 where
+  pub carries : CarriesThen at c.content c e
+  pub rest : e ≡ record c {
+    content = e.content;
+    dialler = e.dialler;
+    acceptor = e.acceptor;
+    from_dialler = e.from_dialler;
+    from_acceptor = e.from_acceptor;
+  }
 
 -- A segment of a side was taken, and nothing read: it delivered this piece of the bytes of that side, and of the other one nothing.
 pub record Gathers (side : Side) (c : CapturedConnection) (s : Segment) (e : CapturedConnection) : Type 0 where
+  pub known : e ≡ once_taken side s c
   pub piece : List ℕ
   pub brings : Brings (flow_of side c) s piece (flow_of side e)
   pub other : SameBytes (flow_of (other_side side) c) (flow_of (other_side side) e)
-  pub content : e.content ≡ c.content
-  pub ends : SameEnds c e
 
--- A SEGMENT WAS TAKEN: it delivered a piece of the bytes of the side that sent it, and no others; whatever was delivered before, what the
--- connection says is what both sides said in all of these bytes, and what it carries is recognized by them. Once a SYN came it is certain who
--- dialled.
+-- A SEGMENT WAS TAKEN: what is known of both sides is what its numbers show. It delivered a piece of the bytes of the side that sent it, and no
+-- others; whatever was delivered before, what the connection says is what both sides said in all of these bytes, and what it carries is
+-- recognized by them.
 pub record Follows (c : CapturedConnection) (s : Segment) (e : CapturedConnection) : Type 0 where
   pub side : Side
   pub from : IsFrom c s side
   pub unread : CapturedConnection
   pub gathers : Gathers side c s unread
-  pub certain : unread.is_certain ≡ (c.is_certain || s.is_syn)
-  pub recognized : Recognizes unread e
+  pub recognized : Recognizes s.time unread e
   pub ends : KeepsEnds unread e
   pub goes_on : (b : Sent) → Holds c b → GoesOn unread e (with_piece side gathers.piece b)
 
@@ -161,14 +175,16 @@ sides_by port s = if is_from_dialler port s then (s.from, s.to) else (s.to, s.fr
 -- A NEW CONNECTION of a segment, where port mappers have this port: nothing was delivered on it, and it was not judged; if it goes to that port
 -- it carries what is said to a port mapper, and else it is not known what; it is certain who dialled if the segment opens or accepts it
 pub record IsNew (port : ℕ) (s : Segment) (c : CapturedConnection) : Type 0 where
-  pub ends : AreEnds c × EndsOf s c.ends
   pub sides : (c.dialler, c.acceptor) ≡ sides_by port s
   pub carries : c.content ≡ (if c.acceptor.port == port then traffic.Mapper empty_talk else traffic.Unknown)
   pub at_mapper : c.is_at_mapper ≡ (c.acceptor.port == port)
   pub certain : c.is_certain ≡ s.is_syn
   pub holds : Holds c nothing_sent
   pub tells : Tells c nothing_sent
-  pub unbegun : IsUnbegun c.from_dialler × IsUnbegun c.from_acceptor
+  pub flows : (c.from_dialler ≡ new_flow s.time) × (c.from_acceptor ≡ new_flow s.time)
+  pub times : (c.began ≡ s.time) × (c.latest ≡ s.time)
+  pub dials : (c.opening ≡ None) × (c.is_dialled_again ≡ false)
+  pub not_made : (c.is_made ≡ false) × (c.is_reset ≡ false)
   pub open_yet : (c.is_reported ≡ false) × (c.verdict ≡ None)
 
 -- The connection says the same, or what it says is forgotten; what else is known of it may change.
@@ -176,62 +192,32 @@ pub record Stays (c e : CapturedConnection) : Type 0 where
   pub ends : SameEnds c e
   pub tells : (b : Sent) → Tells c b → Tells e b
 
--- It is the same connection, of which other things may be known or forgotten.
-pub record SameConnection (c e : CapturedConnection) : Type 0 where
-  pub ends : SameEnds c e
-  pub at_mapper : e.is_at_mapper ≡ c.is_at_mapper
-  pub reported : e.is_reported ≡ c.is_reported
-
--- an attempt is carried: a handshake, or the cause why there was none
-abbrev pub IsAttempt : Traffic → Type 0
-IsAttempt (traffic.Handshake h) = Unit {0}
-IsAttempt (traffic.Unreached u) = Unit {0}
-IsAttempt any = ⊥
-
--- AN ATTEMPT WAS JUDGED: its verdict is that on what the connection carries, which says the same as before.
-pub record Judges (t : Terms) (c e : CapturedConnection) : Type 0 where
-  pub stays : Stays c e
-  pub attempt : IsAttempt c.content → IsAttempt e.content
-  pub verdict : e.verdict ≡ Some (verdict_on t e.is_at_mapper e.content)
-
--- A CONNECTION HAS TO BE JUDGED at its end: it carries an attempt, and was not judged before
-pub record IsDue (c : CapturedConnection) : Type 0 where
-  pub open_yet : c.is_reported ≡ false
-  pub not_judged : c.verdict ≡ None
-  pub carries : IsAttempt c.content
-
--- this is the verdict on what it carried
-abbrev pub IsJudgedBy : Terms → CapturedConnection → Option HandshakeVerdict → Type 0
-IsJudgedBy t c verdict = (e : CapturedConnection) × Judges t c e × (verdict ≡ e.verdict)
-
 -- ---- the inner steps
 
--- The connection carries the same, and the same bytes wait.
-pub record Still (c e : CapturedConnection) : Type 0 where
-  pub ends : SameEnds c e
-  pub content : e.content ≡ c.content
-  pub dialler : SameBytes c.from_dialler e.from_dialler
-  pub acceptor : SameBytes c.from_acceptor e.from_acceptor
+-- both sides are the same, or they are exchanged
+abbrev pub SameSides : CapturedConnection → CapturedConnection → Type 0
+SameSides c e = SameEnds c e × (e.from_dialler ≡ c.from_dialler) × (e.from_acceptor ≡ c.from_acceptor)
+
+abbrev pub ExchangedSides : CapturedConnection → CapturedConnection → Type 0
+ExchangedSides c e = ExchangedEnds c e × (e.from_dialler ≡ c.from_acceptor) × (e.from_acceptor ≡ c.from_dialler)
 
 -- it is found out, or not yet, what is carried
 abbrev pub Finds : CapturedConnection → CapturedConnection → Sent → Type 0
-Finds c e b =
-    (SameEnds c e × SameBytes c.from_dialler e.from_dialler × SameBytes c.from_acceptor e.from_acceptor × Holds e b)
-    ⊎ (ExchangedEnds c e × SameBytes c.from_dialler e.from_acceptor × SameBytes c.from_acceptor e.from_dialler × Holds e (exchanged b))
+Finds c e b = (SameSides c e × Holds e b) ⊎ (ExchangedSides c e × Holds e (exchanged b))
 
--- what is carried was found out, if that was not known
+-- what is carried was found out, if that was not known: of a handshake nothing was read yet, at whatever time
 abbrev pub FindsOut : Traffic → CapturedConnection → CapturedConnection → Type 0
-FindsOut traffic.Unknown c e = IsShownAs (shown_on c) c e
+FindsOut traffic.Unknown c e = (at : ℕ) → IsShownAs at (shown_on c) c e
 FindsOut any c e = e ≡ c
 
 -- what both sides said was read, if it is a handshake
-abbrev pub ReadsHandshake : Traffic → CapturedConnection → CapturedConnection → Type 0
-ReadsHandshake (traffic.Handshake h) c e = IsHandshake e.content
-ReadsHandshake any c e = e ≡ c
+abbrev pub ReadsHandshake : ℕ → Traffic → CapturedConnection → CapturedConnection → Type 0
+ReadsHandshake at (traffic.Handshake h) c e = CarriesOn at h e.content
+ReadsHandshake at any c e = e ≡ c
 
 -- what was said to a port mapper was read, if it is that
 abbrev pub ReadsTalk : Traffic → CapturedConnection → CapturedConnection → Type 0
-ReadsTalk (traffic.Mapper talk) c e = e.content ≡ talk_read talk (bytes_of c.from_dialler) (bytes_of c.from_acceptor)
+ReadsTalk (traffic.Mapper talk) c e = e.content ≡ talk_after talk (bytes_of c.from_dialler) (bytes_of c.from_acceptor)
 ReadsTalk any c e = e ≡ c
 
 -- No byte came: the ends and what is known behind the bytes that are ready are the same.
@@ -243,6 +229,10 @@ pub record SameStreams (c e : CapturedConnection) : Type 0 where
 -- the messages were read that are whole
 abbrev pub ReadsBoth : CapturedConnection → CapturedConnection → Type 0
 ReadsBoth c e = SameStreams c e × ((b : Sent) → Holds c b → Holds e b × Tells e b)
+
+-- none of its bytes are kept once no more is to be read
+abbrev pub left : CapturedConnection → CapturedConnection
+left c = if is_over c.content then record c { from_dialler = gone c.from_dialler; from_acceptor = gone c.from_acceptor } else c
 
 -- nothing was said in it, if it is a handshake
 abbrev pub NothingSaid : Traffic → Type 0

@@ -1,6 +1,7 @@
 -- WHAT A SIDE SAID IN THE BYTES THAT ITS STREAM DELIVERED: what the first frames in them say (ERTS User's Guide, Distribution Protocol,
 -- Distribution Handshake), in whatever pieces they came.
-use Rattle.std.specs.Prelude.{◌≡◌, ℕ, ◌+◌, ◌≤◌, ◌⊎◌, true, List, [], ◌∷◌, length, drop}
+use Rattle.std.specs.Prelude.{◌≡◌, ℕ, ◌+◌, ◌≤◌, ◌⊎◌, true, List, [], ◌∷◌, ◌++◌, length, drop}
+use Rattle.std.specs.List.{All}
 use Rattle.std.specs.Int.{w16}
 use Rattle.dist_frames.specs.Stream.{bodies, split_rest}
 use Rattle.dist_messages.specs.declared.message.Side.{Side}
@@ -20,6 +21,10 @@ AreSaid side (s ∷ rest) (b ∷ bodies) =
 abbrev pub NoneFollows : Side → List (List ℕ) → Type 0
 NoneFollows side [] = Unit {0}
 NoneFollows side (b ∷ later) = IsBodyOf (tags_of side) b → ⊥
+
+-- a side says more than before, if anything, and that at this time
+abbrev pub SaysMore : ℕ → List SentMessage → List SentMessage → Type 0
+SaysMore at before after = (more : List SentMessage) × (after ≡ before ++ more) × All (λ s. s.at ≡ at) more
 
 -- how many messages both sides said
 abbrev pub count_of : Handshake → ℕ
@@ -65,8 +70,9 @@ IsSettled side h f = NoMore side h (bodies (bytes_of f))
 abbrev pub OthersSame : Side → Handshake → Handshake → Type 0
 OthersSame side h k = (said_by (other_side side) k ≡ said_by (other_side side) h) × (k.ending ≡ h.ending) × (k.missing ≡ h.missing)
 
--- A part of what waits on a side was read: it was read before, and is now; and nothing else changed.
-pub record Reads (side : Side) (h k : Handshake) (f g : Flow) : Type 0 where
+-- A part of what waits on a side was read, at this time: it was read before, and is now; and nothing else changed.
+pub record Reads (side : Side) (at : ℕ) (h k : Handshake) (f g : Flow) : Type 0 where
+  pub said : SaysMore at (said_by side h) (said_by side k)
   pub reads : (bytes : List ℕ) → IsRead side bytes h f → IsRead side bytes k g
   pub behind : SameBehind f g
   pub others : OthersSame side h k

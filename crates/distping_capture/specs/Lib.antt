@@ -7,6 +7,9 @@ pub mod Delivered
 pub mod Endings
 pub mod Exits
 pub mod Flows
+pub mod Listeners
+pub mod Numbers
 pub mod Objects
 pub mod Printing
 pub mod Recognized
+pub mod Sizes

@@ -1,5 +1,5 @@
 -- THE OBJECTS OF `--json`. That of a connection: its first members are its type, the form of objects, and the word and the status of a verdict.
-use Rattle.std.specs.Prelude.{ℕ, List, Option, Some, None, codes, option_map}
+use Rattle.std.specs.Prelude.{ℕ, List, Option, codes, option_map}
 use Rattle.dist_talk.specs.{Words.status_of, Words.verdict_word}
 use Rattle.dist_talk.specs.declared.verdict.HandshakeVerdict.{HandshakeVerdict}
 use Rattle.distping_report.specs.Objects.{IsObjectLine, Layout, member, no_member, number, number_or_null, text, text_or_null, truth}

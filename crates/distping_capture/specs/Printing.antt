@@ -64,15 +64,14 @@ abbrev pub capture_verdict : Bool → Option HandshakeVerdict
 capture_verdict true = None
 capture_verdict false = Some verdict.NothingFound
 
--- an object of what was left out was printed, which shows this verdict and this exit status, and nothing else
-pub record PrintsCapture (v : Option HandshakeVerdict) (status : ℕ) (old new : SinkState) : Type 0 where
-  pub left_out : PacketsLeftOut
+-- the object of what was left out was printed, which shows this verdict and this exit status, and nothing else
+pub record PrintsCapture (left_out : PacketsLeftOut) (v : Option HandshakeVerdict) (status : ℕ) (old new : SinkState) : Type 0 where
   pub line : List ℕ
   pub object : IsObjectLine (capture_layout left_out v status) line
   pub printed : Prints line old new
 
 -- WHAT IS PRINTED AT THE END OF A CAPTURE, with `--json` or without, where anything was found or nothing: its object, or that nothing was found
-abbrev pub PrintsOutcome : Bool → Bool → ℕ → SinkState → SinkState → Type 0
-PrintsOutcome true found status old new = PrintsCapture (capture_verdict found) status old new
-PrintsOutcome false true status old new = new ≡ old
-PrintsOutcome false false status old new = PrintsText verdict.NothingFound old new
+abbrev pub PrintsOutcome : Bool → Bool → PacketsLeftOut → ℕ → SinkState → SinkState → Type 0
+PrintsOutcome true found left_out status old new = PrintsCapture left_out (capture_verdict found) status old new
+PrintsOutcome false true left_out status old new = new ≡ old
+PrintsOutcome false false left_out status old new = PrintsText verdict.NothingFound old new

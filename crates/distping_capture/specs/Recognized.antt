@@ -135,6 +135,11 @@ talk_read talk dialler acceptor = talk_asked talk acceptor (asked_by talk.reques
 abbrev pub talk_after : MapperTalk → List ℕ → List ℕ → Traffic
 talk_after talk dialler acceptor = if is_read_whole talk then traffic.Mapper talk else talk_read talk dialler acceptor
 
+-- A PORT MAPPER ANSWERED: a talk with it, of which not all was read before, has an answer after. Nothing else is answered.
+abbrev pub has_answered : Traffic → Traffic → Bool
+has_answered (traffic.Mapper talk) (traffic.Mapper later) = not (is_read_whole talk) && is_some later.answer
+has_answered before after = false
+
 -- The answer to a request is a front of these bytes.
 abbrev pub IsAnswerIn : List ℕ → Option Request → Answer → Type 0
 IsAnswerIn bytes request answer = (front : List ℕ) × (rest : List ℕ) × (bytes ≡ front ++ rest) × (answered_by request front ≡ Some answer)

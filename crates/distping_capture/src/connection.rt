@@ -1,14 +1,18 @@
 //! One connection of TCP, as far as a capture shows it.
 
-ghost use Rattle.std.specs.Prelude.{◌≡◌, ◌||◌, ℕ, List, IfNone, IfSome, IsTrue, OnOk, true};
-ghost use Rattle.distping_capture.specs.Endings.{IsFirstEnd, NeitherEnded, WasNeverMade, lacks_bytes};
-ghost use Rattle.distping_capture.specs.Connections.{EndsOf, Finds, Follows, Gathers, GoesOn, Holds, IsFrom, IsNew, KeepsEnds};
-ghost use Rattle.distping_capture.specs.Connections.{FindsOut, ReadsBoth, ReadsHandshake, ReadsTalk, Recognizes, SameEnds, Sent, Stays, Still, Tells};
-ghost use Rattle.distping_capture.specs.Connections.{flow_of, is_from_dialler};
-ghost use Rattle.distping_capture.specs.{Flows.Brings, Flows.IsGone, Flows.SameBytes, Recognized.is_over};
+ghost use Rattle.std.specs.Prelude.{◌≡◌, ◌↔◌, ◌≤◌, find, IfOk, is_some, IsTrue, None, OnOk, option_map};
+ghost use Rattle.dist_talk.specs.Handshake.{ack_in};
+ghost use Rattle.distping_capture.specs.Endings.{IsLate, any_end, ended_or, first_end, forgotten, is_before, is_finished, is_settled, is_whole, lacks_bytes};
+ghost use Rattle.distping_capture.specs.Endings.{has_ended, rests_on_end, unreached_of};
+ghost use Rattle.distping_capture.specs.Connections.{Finds, FindsOut, Follows, GoesOn, Holds, IsBetween, IsFrom, IsNew, KeepsEnds};
+ghost use Rattle.distping_capture.specs.Connections.{ReadsBoth, ReadsHandshake, ReadsTalk, Recognizes, Sent, is_from_dialler, left};
+ghost use Rattle.distping_capture.specs.Numbers.{can_end, flow_of, gone, may_reset, with_answer, with_end, with_ending, with_numbers};
+ghost use Rattle.distping_capture.specs.Numbers.{with_sign};
+ghost use Rattle.distping_capture.specs.{Attempts.name_said, Recognized.has_answered, Recognized.is_over, Sizes.kept_of};
 
 use crate::flow::{Flow, FlowEnd};
 use crate::messages::read_messages;
+use crate::sizes::size_of_said;
 use crate::traffic::{MapperTalk, Shown, Traffic, look_at, shown_by};
 use dist_capture::{Endpoint, Segment};
 use dist_messages::Side;
@@ -27,8 +31,6 @@ const DISORDER: u64 = 1_000_000_000;
 /// One connection.
 #[derive(Drop)]
 pub struct CapturedConnection {
-    /// Its two ends, the lesser first.
-    pub ends: (Endpoint, Endpoint),
     /// Where the side that dialled has its port.
     pub dialler: Endpoint,
     /// Where the other side has its port.
@@ -49,8 +51,8 @@ pub struct CapturedConnection {
     pub strays: u32,
     // The number of the segment (SYN) by which it was dialled.
     opening: Option<u32>,
-    // How often it was dialled by that: a host that has no answer sends it again after a second.
-    dials: u32,
+    // Whether it was dialled again: a host that has no answer sends that segment again after a second.
+    is_dialled_again: bool,
     // Whether a segment shows who dialled.
     is_certain: bool,
     // Whether any other segment was captured than those that dial it, or refuse that.
@@ -59,8 +61,6 @@ pub struct CapturedConnection {
     is_reset: bool,
     // Whether the verdict on it rests on how it ended, and no segment has left that in doubt.
     rests_on_end: bool,
-    // How many bytes the bodies have that were read.
-    said: usize,
     from_dialler: Flow,
     from_acceptor: Flow,
 }
@@ -75,14 +75,6 @@ fn is_from_dialler(segment: &Segment, mapper_port: u16) -> bool
     } else {
         segment.from.port != mapper_port
     }
-}
-
-/// The two ends of a segment's connection, the lesser first.
-pub fn ends_of(segment: &Segment) -> (Endpoint, Endpoint)
-    ensures { EndsOf segment.now result }
-{
-    let (one, other) = (segment.from, segment.to);
-    (one.min(other), one.max(other))
 }
 
 impl CapturedConnection {
@@ -102,7 +94,6 @@ impl CapturedConnection {
             Traffic::Unknown
         };
         CapturedConnection {
-            ends: ends_of(segment),
             dialler,
             acceptor,
             began: segment.time,
@@ -113,12 +104,11 @@ impl CapturedConnection {
             is_at_mapper,
             strays: 0,
             opening: None,
-            dials: 0,
+            is_dialled_again: false,
             is_certain: segment.is_syn,
             is_made: false,
             is_reset: false,
             rests_on_end: false,
-            said: 0,
             from_dialler: Flow::new(segment.time),
             from_acceptor: Flow::new(segment.time),
         }
@@ -134,11 +124,13 @@ impl CapturedConnection {
         }
     }
 
-    /// Whether these are its two ends.
-    pub fn is_between(&self, ends: (Endpoint, Endpoint)) -> bool
-        ensures { IsTrue result → self.now.ends ≡ ends }
+    /// Whether this segment goes from one of its two ends to the other one.
+    pub fn is_between(&self, segment: &Segment) -> bool
+        ensures { IsTrue result ↔ IsBetween self.now segment.now }
     {
-        self.ends == ends
+        let (dialler, acceptor) = (self.dialler, self.acceptor);
+        segment.from == dialler && segment.to == acceptor
+            || segment.from == acceptor && segment.to == dialler
     }
 
     /// The side that sends this segment.
@@ -161,67 +153,71 @@ impl CapturedConnection {
     }
 
     /// The name that a side says; empty if it says none.
-    pub fn name_of(&self, side: Side) -> &[u8] {
-        match self.handshake() {
-            Some(handshake) => handshake.name(side),
-            None => b"",
+    pub fn name_of(&self, side: Side) -> &[u8]
+        ensures { result.now ≡ name_said side self.now.content }
+    {
+        match &self.content {
+            Traffic::Handshake(handshake) => match handshake.description_of(side) {
+                Some(node) => node.name,
+                None => b"",
+            },
+            _ => b"",
         }
     }
 
     /// Whether both sides closed it, or one reset it; or it carries anything else, of which no more is read.
-    pub fn is_finished(&self) -> bool {
+    pub fn is_finished(&self) -> bool
+        ensures { result ≡ is_finished self.now }
+    {
         let is_closed = self.from_dialler.end.is_some() && self.from_acceptor.end.is_some();
         self.is_reset || is_closed || matches!(&self.content, Traffic::Other)
     }
 
+    // Whether it ended, or a segment shows that a side ended it.
+    fn has_ended(&self) -> bool
+        ensures { result ≡ has_ended self.now }
+    {
+        self.is_reported || self.from_dialler.end.is_some() || self.from_acceptor.end.is_some()
+    }
+
     /// Whether this segment begins a new connection between the same two ports: it is no copy of the one that began this one.
     pub fn is_before(&self, segment: &Segment) -> bool
-        ensures { IsTrue result → segment.now.is_syn ≡ true }
+        ensures { result ≡ is_before self.now segment.now }
     {
         let is_idle = segment.time.saturating_sub(self.latest) >= PATIENCE;
-        segment.is_syn
-            && !segment.is_ack
-            && self.opening != Some(segment.sequence)
-            && (is_idle || self.is_reported || self.any_end().is_some())
+        let is_dial = segment.is_syn && !segment.is_ack;
+        is_dial && self.opening != Some(segment.sequence) && (self.has_ended() || is_idle)
     }
 
     /// How many bytes of memory it keeps of what was sent.
-    pub fn kept_bytes(&self) -> usize {
-        let waiting = self
-            .from_dialler
-            .kept_bytes()
-            .saturating_add(self.from_acceptor.kept_bytes());
-        self.said.saturating_add(waiting)
+    pub fn kept_bytes(&self) -> usize
+        ensures { result ≤ kept_of self.now }
+    {
+        size_of_said(&self.content)
+            .saturating_add(self.from_dialler.kept_bytes())
+            .saturating_add(self.from_acceptor.kept_bytes())
     }
 
     /// The first end that is known: by whom, and how. The side that acknowledges the close of the other one ended after it, in whatever
     /// order the capture has the two.
     pub fn first_end(&self) -> Option<(Side, FlowEnd)>
-        ensures some { IfSome result (λ first. IsFirstEnd self.now first.0 first.1) }
-        ensures none { IfNone result (NeitherEnded self.now) }
+        ensures { result ≡ first_end self.now }
     {
-        let (dialler, acceptor) = (
+        match (
             self.from_dialler.known_end(),
             self.from_acceptor.known_end(),
-        );
-        let (Some(dialler), Some(acceptor)) = (dialler, acceptor) else {
-            return match (dialler, acceptor) {
-                (Some(end), _) => Some((Side::Dialler, end)),
-                (_, Some(end)) => Some((Side::Acceptor, end)),
-                (None, None) => None,
-            };
-        };
-        let is_dialler_later = dialler.received == Some(acceptor.number.wrapping_add(1))
-            || dialler.is_second && acceptor.received != Some(dialler.number.wrapping_add(1));
-        Some(if is_dialler_later {
-            (Side::Acceptor, acceptor)
-        } else {
-            (Side::Dialler, dialler)
-        })
+        ) {
+            (Some(end), Some(other)) if end.is_behind(other) => Some((Side::Acceptor, other)),
+            (Some(end), _) => Some((Side::Dialler, end)),
+            (None, Some(end)) => Some((Side::Acceptor, end)),
+            (None, None) => None,
+        }
     }
 
     /// The same, or else an end behind bytes that are not in the capture.
-    pub fn any_end(&self) -> Option<(Side, FlowEnd)> {
+    pub fn any_end(&self) -> Option<(Side, FlowEnd)>
+        ensures { result ≡ any_end self.now }
+    {
         if let Some(first) = self.first_end() {
             return Some(first);
         }
@@ -237,7 +233,9 @@ impl CapturedConnection {
     }
 
     /// When it ended; this time if its end is not in the capture.
-    pub fn end_or(&self, now: u64) -> u64 {
+    pub fn end_or(&self, now: u64) -> u64
+        ensures { result ≡ ended_or self.now now }
+    {
         match self.any_end() {
             Some((_, end)) => end.at,
             None => now,
@@ -247,7 +245,7 @@ impl CapturedConnection {
     /// Why it was never made: its first segment was answered by a reset, or by nothing until this time. `None` if it was made, or if
     /// that is not in the capture.
     pub fn connect_fault(&self, now: u64) -> Option<Unreached>
-        ensures { IfSome result (WasNeverMade self.now now) }
+        ensures { result ≡ unreached_of self.now now }
     {
         if self.is_made || self.opening.is_none() {
             return None;
@@ -255,7 +253,7 @@ impl CapturedConnection {
         match self.from_acceptor.end {
             Some(end) if end.is_reset => Some(Unreached::Refused),
             Some(_) => None,
-            None if self.dials > 1 && now.saturating_sub(self.began) >= PATIENCE => {
+            None if self.is_dialled_again && now.saturating_sub(self.began) >= PATIENCE => {
                 Some(Unreached::NoAnswer)
             }
             None => None,
@@ -272,11 +270,7 @@ impl CapturedConnection {
 
     /// When the acknowledgement was there.
     pub fn acknowledged_at(&self) -> Option<u64> {
-        let acceptor = &self.handshake()?.acceptor;
-        match acceptor.iter().find(|sent| sent.content.ack().is_some()) {
-            Some(sent) => Some(sent.at),
-            None => None,
-        }
+        acknowledged_at(self.handshake()?)
     }
 
     /// When the two came up, if they did: an acknowledgement with a wrong digest, or without a reply, brings nobody up.
@@ -301,51 +295,55 @@ impl CapturedConnection {
     }
 
     // Whether all of its handshake is there.
-    fn is_whole(&self) -> bool {
-        match self.handshake() {
-            Some(handshake) => {
-                handshake.is_done(Side::Dialler)
-                    && !self.lacks_bytes(Side::Dialler)
-                    && !self.lacks_bytes(Side::Acceptor)
-            }
-            None => false,
-        }
+    fn is_whole(&self, handshake: &Handshake) -> bool
+        ensures { result ≡ is_whole self.now handshake.now }
+    {
+        handshake.is_done(Side::Dialler)
+            && !self.lacks_bytes(Side::Dialler)
+            && !self.lacks_bytes(Side::Acceptor)
     }
 
-    /// Whether the handshake was made, and nothing that is missing may come yet.
-    pub fn is_settled(&self) -> bool {
-        match self.acknowledged_at() {
-            Some(at) => self.latest.saturating_sub(at) >= DISORDER || self.is_whole(),
+    /// Whether its handshake was made, and nothing that is missing may come yet.
+    pub fn is_settled(&self, handshake: &Handshake) -> bool
+        ensures { result ≡ is_settled self.now handshake.now }
+    {
+        match acknowledged_at(handshake) {
+            Some(at) => self.latest.saturating_sub(at) >= DISORDER || self.is_whole(handshake),
             None => false,
         }
     }
 
     /// Reads no more of it.
     pub fn stop_reading(&mut self)
-        ensures gone { IsGone self.new.from_dialler × IsGone self.new.from_acceptor }
-        ensures rest { self.new ≡ record self.old { from_dialler = self.new.from_dialler; from_acceptor = self.new.from_acceptor } }
+        ensures { self.new ≡ record self.old { from_dialler = gone self.old.from_dialler; from_acceptor = gone self.old.from_acceptor } }
     {
         self.from_dialler.stop_reading();
         self.from_acceptor.stop_reading();
     }
 
+    // Whether it carries a handshake, and it is noted how that ended.
+    fn has_handshake_ended(&self) -> bool
+        ensures { result ≡ rests_on_end self.now.content }
+    {
+        match &self.content {
+            Traffic::Handshake(handshake) => handshake.ending.is_some(),
+            _ => false,
+        }
+    }
+
     /// Forgets what was said on it.
     pub fn forget(&mut self)
-        ensures content { self.new.content ≡ Traffic.Other }
-        ensures gone { IsGone self.new.from_dialler × IsGone self.new.from_acceptor }
-        ensures ends { SameEnds self.old self.new }
-        ensures verdict { self.new.verdict ≡ self.old.verdict }
-        ensures reported { self.new.is_reported ≡ self.old.is_reported }
+        ensures { self.new ≡ forgotten self.old }
     {
-        self.rests_on_end = self.handshake().is_some_and(|it| it.ending.is_some());
+        self.rests_on_end = self.has_handshake_ended();
         self.stop_reading();
         self.content = Traffic::Other;
-        self.said = 0;
     }
 
     /// Takes a segment behind its end. Returns whether that leaves the verdict in doubt, and none did before.
     pub fn take_late(&mut self, segment: &Segment) -> bool
-        ensures { self.new ≡ record self.old { rests_on_end = self.new.rests_on_end } }
+        ensures late { IsLate self.old segment.now self.new result }
+        ensures rest { self.new ≡ record self.old { rests_on_end = self.new.rests_on_end } }
     {
         let side = self.side_of(segment);
         let is_doubted = self.rests_on_end && self.flow(side).is_overrun_by(segment);
@@ -371,7 +369,13 @@ impl CapturedConnection {
         ensures found_out { FindsOut self.old.content self.old self.new }
         ensures finds { (b : Sent) → Holds self.old b → Finds self.old self.new b }
         ensures ends { KeepsEnds self.old self.new }
-        ensures verdict { self.new.verdict ≡ self.old.verdict }
+        ensures rest { self.new ≡ record self.old {
+          content = self.new.content;
+          dialler = self.new.dialler;
+          acceptor = self.new.acceptor;
+          from_dialler = self.new.from_dialler;
+          from_acceptor = self.new.from_acceptor;
+        } }
     {
         if !matches!(&self.content, Traffic::Unknown) {
             return;
@@ -395,16 +399,19 @@ impl CapturedConnection {
 
     // Reads the messages of its handshake that are whole, if it carries one.
     fn read_handshake(&mut self, alloc: Global, at: u64) -> Result<(), AllocError>
-        ensures handshake { OnOk result (ReadsHandshake self.old.content self.old self.new) }
+        ensures handshake { OnOk result (ReadsHandshake at self.old.content self.old self.new) }
         ensures reads { OnOk result (ReadsBoth self.old self.new) }
-        ensures verdict { self.new.verdict ≡ self.old.verdict }
+        ensures rest { self.new ≡ record self.old {
+          content = self.new.content;
+          from_dialler = self.new.from_dialler;
+          from_acceptor = self.new.from_acceptor;
+        } }
     {
         if let Traffic::Handshake(handshake) = &mut self.content {
             let flow = &mut self.from_dialler;
-            let dialler = read_messages(alloc, handshake, flow, Side::Dialler, at)?;
+            read_messages(alloc, handshake, flow, Side::Dialler, at)?;
             let flow = &mut self.from_acceptor;
-            let acceptor = read_messages(alloc, handshake, flow, Side::Acceptor, at)?;
-            self.said = self.said.saturating_add(dialler).saturating_add(acceptor);
+            read_messages(alloc, handshake, flow, Side::Acceptor, at)?;
         }
         Ok(())
     }
@@ -412,12 +419,16 @@ impl CapturedConnection {
     // Reads what is said to a port mapper, if it is that. Returns whether it answered by that.
     fn read_mapper(&mut self, alloc: Global) -> Result<bool, AllocError>
         ensures talk { OnOk result (ReadsTalk self.old.content self.old self.new) }
+        ensures answered { IfOk result (λ answered. answered ≡ has_answered self.old.content self.new.content) }
         ensures rest { self.new ≡ record self.old { content = self.new.content } }
         ensures verdict { self.new.verdict ≡ self.old.verdict }
     {
         let Traffic::Mapper(talk) = &mut self.content else {
             return Ok(false);
         };
+        if talk.is_done() {
+            return Ok(false);
+        }
         if !talk.read_request(alloc, self.from_dialler.bytes())? {
             self.content = Traffic::Other;
             return Ok(false);
@@ -436,61 +447,72 @@ impl CapturedConnection {
         }
     }
 
+    // Reads no more of it, if no more is to be read.
+    fn leave(&mut self)
+        ensures { self.new ≡ left self.old }
+    {
+        if self.is_left() {
+            self.stop_reading();
+        }
+    }
+
     // Reads what the connection carries. Returns whether a port mapper answered.
     fn read(&mut self, alloc: Global, at: u64) -> Result<bool, AllocError>
-        ensures recognizes { OnOk result (Recognizes self.old self.new) }
+        ensures recognizes { OnOk result (Recognizes at self.old self.new) }
         ensures goes_on { OnOk result ((b : Sent) → Holds self.old b → GoesOn self.old self.new b) }
-        ensures ends { OnOk result (KeepsEnds self.old self.new) }
-        ensures verdict { self.new.verdict ≡ self.old.verdict }
+        ensures ends { KeepsEnds self.old self.new }
+        ensures answered { IfOk result (λ answered. answered ≡ has_answered self.old.content self.new.content) }
     {
         self.recognize(alloc);
         self.read_handshake(alloc, at)?;
-        if self.is_left() {
-            self.stop_reading();
-            return Ok(false);
-        }
-        self.read_mapper(alloc)
+        let has_answered = self.read_mapper(alloc)?;
+        self.leave();
+        Ok(has_answered)
     }
 
     // Notes that the connection is dialled, or was made, if a segment shows it.
     fn note_sign(&mut self, segment: &Segment)
-        ensures still { Still self.old self.new }
-        ensures certain { self.new.is_certain ≡ (self.old.is_certain || segment.now.is_syn) }
-        ensures verdict { self.new.verdict ≡ self.old.verdict }
+        ensures { self.new ≡ with_sign segment.now self.old }
     {
         self.latest = segment.time;
         let is_opening = segment.is_syn && !segment.is_ack;
-        if is_opening && self.opening.is_none() {
-            self.opening = Some(segment.sequence);
+        if is_opening {
+            self.is_dialled_again = self.is_dialled_again || self.opening.is_some();
+            self.opening = self.opening.or(Some(segment.sequence));
         }
-        self.dials = self.dials.saturating_add(u32::from(is_opening));
         self.is_certain = self.is_certain || segment.is_syn;
         self.is_made = self.is_made || !(is_opening || segment.is_reset || segment.is_fin);
     }
 
-    // Whether a reset is the answer to the segment that dials the connection, or that was answered.
-    fn is_refusal_or_made(&self, segment: &Segment) -> bool {
-        match self.opening {
-            Some(opening) if !self.is_made && segment.from == self.acceptor => {
-                segment.acknowledges == Some(opening.wrapping_add(1))
+    // Whether a reset of this side is the answer to the segment that dials the connection, or that was answered.
+    fn may_reset(&self, side: Side, segment: &Segment) -> bool
+        ensures { result ≡ may_reset side segment.now self.now }
+    {
+        match (side, self.opening) {
+            (Side::Acceptor, Some(opening)) => {
+                self.is_made || segment.acknowledges == Some(opening.wrapping_add(1))
             }
             _ => true,
         }
     }
 
+    // Whether this segment of this side, which closes or resets the connection, has a number that may.
+    fn can_end(&self, side: Side, segment: &Segment) -> bool
+        ensures { result ≡ can_end side segment.now self.now }
+    {
+        let window = self.flow(other_side(side)).window();
+        self.flow(side).may_end(segment, window)
+            && (!segment.is_reset || self.may_reset(side, segment))
+    }
+
     // Notes that a side closed or reset the connection, if a segment says so, and has a number that may.
     fn note_end(&mut self, side: Side, segment: &Segment)
-        ensures still { Still self.old self.new }
-        ensures certain { self.new.is_certain ≡ self.old.is_certain }
-        ensures verdict { self.new.verdict ≡ self.old.verdict }
+        ensures { self.new ≡ with_ending side segment.now self.old }
     {
         if !segment.is_fin && !segment.is_reset {
             return;
         }
-        let window = self.flow(other_side(side)).window();
-        let may_end = self.flow(side).may_end(segment, window)
-            && (!segment.is_reset || self.is_refusal_or_made(segment));
-        if !may_end {
+        if !self.can_end(side, segment) {
             self.strays = self.strays.saturating_add(1);
             return;
         }
@@ -501,32 +523,29 @@ impl CapturedConnection {
         }
     }
 
-    // Takes a segment of this side, and notes what that acknowledges.
+    // Takes a segment of this side, unless it is a reset, and notes what that acknowledges.
     fn gather(&mut self, alloc: Global, side: Side, segment: &Segment) -> Result<(), AllocError>
-        ensures gathers { OnOk result (Gathers side self.old segment.now self.new) }
-        ensures certain { self.new.is_certain ≡ self.old.is_certain }
-        ensures verdict { self.new.verdict ≡ self.old.verdict }
+        ensures { OnOk result (self.new ≡ with_numbers side segment.now self.old) }
     {
+        if segment.is_reset {
+            return Ok(());
+        }
         match side {
-            Side::Dialler => gather(
-                alloc,
-                &mut self.from_dialler,
-                &mut self.from_acceptor,
-                segment,
-            ),
-            Side::Acceptor => gather(
-                alloc,
-                &mut self.from_acceptor,
-                &mut self.from_dialler,
-                segment,
-            ),
+            Side::Dialler => {
+                self.from_acceptor.take_answer(segment);
+                self.from_dialler.take(alloc, segment)
+            }
+            Side::Acceptor => {
+                self.from_dialler.take_answer(segment);
+                self.from_acceptor.take(alloc, segment)
+            }
         }
     }
 
     /// Takes a segment of this connection. Returns whether a port mapper answered by it.
     pub fn take(&mut self, alloc: Global, segment: &Segment) -> Result<bool, AllocError>
         ensures follows { OnOk result (Follows self.old segment.now self.new) }
-        ensures verdict { self.new.verdict ≡ self.old.verdict }
+        ensures answered { IfOk result (λ answered. answered ≡ has_answered self.old.content self.new.content) }
     {
         let side = self.side_of(segment);
         self.note_sign(segment);
@@ -536,25 +555,24 @@ impl CapturedConnection {
     }
 }
 
-// Takes a segment of the side that sends this, and notes what that acknowledges of what the other side sends.
-fn gather(
-    alloc: Global,
-    flow: &mut Flow,
-    other: &mut Flow,
-    segment: &Segment,
-) -> Result<(), AllocError>
-    ensures { OnOk result (((piece : List ℕ) × Brings flow.old segment.now piece flow.new) × SameBytes other.old other.new) }
-{
-    if !segment.is_reset {
-        other.take_answer(segment);
-    }
-    flow.take(alloc, segment)
-}
-
 // Notes that a side ended by this segment what it sends, and what it had received.
 fn end_flow(flow: &mut Flow, other: &mut Flow, segment: &Segment)
-    ensures { SameBytes flow.old flow.new × SameBytes other.old other.new }
+    ensures { (other.new ≡ with_answer segment.now.acknowledges other.old) × (flow.new ≡ with_end segment.now other.new flow.old) }
 {
     other.take_answer(segment);
     flow.note_end(segment, other);
+}
+
+// When the acknowledgement of a handshake was there.
+fn acknowledged_at(handshake: &Handshake) -> Option<u64>
+    ensures { result ≡ option_map (λ s. s.at) (find (λ s. is_some (ack_in s.content)) handshake.now.acceptor.items) }
+{
+    match handshake
+        .acceptor
+        .iter()
+        .find(|sent| sent.content.ack().is_some())
+    {
+        Some(sent) => Some(sent.at),
+        None => None,
+    }
 }

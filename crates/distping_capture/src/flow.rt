@@ -1,9 +1,13 @@
 //! What one side of a connection sends, by its sequence numbers (RFC 9293, 3.4: they are compared modulo 2^32).
 
-ghost use Rattle.std.specs.Prelude.{◌≡◌, ℕ, List, OnOk, Some};
-ghost use Rattle.distping_capture.specs.Endings.{awaited_of, end_before, has_no_more, is_ahead, is_known_ahead, is_unread, lacks_by};
-ghost use Rattle.distping_capture.specs.Flows.{Begins, Brings, Delivers, IsGone, IsUnbegun, SameBehind, SameBytes};
-ghost use Rattle.distping_capture.specs.Flows.{bytes_of, gathered, number_of_first, without_first};
+ghost use Rattle.std.specs.Prelude.{◌≡◌, ◌||◌, ◌&&◌, ◌≤◌, IfOk, OnOk, Some, if◌then◌else◌, is_some, not, option_map};
+ghost use Rattle.dist_capture.specs.Streams.{is_near, new_part};
+ghost use Rattle.distping_capture.specs.Endings.{has_no_more, is_answer, is_behind, is_unread, lacks_by};
+ghost use Rattle.distping_capture.specs.Flows.{SameBehind, bytes_of, without_first};
+ghost use Rattle.distping_capture.specs.Numbers.{awaited_of, begun_by, end_before, end_number, first_read, gathered, gone, has_room, is_ahead};
+ghost use Rattle.distping_capture.specs.Numbers.{is_beyond, is_known_ahead, is_overrun, loses, may_end, new_flow, number_of_first, shows_number, with_answer};
+ghost use Rattle.distping_capture.specs.Numbers.{with_bytes, with_end, with_segment, latest_number};
+ghost use Rattle.distping_capture.specs.Sizes.{size_waiting};
 
 use dist_capture::{Segment, SegmentStream};
 use std::alloc::{AllocError, Global};
@@ -28,6 +32,23 @@ pub struct FlowEnd {
     pub received: Option<u32>,
     /// Whether the other side had ended before, in the order of the capture.
     pub is_second: bool,
+}
+
+impl FlowEnd {
+    // Whether it acknowledges the other side's.
+    fn is_answer(self, other: FlowEnd) -> bool
+        ensures { result ≡ is_answer self other }
+    {
+        self.received == Some(other.number.wrapping_add(1))
+    }
+
+    /// Whether it came behind that of the other side: it acknowledges it, in whatever order the capture has the two; or it was captured
+    /// behind it, and the other one does not acknowledge it.
+    pub fn is_behind(self, other: FlowEnd) -> bool
+        ensures { result ≡ is_behind self other }
+    {
+        self.is_answer(other) || self.is_second && !other.is_answer(self)
+    }
 }
 
 /// What one side sends.
@@ -64,7 +85,9 @@ pub fn is_ahead(number: u32, other: u32) -> bool
 }
 
 // The same, where nothing is known yet.
-fn is_beyond(number: u32, known: Option<u32>) -> bool {
+fn is_beyond(number: u32, known: Option<u32>) -> bool
+    ensures { result ≡ is_beyond number known }
+{
     match known {
         Some(known) => is_ahead(number, known),
         None => true,
@@ -104,14 +127,30 @@ fn first_of(segment: &Segment) -> u32
 }
 
 // The number behind the last byte of a segment.
-fn behind(segment: &Segment) -> u32 {
-    let length = segment.payload.len().saturating_add(segment.missing) % 0x1_0000_0000;
-    first_of(segment).wrapping_add(length as u32)
+fn end_number(segment: &Segment) -> u32
+    ensures { result ≡ end_number segment.now }
+{
+    let size = segment.payload.len().wrapping_add(segment.missing);
+    first_of(segment).wrapping_add((size % 0x1_0000_0000) as u32)
 }
 
-// Takes the bytes of a segment, unless too many wait to be read. Returns whether they were kept.
+// The number of the first byte that is to be read: the one that the other side awaited before, if a segment that is no SYN begins close
+// behind it.
+fn first_read(acknowledged: Option<u32>, segment: &Segment) -> u32
+    ensures { result ≡ first_read acknowledged segment.now }
+{
+    let first = first_of(segment);
+    match acknowledged {
+        Some(number) if !segment.is_syn && first.wrapping_sub(number) < 0x1_0000 => number,
+        _ => first,
+    }
+}
+
+// Takes the bytes of a segment, if there is room for them. Returns whether they were kept.
 fn gather(stream: &mut SegmentStream, segment: &Segment) -> Result<bool, AllocError>
-    ensures { OnOk result (stream.new ≡ gathered segment.now stream.old) }
+    ensures stream { OnOk result (stream.new ≡ gathered segment.now stream.old) }
+    ensures kept { IfOk result (λ kept. kept ≡ (has_room stream.old
+        && is_near stream.old.most (new_part stream.old.next (number_of_first segment.now) segment.now.payload.items))) }
 {
     if stream.ready().len() >= MOST_UNREAD {
         return Ok(false);
@@ -122,7 +161,7 @@ fn gather(stream: &mut SegmentStream, segment: &Segment) -> Result<bool, AllocEr
 impl Flow {
     /// Nothing was sent yet, and the connection's first segment was captured at this time.
     pub fn new(at: u64) -> Flow
-        ensures { IsUnbegun result }
+        ensures { result ≡ new_flow at }
     {
         Flow {
             stream: None,
@@ -140,7 +179,9 @@ impl Flow {
     }
 
     /// Whether no segment of it was captured.
-    pub fn is_unseen(&self) -> bool {
+    pub fn is_unseen(&self) -> bool
+        ensures { result ≡ not (is_some self.now.sent) }
+    {
         self.sent.is_none()
     }
 
@@ -165,7 +206,9 @@ impl Flow {
     }
 
     /// How many bytes of memory it keeps.
-    pub fn kept_bytes(&self) -> usize {
+    pub fn kept_bytes(&self) -> usize
+        ensures { result ≤ size_waiting self.now.stream }
+    {
         match &self.stream {
             Some(stream) => stream.waiting().saturating_mul(2),
             None => 0,
@@ -174,7 +217,7 @@ impl Flow {
 
     /// Reads no more of its bytes.
     pub fn stop_reading(&mut self)
-        ensures { IsGone self.new }
+        ensures { self.new ≡ gone self.old }
     {
         self.stream = None;
         self.is_read = false;
@@ -190,53 +233,36 @@ impl Flow {
         }
     }
 
-    // Up to which number the other side received what this one sent.
-    fn note_acknowledged(&mut self, number: u32)
-        ensures { SameBytes self.old self.new }
-    {
-        if is_beyond(number, self.acknowledged) {
-            self.acknowledged = Some(number);
-            self.again = 0;
-        }
-    }
-
-    // The number of the first byte that is to be read: the one that the other side awaited before, if that is close.
-    fn beginning(&self, segment: &Segment) -> u32 {
-        let first = first_of(segment);
-        match self.acknowledged {
-            Some(number) if !segment.is_syn && first.wrapping_sub(number) < 0x1_0000 => number,
-            _ => first,
-        }
-    }
-
-    // Notes when bytes came, and whether they were sent before, and not received.
+    // Notes when bytes came, and whether some of them were sent before, and not received.
     fn note_bytes(&mut self, segment: &Segment)
-        ensures { SameBytes self.old self.new }
+        ensures { self.new ≡ with_bytes segment.now self.old }
     {
         if segment.payload.is_empty() && segment.missing == 0 {
             return;
         }
         self.has_spoken = true;
         self.latest = segment.time;
-        let number = behind(segment);
-        if !is_beyond(number, self.sent) && is_beyond(number, self.acknowledged) {
-            self.again = self.again.saturating_add(1);
-        }
+        let is_again = is_known_ahead(self.sent, first_of(segment))
+            && is_beyond(end_number(segment), self.acknowledged);
+        self.again = self.again.saturating_add(u32::from(is_again));
     }
 
     // Begins to read its bytes at this segment, unless it did before, or no more of them are read.
     fn begin(&mut self, alloc: Global, segment: &Segment)
-        ensures { Begins self.old self.new.stream × (self.new.is_read ≡ self.old.is_read) }
+        ensures { self.new ≡ record self.old { stream = begun_by segment.now self.old } }
     {
         if self.is_read && self.stream.is_none() {
-            let first = self.beginning(segment);
+            let first = first_read(self.acknowledged, segment);
             self.stream = Some(SegmentStream::new(alloc, first, MOST_WAITING));
         }
     }
 
     // Takes the bytes of a segment.
     fn feed(&mut self, alloc: Global, segment: &Segment) -> Result<(), AllocError>
-        ensures { OnOk result ((piece : List ℕ) × Delivers self.old segment.now piece self.new) }
+        ensures { OnOk result (self.new ≡ record self.old {
+          stream = option_map (gathered segment.now) (begun_by segment.now self.old);
+          has_lost = self.old.has_lost || loses segment.now (begun_by segment.now self.old);
+        }) }
     {
         self.begin(alloc, segment);
         if let Some(stream) = &mut self.stream {
@@ -246,38 +272,49 @@ impl Flow {
         Ok(())
     }
 
-    /// Takes a segment of this side. A reset has no bytes, and a close without bytes may have any number.
-    pub fn take(&mut self, alloc: Global, segment: &Segment) -> Result<(), AllocError>
-        ensures { OnOk result ((piece : List ℕ) × Brings self.old segment.now piece self.new) }
+    // Notes up to which number segments of it came. A close without bytes may have any.
+    fn note_sent(&mut self, segment: &Segment)
+        ensures { self.new ≡ record self.old {
+          sent = if shows_number segment.now self.old then latest_number (end_number segment.now) self.old.sent else self.old.sent;
+        } }
     {
-        if segment.is_reset {
-            return Ok(());
-        }
-        self.heard = segment.time;
-        self.window = self.window.max(segment.window);
-        self.note_bytes(segment);
-        self.feed(alloc, segment)?;
-        let number = behind(segment);
+        let number = end_number(segment);
         let has_number = !segment.is_fin || !segment.payload.is_empty() || self.sent.is_none();
         if has_number && is_beyond(number, self.sent) {
             self.sent = Some(number);
         }
+    }
+
+    /// Takes a segment of this side that is no reset.
+    pub fn take(&mut self, alloc: Global, segment: &Segment) -> Result<(), AllocError>
+        ensures { OnOk result (self.new ≡ with_segment segment.now self.old) }
+    {
+        self.heard = segment.time;
+        self.window = self.window.max(segment.window);
+        self.note_bytes(segment);
+        self.feed(alloc, segment)?;
+        self.note_sent(segment);
         Ok(())
     }
 
     /// Notes what a segment of the other side acknowledges.
     pub fn take_answer(&mut self, segment: &Segment)
-        ensures { SameBytes self.old self.new }
+        ensures { self.new ≡ with_answer segment.now.acknowledges self.old }
     {
-        if let Some(number) = segment.acknowledges {
-            self.note_acknowledged(number);
+        if let Some(number) = segment.acknowledges
+            && is_beyond(number, self.acknowledged)
+        {
+            self.acknowledged = Some(number);
+            self.again = 0;
         }
     }
 
     /// Whether this segment of this side, which was taken, can end the connection: the number of a reset is one that the other side awaits
     /// (RFC 9293, 3.10.7.4), which is ready to take this much; that of a close is none that came before.
-    pub fn may_end(&self, segment: &Segment, window: u16) -> bool {
-        let number = behind(segment);
+    pub fn may_end(&self, segment: &Segment, window: u16) -> bool
+        ensures { result ≡ may_end segment.now window self.now (awaited_of self.now) }
+    {
+        let number = end_number(segment);
         match self.next() {
             Some(next) if segment.is_reset => {
                 number.wrapping_sub(next) <= u32::from(window) || self.acknowledged == Some(number)
@@ -289,13 +326,13 @@ impl Flow {
 
     /// Notes that this side ended the connection by this segment. An end that is behind a gap gives way to one that is not.
     pub fn note_end(&mut self, segment: &Segment, other: &Flow)
-        ensures { SameBytes self.old self.new }
+        ensures { self.new ≡ with_end segment.now other.now self.old }
     {
         if self.known_end().is_none() {
             self.end = Some(FlowEnd {
                 at: segment.time,
                 is_reset: segment.is_reset,
-                number: behind(segment),
+                number: end_number(segment),
                 received: other.acknowledged,
                 is_second: other.end.is_some(),
             });
@@ -303,13 +340,17 @@ impl Flow {
     }
 
     /// The most bytes that it was ready to take.
-    pub fn window(&self) -> u16 {
+    pub fn window(&self) -> u16
+        ensures { result ≡ self.now.window }
+    {
         self.window
     }
 
     /// Whether bytes of this segment show that what is known of this side is not all: they stand behind a gap, or behind its end.
-    pub fn is_overrun_by(&self, segment: &Segment) -> bool {
-        let (first, last) = (first_of(segment), behind(segment));
+    pub fn is_overrun_by(&self, segment: &Segment) -> bool
+        ensures { result ≡ is_overrun segment.now self.now }
+    {
+        let (first, last) = (first_of(segment), end_number(segment));
         let is_past_gap = self.next().is_some_and(|next| is_ahead(first, next));
         let is_past_end = self.end.is_some_and(|end| is_ahead(last, end.number));
         !segment.is_reset && first != last && (is_past_gap || is_past_end)

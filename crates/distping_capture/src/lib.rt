@@ -9,14 +9,18 @@ mod connection;
 mod dials;
 mod finder;
 mod flow;
+mod judging;
 mod laws;
 mod left_out;
 mod lines;
+mod mapper_lines;
 mod messages;
 mod nodes;
 mod object;
 mod reading;
 mod register;
+mod sizes;
+mod summary;
 mod traffic;
 
 pub use laws::the_bytes_alone;

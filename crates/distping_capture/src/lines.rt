@@ -2,16 +2,14 @@
 
 ghost use Rattle.std.specs.Prelude.{◌≡◌, Bool, IfNone, IfOk, IfSome, OnOk, false, string_bytes};
 ghost use Rattle.dist_talk.specs.Words.{status_of};
-ghost use Rattle.distping_capture.specs.Attempts.{verdict_on};
-ghost use Rattle.distping_capture.specs.Printing.{IsAttemptText, PrintsNoted, PrintsText, attempt_mark};
+ghost use Rattle.distping_capture.specs.Printing.{IsAttemptText, PrintsText, attempt_mark};
 ghost use Rattle.distping_report.specs.Texts.{mark_of};
 
 use crate::connection::{CapturedConnection, PATIENCE};
 use crate::dials::PastDial;
 use crate::flow::FlowEnd;
-use crate::traffic::{MapperTalk, Traffic, registration_of};
-use dist_epmd::{Answer, NodeInfo, Request};
-use dist_epmd_calls::LookupError;
+use crate::mapper_lines::put_mapper_end;
+use crate::traffic::Traffic;
 use dist_frames::first_body;
 use dist_messages::{Message, Side};
 use dist_names::{ByteString, Creation, Flags};
@@ -379,8 +377,8 @@ pub fn cookie_sentence(
     Some(check.sentence())
 }
 
-// Prints what was said on a connection.
-fn put_said(lines: LineSink<'_>, connection: &CapturedConnection) -> Result<(), Fault> {
+// Prints what was said in an attempt.
+fn put_attempt(lines: LineSink<'_>, connection: &CapturedConnection) -> Result<(), Fault> {
     put_heading(lines, connection)?;
     if let Traffic::Handshake(handshake) = &connection.content {
         put_messages(lines, connection.began, handshake)?;
@@ -389,26 +387,32 @@ fn put_said(lines: LineSink<'_>, connection: &CapturedConnection) -> Result<(), 
     put_strays(lines, connection)
 }
 
-/// Prints what was said on a connection, and what that came to, which it returns. The text of the verdict goes to `out`.
-pub fn put_attempt<W: Write>(
+/// Prints what was said on a connection, or to a port mapper that gave no answer, or that it carries TLS.
+pub fn put_said(lines: LineSink<'_>, connection: &CapturedConnection) -> Result<(), Fault> {
+    match &connection.content {
+        Traffic::Handshake(_) | Traffic::Unreached(_) => put_attempt(lines, connection),
+        Traffic::Mapper(talk) => put_mapper_end(lines, connection, talk),
+        Traffic::Tls => {
+            put_heading(lines, connection)?;
+            lines.put(&[Text(
+                "   tls       TLS is not looked into: a node of -proto_dist inet_tls, or another program",
+            )])
+        }
+        Traffic::Unknown | Traffic::Other => Ok(()),
+    }
+}
+
+/// Prints what both sides showed of the cookie, if they showed anything, and a cookie is known.
+pub fn put_cookie(
     lines: LineSink<'_>,
     connection: &CapturedConnection,
     terms: &Terms<'_>,
-    out: &mut ResultSink<W>,
-) -> Result<HandshakeVerdict, Fault>
-    ensures verdict { IfOk result (λ verdict. verdict ≡ verdict_on terms.now connection.now.is_at_mapper connection.now.content) }
-    ensures prints { IfOk result (λ verdict. PrintsNoted lines.entry.quiet false verdict out.old out.new) }
-{
-    let verdict = connection.verdict_by(terms);
-    if lines.quiet {
-        return Ok(verdict);
+    verdict: HandshakeVerdict,
+) -> Result<(), Fault> {
+    match cookie_sentence(connection, terms, verdict) {
+        Some(sentence) => lines.put(&[Text("   cookie    "), Text(sentence)]),
+        None => Ok(()),
     }
-    put_said(lines, connection)?;
-    print_verdict(lines, verdict, terms.cookie.is_ok(), out)?;
-    if let Some(sentence) = cookie_sentence(connection, terms, verdict) {
-        lines.put(&[Text("   cookie    "), Text(sentence)])?;
-    }
-    Ok(verdict)
 }
 
 // A node's name; empty if it is not known.
@@ -543,78 +547,4 @@ pub fn put_end(
         )])?;
     }
     Ok(())
-}
-
-// Prints a registration, and what came of it.
-fn put_registration(
-    lines: LineSink<'_>,
-    info: &NodeInfo,
-    code: u8,
-    creation: u32,
-) -> Result<(), Fault> {
-    let (result, number) = if code == 0 {
-        (": creation ", creation)
-    } else {
-        (": refused, result ", u32::from(code))
-    };
-    lines.put(&[
-        Text("   registers "),
-        Name(info.name.as_slice()),
-        Text(" at port "),
-        Number(u32::from(info.port)),
-        Text(result),
-        Number(number),
-    ])
-}
-
-/// Prints what a port mapper was asked, and its answer.
-pub fn put_answer(
-    lines: LineSink<'_>,
-    connection: &CapturedConnection,
-    talk: &MapperTalk,
-) -> Result<(), Fault> {
-    put_heading(lines, connection)?;
-    let port = connection.acceptor.port;
-    match (&talk.request, &talk.answer) {
-        (Some(Request::Alive(info)), Some(answer)) => match registration_of(answer) {
-            Some((code, creation)) => put_registration(lines, info, code, creation),
-            None => Ok(()),
-        },
-        (Some(Request::PortPlease(name)), Some(Answer::Port(found))) => {
-            lines.put(&[Text("   looks up  "), Name(name.as_slice())])?;
-            match found {
-                Ok(info) => lines.put_registration(port, info),
-                Err(_) => lines.put_no_answer(port, LookupError::NotThere),
-            }
-        }
-        _ => Ok(()),
-    }
-}
-
-/// Prints how a conversation with a port mapper ended: a request without an answer, the end of a registration, a question for all
-/// names, whose answer is not read.
-pub fn put_mapper_end(
-    lines: LineSink<'_>,
-    connection: &CapturedConnection,
-    talk: &MapperTalk,
-) -> Result<(), Fault> {
-    let (what, name) = match &talk.request {
-        Some(Request::Alive(info)) => ("registration of ", Name(info.name.as_slice())),
-        Some(Request::PortPlease(name)) => ("lookup of ", Name(name.as_slice())),
-        Some(Request::Names) => ("", Text("asked for the names of all nodes")),
-        None if connection.lacks_bytes(Side::Dialler) => ("", Text("")),
-        None => return Ok(()),
-    };
-    let (front, what) = match connection.lost_registration() {
-        None if talk.request.is_none() => ("!  missing   bytes of the request", ""),
-        Some(_) => ("   epmd      the registration ended of ", ""),
-        None if what.is_empty() => ("   epmd      ", ""),
-        None if talk.answer.is_some() => return Ok(()),
-        None if connection.lacks_bytes(Side::Acceptor) => {
-            ("!  missing   bytes of the answer to the ", what)
-        }
-        None => ("!  epmd      no answer to the ", what),
-    };
-    put_heading(lines, connection)?;
-    lines.put(&[Text(front), Text(what), name])
 }

@@ -1,6 +1,8 @@
 //! The nodes that were seen: their restarts, names that two hosts use, who listens where, and which lookups no dial followed yet.
 
-ghost use Rattle.std.specs.{Prelude.length, List.Sorted.IsSearchInRange};
+ghost use Rattle.std.specs.Prelude.{◌≡◌, ◌↔◌, [], IsSome, IsTrue, OnOk, length, map};
+ghost use Rattle.std.specs.List.{Contains, Sorted.IsSearchInRange};
+ghost use Rattle.distping_capture.specs.Listeners.{Learns, places_of};
 
 use crate::connection::CapturedConnection;
 use crate::lines::put_slow;
@@ -153,13 +155,14 @@ pub struct NodesSeen {
     alloc: Global,
     // In the order of their names.
     known: Vec<KnownNode>,
-    // In the order of their ports.
     listeners: Vec<Listener>,
 }
 
 impl NodesSeen {
     /// Nothing is known.
-    pub fn new(alloc: Global) -> NodesSeen {
+    pub fn new(alloc: Global) -> NodesSeen
+        ensures { result.listeners.items ≡ [] }
+    {
         NodesSeen {
             alloc,
             known: Vec::new(alloc),
@@ -175,7 +178,9 @@ impl NodesSeen {
         side: Option<NodeDescription<'_>>,
         address: IpAddr,
         connection: &CapturedConnection,
-    ) -> Result<(), Fault> {
+    ) -> Result<(), Fault>
+        ensures { self.new ≡ record self.old { known = self.new.known } }
+    {
         let Some(
             NodeDescription {
                 name,
@@ -222,7 +227,9 @@ impl NodesSeen {
         &mut self,
         lines: LineSink<'_>,
         connection: &CapturedConnection,
-    ) -> Result<(), Fault> {
+    ) -> Result<(), Fault>
+        ensures { self.new ≡ record self.old { known = self.new.known } }
+    {
         let Some(handshake) = connection.handshake() else {
             return Ok(());
         };
@@ -237,7 +244,9 @@ impl NodesSeen {
         &mut self,
         lines: LineSink<'_>,
         connection: &CapturedConnection,
-    ) -> Result<(), Fault> {
+    ) -> Result<(), Fault>
+        ensures { self.new ≡ record self.old { known = self.new.known } }
+    {
         let Some(handshake) = connection.handshake() else {
             return Ok(());
         };
@@ -263,43 +272,74 @@ impl NodesSeen {
         None
     }
 
-    /// The name of the node that listens there, if one does; empty if it is not known.
-    pub fn listener(&self, place: Endpoint) -> Option<&[u8]> {
-        match self.listeners.binary_search_by(|it| it.place.cmp(&place)) {
-            Ok(at) => Some(self.listeners[at].name.as_slice()),
-            Err(_) => None,
-        }
+    // Where the node that listens there stands.
+    fn place_of(&self, place: Endpoint) -> Option<usize>
+        ensures { IsSome result ↔ Contains (places_of self.now) place }
+    {
+        self.listeners.iter().position(|it| it.place == place)
     }
 
-    /// Notes that a node listens there: with this name, if it is not empty and no part of what is known.
-    pub fn note(&mut self, place: Endpoint, name: &[u8]) -> Result<(), AllocError> {
-        let known = self.listener(place);
-        if known.is_some() && (name.is_empty() || short_part(known.unwrap_or(b"")) == name) {
-            return Ok(());
-        }
-        let name = ByteString::from_slice(self.alloc, name)?;
-        match self.listeners.binary_search_by(|it| it.place.cmp(&place)) {
-            Ok(at) => {
-                let listener = &mut self.listeners[at];
-                listener.name = name;
-            }
-            Err(at) if self.listeners.len() < MOST => {
-                let asked = None;
-                self.listeners.insert(at, Listener { place, name, asked })?;
-            }
-            Err(_) => {}
+    /// Whether a node listens there.
+    pub fn is_at(&self, place: Endpoint) -> bool
+        ensures { IsTrue result ↔ Contains (places_of self.now) place }
+    {
+        self.place_of(place).is_some()
+    }
+
+    /// The name of the node that listens there, if one does; empty if it is not known.
+    pub fn listener(&self, place: Endpoint) -> Option<&[u8]> {
+        let listener = self.listeners.get(self.place_of(place)?)?;
+        Some(listener.name.as_slice())
+    }
+
+    // Gives the node at this place of the list this name, unless that is empty, or a part of what is known.
+    #[tactic(auto, using(crate::proofs::Listeners::same_places))]
+    fn rename(&mut self, at: usize, name: &[u8]) -> Result<(), AllocError>
+        ensures { places_of self.new ≡ places_of self.old }
+    {
+        if let Some(listener) = self.listeners.get_mut(at)
+            && !name.is_empty()
+            && short_part(listener.name.as_slice()) != name
+        {
+            listener.name = ByteString::from_slice(self.alloc, name)?;
         }
         Ok(())
     }
 
+    /// Notes that a node listens there: with this name, if it is not empty and no part of what is known.
+    pub fn note(&mut self, place: Endpoint, name: &[u8]) -> Result<(), AllocError>
+        ensures { OnOk result (Learns place self.old self.new) }
+    {
+        match self.place_of(place) {
+            Some(at) => self.rename(at, name),
+            None if self.listeners.len() < MOST => {
+                let name = ByteString::from_slice(self.alloc, name)?;
+                let asked = None;
+                self.listeners.push(Listener { place, name, asked })?;
+                Ok(())
+            }
+            None => Ok(()),
+        }
+    }
+
     /// The name of the node where an attempt went, by what it said there, which is remembered; empty if it is not known.
-    pub fn acceptor_name(
-        &mut self,
-        place: Endpoint,
-        said: &[u8],
-    ) -> Result<ByteString, AllocError> {
+    pub fn acceptor_name(&mut self, place: Endpoint, said: &[u8]) -> Result<ByteString, AllocError>
+        ensures { OnOk result (Learns place self.old self.new) }
+    {
         self.note(place, said)?;
         ByteString::from_slice(self.alloc, self.listener(place).unwrap_or(said))
+    }
+
+    // Notes a lookup that gave this port.
+    #[tactic(auto, using(crate::proofs::Listeners::same_places))]
+    fn note_lookup(&mut self, place: Endpoint, lookup: Lookup)
+        ensures { places_of self.new ≡ places_of self.old }
+    {
+        if let Some(at) = self.place_of(place)
+            && let Some(listener) = self.listeners.get_mut(at)
+        {
+            listener.asked = Some(lookup);
+        }
     }
 
     /// Notes that a port mapper gave a node's port on this connection, to a lookup of this name. Of the lookups by one host at another one
@@ -309,26 +349,30 @@ impl NodesSeen {
         connection: &CapturedConnection,
         name: &[u8],
         info: &NodeInfo,
-    ) -> Result<(), AllocError> {
+    ) -> Result<(), AllocError>
+        ensures { OnOk result (Learns (record { address = connection.now.acceptor.address; port = info.now.port }) self.old self.new) }
+    {
         let (by, address) = (connection.dialler.address, connection.acceptor.address);
         let port = info.port;
         let place = Endpoint { address, port };
         self.note(place, info.name.as_slice())?;
-        for it in &mut self.listeners {
-            if it.place.address == address && it.is_asked_by(by) {
-                it.asked = None;
-            }
-        }
-        if let Ok(at) = self.listeners.binary_search_by(|it| it.place.cmp(&place)) {
-            let name = ByteString::from_slice(self.alloc, name)?;
-            let listener = &mut self.listeners[at];
-            listener.asked = Some(Lookup {
-                by,
-                at: connection.latest,
-                name,
-            });
-        }
+        forget_lookups(&mut self.listeners, by, address);
+        let name = ByteString::from_slice(self.alloc, name)?;
+        let at = connection.latest;
+        self.note_lookup(place, Lookup { by, at, name });
         Ok(())
+    }
+
+    // Takes away the lookup that a dial to a node of this name followed, if one did, and the port that it gave.
+    #[tactic(auto, using(crate::proofs::Listeners::same_places))]
+    fn take_lookup(&mut self, connection: &CapturedConnection, name: &[u8]) -> Option<(u16, Lookup)>
+        ensures { places_of self.new ≡ places_of self.old }
+    {
+        let is_its = |it: &Listener| it.is_asked_for(connection, name);
+        let at = self.listeners.iter().position(is_its)?;
+        let listener = self.listeners.get_mut(at)?;
+        let lookup = mem::replace(&mut listener.asked, None)?;
+        Some((listener.place.port, lookup))
     }
 
     /// Prints if the dial of an attempt to this node went elsewhere than its lookup, or late, or met another node. A lookup counts for one
@@ -338,21 +382,38 @@ impl NodesSeen {
         lines: LineSink<'_>,
         connection: &CapturedConnection,
         name: &[u8],
-    ) -> Result<(), Fault> {
-        for it in &mut self.listeners {
-            if it.is_asked_for(connection, name)
-                && let Some(lookup) = mem::replace(&mut it.asked, None)
-            {
-                lookup.put_followed(lines, it.place.port, connection, name)?;
-                let waited = connection.began.saturating_sub(lookup.at);
-                return put_slow(lines, Side::Dialler, waited, " seconds from lookup to dial");
-            }
-        }
-        Ok(())
+    ) -> Result<(), Fault>
+        ensures { places_of self.new ≡ places_of self.old }
+    {
+        let Some((port, lookup)) = self.take_lookup(connection, name) else {
+            return Ok(());
+        };
+        lookup.put_followed(lines, port, connection, name)?;
+        let waited = connection.began.saturating_sub(lookup.at);
+        put_slow(lines, Side::Dialler, waited, " seconds from lookup to dial")
+    }
+}
+
+// Forgets the lookups by one host at another one.
+#[tactic(auto, using(crate::proofs::Listeners::same_places))]
+fn forget_lookups(listeners: &mut [Listener], by: IpAddr, address: IpAddr)
+    ensures { map (λ l. l.place) listeners.new ≡ map (λ l. l.place) listeners.old }
+{
+    for it in listeners.iter_mut() {
+        it.forget(by, address);
     }
 }
 
 impl Listener {
+    // Forgets its lookup, if it was by this host at that one.
+    fn forget(&mut self, by: IpAddr, address: IpAddr)
+        ensures { self.new.place ≡ self.old.place }
+    {
+        if self.place.address == address && self.is_asked_by(by) {
+            self.asked = None;
+        }
+    }
+
     // Whether this host looked it up, and did not dial yet.
     fn is_asked_by(&self, host: IpAddr) -> bool {
         match &self.asked {

@@ -157,6 +157,30 @@ pub fn mapper_object(
     object_line(alloc, &members)
 }
 
+/// The object of a verdict that is left in doubt, as one line: bytes of this side came behind the end on which it rests.
+pub fn doubt_object(
+    alloc: Global,
+    connection: &CapturedConnection,
+    side: Side,
+) -> Result<String, AllocError> {
+    let (from, to) = (connection.dialler, connection.acceptor);
+    let side = match side {
+        Side::Dialler => "dialler",
+        Side::Acceptor => "acceptor",
+    };
+    let members = [
+        ("type", Value::Text("doubt")),
+        ("form", Value::Number(1)),
+        ("side", Value::Text(side)),
+        ("began", Value::Number(connection.began / 1_000_000)),
+        ("dialler_address", Value::Host(from.address)),
+        ("dialler_port", Value::Number(u64::from(from.port))),
+        ("acceptor_address", Value::Host(to.address)),
+        ("acceptor_port", Value::Number(u64::from(to.port))),
+    ];
+    object_line(alloc, &members)
+}
+
 /// The object of a line of the summary, as one line.
 pub fn pair_object(alloc: Global, pair: &PastDial) -> Result<String, AllocError> {
     object_line(

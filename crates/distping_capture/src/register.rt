@@ -1,31 +1,33 @@
 //! What is printed of connections, and what several of them show together: how often which pair of nodes came to what, restarts, names
 //! that two hosts use, dials that cross, lookups that lead elsewhere, and what leaves a wrong cookie in doubt.
 
-ghost use Rattle.std.specs.Prelude.{◌≡◌, ◌⊎◌, ◌++◌, [], ◌∷◌, ◌==◌, IfOk, IsSome, List, None, OnOk, false, true, if◌then◌else◌};
-ghost use Rattle.distping_capture.specs.Connections.{IsAttempt, IsDue, Judges, SameConnection, SameEnds, SaysNoMore, Stays};
+ghost use Rattle.std.specs.Prelude.{◌≡◌, ◌↔◌, ◌++◌, [], ◌∷◌, ◌==◌, Bool, IfOk, IsTrue, List, MatchBool, None, OnOk, Some, false, true, if◌then◌else◌};
+ghost use Rattle.std.specs.List.{Contains};
 ghost use Rattle.dist_capture.specs.declared.segment.Segment.{Segment};
-ghost use Rattle.distping_capture.specs.{Attempts.verdict_on, declared.dials.PastDial.PastDial};
 ghost use Rattle.dist_talk.specs.{Words.status_of, declared.terms.Terms.Terms};
-ghost use Rattle.distping_capture.specs.Exits.{Adds, AddsOf, Closes, ClosesAs, Counts, CountsBy, Ends, GoesOnCounting, GoesOnOpen, GoesOnWatching, IsOfTalk};
-ghost use Rattle.distping_capture.specs.Exits.{Notes, NotesBy, NotesOnce, Renews, SameAttempts, StandsFor, TakesOn, TakesOpen, TakesYet};
-ghost use Rattle.distping_capture.specs.Exits.{exit_now, exit_of, first_exit};
+ghost use Rattle.distping_capture.specs.{Attempts.name_said, Connections.Follows, Connections.SaysNoMore, declared.dials.PastDial.PastDial};
+ghost use Rattle.distping_capture.specs.Endings.{IsCarriedAtEnd, IsLate, OtherEnd, ended_or};
+ghost use Rattle.distping_capture.specs.Listeners.{LearnsAny, LearnsHost, found_on};
+ghost use Rattle.distping_capture.specs.Exits.{Adds, AddsOf, Closes, Counts, CountsBy, GoesOnWatching, Hears, HearsHost, Judges, JudgesLast};
+ghost use Rattle.distping_capture.specs.Exits.{JudgesOpen, Knows, LearnsNode, Leaves, SameKnown, finds};
+ghost use Rattle.distping_capture.specs.Exits.{Notes, Renews, SameAttempts, StandsFor, TakesOn, TakesYet, exit_now, exit_of, first_exit};
 ghost use Rattle.distping_capture.specs.Printing.{PrintsEnd, PrintsNoted, PrintsOutcome, capture_verdict, is_talk};
 
 use crate::connection::CapturedConnection;
-use crate::dials::{PastDial, add, by_pairs};
+use crate::dials::{PastDial, add};
+use crate::judging::{conclude_end, connect_fault, is_asked, is_due, is_talk, settle_reading};
 use crate::left_out::PacketsLeftOut;
-use crate::lines::{
-    print_verdict, put_answer, put_attempt, put_doubt, put_end, put_heading, put_mapper_end,
-    put_pair,
-};
+use crate::lines::{print_verdict, put_cookie, put_doubt, put_end, put_said};
+use crate::mapper_lines::put_answer;
 use crate::nodes::NodesSeen;
-use crate::object::{attempt_object, capture_object, mapper_object, pair_object};
+use crate::object::{attempt_object, capture_object, doubt_object, mapper_object};
+use crate::summary::{count_all, put_pairs};
 use crate::traffic::Traffic;
-use dist_capture::{Endpoint, Segment};
+use dist_capture::Segment;
 use dist_epmd::{Answer, Request};
 use dist_messages::Side;
 use dist_names::ByteString;
-use dist_talk::{Handshake, HandshakeVerdict, Terms, Unreached};
+use dist_talk::{HandshakeVerdict, Terms};
 use distping_report::LinePiece::Text;
 use distping_report::{LineSink, ResultSink};
 use distping_words::Fault;
@@ -53,10 +55,8 @@ pub struct Register<'x, W: Write> {
     pub results: ResultSink<W>,
     // What handshakes are judged by.
     terms: Terms<'x>,
-    // The time of the latest segment.
-    time: u64,
     nodes: NodesSeen,
-    // The hosts that sent a segment, in order.
+    // The hosts that sent a segment.
     hosts: Vec<IpAddr>,
     // The latest attempts, the oldest first.
     dials: Vec<PastDial>,
@@ -80,13 +80,6 @@ fn first_exit(dials: &[PastDial]) -> u8
     }
 }
 
-// What a connection carries is a talk with a port mapper.
-fn is_talk(content: &Traffic) -> bool
-    ensures { result ≡ is_talk content.now }
-{
-    matches!(content, Traffic::Mapper(_))
-}
-
 // The verdict on a capture in which nothing was found.
 fn capture_verdict(has_found: bool) -> Option<HandshakeVerdict>
     ensures { result ≡ capture_verdict has_found }
@@ -98,29 +91,6 @@ fn capture_verdict(has_found: bool) -> Option<HandshakeVerdict>
     }
 }
 
-// Counts these attempts.
-fn count_all(counted: &mut Vec<PastDial>, dials: Vec<PastDial>) -> Result<(), AllocError> {
-    for dial in dials {
-        if dial.is_dial {
-            add(counted, dial)?;
-        }
-    }
-    Ok(())
-}
-
-// Prints the summary: a line for each pair and each word, or an object.
-fn put_pairs(lines: LineSink<'_>, counted: Vec<PastDial>, nodes: &NodesSeen) -> Result<(), Fault> {
-    let pairs = by_pairs(lines.alloc, counted, nodes)?;
-    for pair in &pairs {
-        let is_doubted = pair.is_refused() && pairs.iter().any(|it| it.came_up_as(pair));
-        put_pair(lines, pair, is_doubted)?;
-        if lines.quiet {
-            lines.write_made(pair_object(lines.alloc, pair))?;
-        }
-    }
-    Ok(())
-}
-
 impl<'x, W: Write> Register<'x, W> {
     /// Nothing is remembered.
     pub fn new(lines: LineSink<'x>, terms: Terms<'x>, results: ResultSink<W>) -> Register<'x, W>
@@ -128,13 +98,13 @@ impl<'x, W: Write> Register<'x, W> {
         ensures terms { result.terms ≡ terms.entry }
         ensures prints { (result.lines.quiet ≡ lines.entry.quiet) × (result.results ≡ results) }
         ensures none { (result.dials.items ≡ []) × (result.status ≡ 0) × (result.has_found ≡ false) }
+        ensures known { (result.hosts.items ≡ []) × (result.nodes.listeners.items ≡ []) }
     {
         let alloc = lines.alloc;
         Register {
             lines,
             results,
             terms,
-            time: 0,
             nodes: NodesSeen::new(alloc),
             hosts: Vec::new(alloc),
             dials: Vec::new(alloc),
@@ -165,6 +135,8 @@ impl<'x, W: Write> Register<'x, W> {
     fn settle_oldest(&mut self) -> Result<(), AllocError>
         ensures terms { OnOk result (self.new.terms ≡ self.old.terms) }
         ensures prints { OnOk result ((self.new.lines ≡ self.old.lines) × (self.new.results ≡ self.old.results)) }
+        ensures known { OnOk result (SameKnown self.old self.new) }
+        ensures found { OnOk result (self.new.has_found ≡ self.old.has_found) }
         ensures stands { OnOk result ((attempts : List PastDial) → StandsFor self.old attempts → StandsFor self.new attempts) }
     {
         if self.dials.len() <= MOST_DIALS {
@@ -178,6 +150,8 @@ impl<'x, W: Write> Register<'x, W> {
     fn push_dial(&mut self, dial: PastDial) -> Result<(), AllocError>
         ensures terms { OnOk result (self.new.terms ≡ self.old.terms) }
         ensures prints { OnOk result ((self.new.lines ≡ self.old.lines) × (self.new.results ≡ self.old.results)) }
+        ensures known { OnOk result (SameKnown self.old self.new) }
+        ensures found { OnOk result (self.new.has_found ≡ true) }
         ensures stands { OnOk result ((earlier : List PastDial) → self.old.status ≡ first_exit earlier
             → StandsFor self.new (earlier ++ (self.old.dials.items ++ dial ∷ []))) }
     {
@@ -198,6 +172,7 @@ impl<'x, W: Write> Register<'x, W> {
     fn add_attempt(&mut self, dial: PastDial) -> Result<(), Fault>
         ensures adds { OnOk result (Adds dial self.old self.new) }
         ensures prints { OnOk result (self.new.results ≡ self.old.results) }
+        ensures known { OnOk result (SameKnown self.old self.new) }
     {
         let mut dial = dial;
         dial.meet_all(self.lines, &mut self.dials)?;
@@ -210,177 +185,150 @@ impl<'x, W: Write> Register<'x, W> {
         &self,
         connection: &CapturedConnection,
         verdict: HandshakeVerdict,
-        name: ByteString,
-        other: ByteString,
+        now: u64,
+        names: (ByteString, ByteString),
     ) -> PastDial
+        ensures name { result.name ≡ names.0 }
         ensures between { (result.dialler ≡ connection.now.dialler) × (result.acceptor ≡ connection.now.acceptor) }
+        ensures times { (result.began ≡ connection.now.began) × (result.ended ≡ ended_or connection.now now) }
         ensures verdict { result.verdict ≡ verdict }
         ensures exit { result.exit ≡ status_of verdict }
     {
+        let (name, other) = names;
         PastDial {
             name,
             other,
             dialler: connection.dialler,
             acceptor: connection.acceptor,
             began: connection.began,
-            ended: connection.end_or(self.time),
+            ended: connection.end_or(now),
             verdict,
             exit: verdict.status(),
             count: 1,
-            is_dial: true,
+            is_dial: !is_talk(&connection.content),
         }
     }
 
-    // Remembers an attempt to reach a node, and prints what it shows together with earlier ones.
-    fn note_attempt(
+    // The names of the two nodes of an attempt, which are remembered, with what is printed of them; empty of a talk with a port mapper.
+    fn note_names(
         &mut self,
         connection: &CapturedConnection,
-        verdict: HandshakeVerdict,
-    ) -> Result<(), Fault>
-        ensures adds { OnOk result (AddsOf connection.now verdict self.old self.new) }
-        ensures prints { OnOk result (self.new.results ≡ self.old.results) }
+    ) -> Result<(ByteString, ByteString), Fault>
+        ensures rest { OnOk result (self.new ≡ record self.old { nodes = self.new.nodes }) }
+        ensures name { IfOk result (λ names. names.0 ≡ name_said Side.Dialler connection.now.content) }
+        ensures learns { OnOk result (LearnsNode (is_talk connection.now.content) connection.now self.old self.new) }
     {
         let lines = self.lines;
+        if is_talk(&connection.content) {
+            return Ok((ByteString::new(lines.alloc), ByteString::new(lines.alloc)));
+        }
         self.nodes.note_sides(lines, connection)?;
         let said = connection.name_of(Side::Acceptor);
         let other = self.nodes.acceptor_name(connection.acceptor, said)?;
         self.nodes.put_lookup(lines, connection, other.as_slice())?;
         let name = ByteString::from_slice(lines.alloc, connection.name_of(Side::Dialler))?;
-        let dial = self.dial_of(connection, verdict, name, other);
+        Ok((name, other))
+    }
+
+    // Remembers an attempt that came to this verdict, and prints what it shows together with earlier ones.
+    fn note_attempt(
+        &mut self,
+        connection: &CapturedConnection,
+        verdict: HandshakeVerdict,
+        now: u64,
+    ) -> Result<(), Fault>
+        ensures adds { OnOk result (AddsOf now connection.now verdict self.old self.new) }
+        ensures prints { OnOk result (self.new.results ≡ self.old.results) }
+        ensures learns { OnOk result (LearnsNode (is_talk connection.now.content) connection.now self.old self.new) }
+    {
+        let names = self.note_names(connection)?;
+        let dial = self.dial_of(connection, verdict, now, names);
         self.add_attempt(dial)
     }
 
-    // Prints an attempt that came up, or whose connection ended, and remembers it.
-    fn put_attempt(&mut self, connection: &mut CapturedConnection) -> Result<(), Fault>
-        ensures connection { SameConnection connection.old connection.new }
-        ensures talk { OnOk result (is_talk connection.new.content ≡ is_talk connection.old.content) }
-        ensures judges { OnOk result (Judges self.old.terms connection.old connection.new
-            × Notes false connection.old (verdict_on self.old.terms connection.new.is_at_mapper connection.new.content) self.old self.new) }
-    {
-        connection.conclude(&self.terms, self.time);
-        connection.stop_reading();
-        let verdict = put_attempt(self.lines, connection, &self.terms, &mut self.results)?;
-        connection.verdict = Some(verdict);
-        connection.strays = 0;
-        self.note_attempt(connection, verdict)
-    }
-
-    // The same, unless it was printed.
-    fn put_attempt_once(&mut self, connection: &mut CapturedConnection) -> Result<(), Fault>
-        ensures connection { SameConnection connection.old connection.new }
-        ensures talk { OnOk result (is_talk connection.new.content ≡ is_talk connection.old.content) }
-        ensures verdict { OnOk result (IsSome connection.new.verdict) }
-        ensures judges { OnOk result (connection.old.verdict ≡ None → Judges self.old.terms connection.old connection.new) }
-        ensures once { OnOk result (NotesOnce false connection.old connection.new self.old self.new) }
-    {
-        if connection.verdict.is_some() {
-            return Ok(());
-        }
-        self.put_attempt(connection)
-    }
-
-    // Prints how a connection ended, if it came up.
-    fn put_attempt_end(&mut self, connection: &CapturedConnection) -> Result<(), Fault>
-        ensures { OnOk result (SameAttempts self.old self.new) }
-    {
-        if let Some(up_at) = connection.up_since() {
-            put_end(self.lines, connection, up_at, self.time)?;
-            self.nodes.note_end(self.lines, connection)?;
-        }
-        Ok(())
-    }
-
-    // Prints what there is to say of an attempt at the end of its connection.
-    fn end_attempt(&mut self, connection: &mut CapturedConnection) -> Result<(), Fault>
-        ensures connection { SameConnection connection.old connection.new }
-        ensures judges { OnOk result (connection.old.verdict ≡ None → Judges self.old.terms connection.old connection.new) }
-        ensures once { OnOk result (NotesOnce false connection.old connection.new self.old self.new) }
-    {
-        self.put_attempt_once(connection)?;
-        self.put_attempt_end(connection)
-    }
-
-    // Prints the verdict on what a port mapper answered, or did not.
-    fn put_mapper_verdict(
+    // Prints the verdict on an attempt, as far as it is to be printed now: its text; or the object of a talk with a port mapper.
+    fn put_verdict(
         &mut self,
         connection: &CapturedConnection,
         verdict: HandshakeVerdict,
     ) -> Result<(), Fault>
         ensures rest { OnOk result (self.new ≡ record self.old { results = self.new.results }) }
-        ensures prints { OnOk result (PrintsNoted self.old.lines.quiet true verdict self.old.results self.new.results) }
+        ensures prints { OnOk result (PrintsNoted self.old.lines.quiet (is_talk connection.now.content) verdict self.old.results self.new.results) }
     {
         if !self.lines.quiet {
-            return print_verdict(self.lines, verdict, true, &mut self.results);
+            print_verdict(
+                self.lines,
+                verdict,
+                self.terms.cookie.is_ok(),
+                &mut self.results,
+            )?;
+            return put_cookie(self.lines, connection, &self.terms, verdict);
+        }
+        if !is_talk(&connection.content) {
+            return Ok(());
         }
         let object = mapper_object(self.lines.alloc, connection, verdict)?;
         self.results.print(&object)
     }
 
-    // Judges what a port mapper answered, or did not, if anything is wrong with it and it was not judged: prints that, and remembers it.
-    fn judge_mapper(&mut self, connection: &mut CapturedConnection) -> Result<(), Fault>
-        ensures connection { connection.new ≡ record connection.old { verdict = connection.new.verdict } }
-        ensures once { OnOk result (NotesOnce true connection.old connection.new self.old self.new) }
+    // Prints and notes the verdict on what a connection carries.
+    fn note_verdict(
+        &mut self,
+        connection: &mut CapturedConnection,
+        verdict: HandshakeVerdict,
+        now: u64,
+    ) -> Result<(), Fault>
+        ensures connection { OnOk result (connection.new ≡ record connection.old { verdict = Some verdict; strays = 0 }) }
+        ensures notes { OnOk result (Notes (is_talk connection.old.content) now connection.new verdict self.old self.new) }
     {
-        if connection.verdict.is_some() || !connection.has_mapper_fault() {
-            return Ok(());
-        }
-        let verdict = connection.verdict_by(&self.terms);
-        self.put_mapper_verdict(connection, verdict)?;
+        self.put_verdict(connection, verdict)?;
         connection.verdict = Some(verdict);
-        let alloc = self.lines.alloc;
-        let (name, other) = (ByteString::new(alloc), ByteString::new(alloc));
-        let dial = PastDial {
-            is_dial: false,
-            ..self.dial_of(connection, verdict, name, other)
-        };
-        self.add_attempt(dial)
+        connection.strays = 0;
+        self.note_attempt(connection, verdict, now)
     }
 
-    // Prints what a port mapper answered, and remembers what node it found.
-    fn put_found(&mut self, connection: &CapturedConnection) -> Result<(), Fault>
-        ensures { OnOk result (SameAttempts self.old self.new) }
+    // Judges what a connection carries, as it stands at this time: prints that, and remembers it, if it has a verdict.
+    fn judge(&mut self, connection: &mut CapturedConnection, now: u64) -> Result<(), Fault>
+        ensures judges { OnOk result (connection.old.verdict ≡ None → Judges now connection.old connection.new self.old self.new) }
+        ensures counting { OnOk result (connection.old.verdict ≡ None → CountsBy connection.old self.old self.new) }
     {
-        let Traffic::Mapper(talk) = &connection.content else {
+        connection.conclude(&self.terms, now);
+        settle_reading(connection);
+        put_said(self.lines, connection)?;
+        let Some(verdict) = connection.verdict_at_end(&self.terms) else {
             return Ok(());
         };
-        self.has_found = true;
-        put_answer(self.lines, connection, talk)?;
-        if let (Some(Request::PortPlease(name)), Some(Answer::Port(Ok(info)))) = (
-            &talk.request,
-            &talk.answer,
-        ) {
-            self.nodes.note_found(connection, name.as_slice(), info)?;
+        self.note_verdict(connection, verdict, now)
+    }
+
+    // Whether this host sent a segment.
+    fn is_seen(&self, host: IpAddr) -> bool
+        ensures { IsTrue result ↔ Contains self.now.hosts.items host }
+    {
+        self.hosts.iter().any(|it| *it == host)
+    }
+
+    // Notes what is known of a connection without a verdict only at its end, by what is known of its other end.
+    fn conclude_content(&self, connection: &mut CapturedConnection, now: u64)
+        ensures rest { connection.new ≡ record connection.old { content = connection.new.content } }
+        ensures at_end { (other : OtherEnd) × Knows self.now connection.old other
+            × IsCarriedAtEnd other connection.old now connection.new.content }
+        ensures says { SaysNoMore connection.old connection.new }
+    {
+        let is_node = self.nodes.is_at(connection.acceptor);
+        let is_seen = self.is_seen(connection.acceptor.address);
+        let fault = connect_fault(connection, is_node, is_seen, now);
+        conclude_end(connection, self.lines.alloc, is_node, fault, now);
+    }
+
+    // Prints how a connection ended that came up, or that was the registration of a node, which is remembered.
+    fn put_end(&mut self, connection: &CapturedConnection, now: u64) -> Result<(), Fault>
+        ensures { OnOk result (SameAttempts self.old self.new) }
+    {
+        if let Some(up_at) = connection.up_since() {
+            put_end(self.lines, connection, up_at, now)?;
+            self.nodes.note_end(self.lines, connection)?;
         }
-        Ok(())
-    }
-
-    // Prints what a port mapper answered, and the verdict on it.
-    fn take_answer(&mut self, connection: &mut CapturedConnection) -> Result<(), Fault>
-        ensures connection { connection.new ≡ record connection.old { verdict = connection.new.verdict } }
-        ensures once { OnOk result (NotesOnce (is_talk connection.old.content) connection.old connection.new self.old self.new) }
-    {
-        if !is_talk(&connection.content) {
-            return Ok(());
-        }
-        self.put_found(connection)?;
-        self.judge_mapper(connection)
-    }
-
-    // Prints how a conversation with a port mapper ended.
-    fn put_talk_end(&mut self, connection: &CapturedConnection) -> Result<(), Fault>
-        ensures { OnOk result (SameAttempts self.old self.new) }
-    {
-        let Traffic::Mapper(talk) = &connection.content else {
-            return Ok(());
-        };
-        self.has_found = self.has_found || talk.request.is_some();
-        put_mapper_end(self.lines, connection, talk)
-    }
-
-    // Remembers that the registration of a node ended, if one did, and prints if that says something of an attempt before.
-    fn note_unregistered(&mut self, connection: &CapturedConnection) -> Result<(), Fault>
-        ensures { OnOk result (SameAttempts self.old self.new) }
-    {
         let Some((port, at)) = connection.lost_registration() else {
             return Ok(());
         };
@@ -391,134 +339,65 @@ impl<'x, W: Write> Register<'x, W> {
         Ok(())
     }
 
-    // Prints what there is to say of a conversation with a port mapper at its end.
-    fn end_mapper(&mut self, connection: &mut CapturedConnection) -> Result<(), Fault>
-        ensures connection { SameConnection connection.old connection.new }
-        ensures once { OnOk result (NotesOnce true connection.old connection.new self.old self.new) }
-    {
-        connection.conclude_mapper(self.time);
-        self.put_talk_end(connection)?;
-        self.judge_mapper(connection)?;
-        self.note_unregistered(connection)
-    }
-
-    // Why a connection was never made, if that is known: of the other host a segment was seen, or it is the port mapper's port of a node.
-    fn connect_fault(&self, connection: &CapturedConnection) -> Option<Unreached> {
-        let unreached = connection.connect_fault(self.time)?;
-        let is_node = self.nodes.listener(connection.acceptor).is_some();
-        let is_seen = self
-            .hosts
-            .binary_search(&connection.acceptor.address)
-            .is_ok();
-        let is_known = is_node || connection.is_at_mapper && is_seen;
-        is_known.then_some(unreached)
-    }
-
-    // Notes what is known of a connection without a verdict only at its end: that it was never made, that TLS was dialled where a plain
-    // node listens, or that what was said to a node is missing.
-    fn conclude_content(&self, connection: &mut CapturedConnection)
-        ensures connection { connection.new ≡ record connection.old { content = connection.new.content } }
-        ensures talk { IsOfTalk connection.old (is_talk connection.new.content) }
-        ensures says { SaysNoMore connection.old connection.new }
-        ensures attempt { IsAttempt connection.old.content → IsAttempt connection.new.content × Stays connection.old connection.new }
-    {
-        if connection.verdict.is_some() {
-            return;
-        }
-        if let Some(unreached) = self.connect_fault(connection) {
-            connection.content = Traffic::Unreached(unreached);
-            return;
-        }
-        if self.nodes.listener(connection.acceptor).is_none() {
-            return;
-        }
-        match &connection.content {
-            Traffic::Tls => connection.conclude_tls(self.lines.alloc, self.time),
-            Traffic::Unknown if connection.lacks_bytes(Side::Dialler) => {
-                connection.content = Traffic::Handshake(Handshake::new(self.lines.alloc));
-            }
-            _ => {}
-        }
-    }
-
-    // Prints that a connection carries TLS.
-    fn put_tls(&self, connection: &CapturedConnection) -> Result<(), Fault> {
-        put_heading(self.lines, connection)?;
-        self.lines.put(&[Text(
-            "   tls       TLS is not looked into: a node of -proto_dist inet_tls, or another program",
-        )])
-    }
-
-    // Prints what there is to say of a connection at its end that is no talk with a port mapper.
-    fn end_other(&mut self, connection: &mut CapturedConnection) -> Result<(), Fault>
-        ensures connection { SameConnection connection.old connection.new }
-        ensures judges { OnOk result (IsAttempt connection.old.content → connection.old.verdict ≡ None
-            → Judges self.old.terms connection.old connection.new) }
-        ensures once { OnOk result (NotesOnce false connection.old connection.new self.old self.new) }
-    {
-        match &connection.content {
-            Traffic::Handshake(_) | Traffic::Unreached(_) => self.end_attempt(connection),
-            Traffic::Tls => self.put_tls(connection),
-            Traffic::Mapper(_) | Traffic::Unknown | Traffic::Other => Ok(()),
-        }
-    }
-
     // Prints the object of an attempt, if it has a verdict.
-    fn put_object(&mut self, connection: &CapturedConnection) -> Result<(), Fault>
+    fn put_object(&mut self, connection: &CapturedConnection, now: u64) -> Result<(), Fault>
         ensures rest { OnOk result (self.new ≡ record self.old { results = self.new.results }) }
-        ensures prints { OnOk result (PrintsEnd false self.old.lines.quiet connection.now.verdict self.old.results self.new.results) }
+        ensures prints { OnOk result (PrintsEnd (is_talk connection.now.content) self.old.lines.quiet connection.now.verdict
+            self.old.results self.new.results) }
     {
-        if !self.lines.quiet {
+        if !self.lines.quiet || is_talk(&connection.content) {
             return Ok(());
         }
         let Some(verdict) = connection.verdict else {
             return Ok(());
         };
         let alloc = self.lines.alloc;
-        let object = attempt_object(alloc, connection, verdict, &self.terms, self.time)?;
+        let object = attempt_object(alloc, connection, verdict, &self.terms, now)?;
         self.results.print(&object)
     }
 
-    // Prints what there is to say of what a connection carries, at its end.
-    fn end_content(&mut self, connection: &mut CapturedConnection) -> Result<(), Fault>
-        ensures connection { SameConnection connection.old connection.new }
-        ensures judges { OnOk result (IsAttempt connection.old.content → connection.old.verdict ≡ None
-            → Judges self.old.terms connection.old connection.new) }
+    // Judges a connection at its end, unless it was judged before.
+    fn judge_last(&mut self, connection: &mut CapturedConnection, now: u64) -> Result<(), Fault>
+        ensures judges { OnOk result (JudgesLast now connection.old connection.new self.old self.new) }
         ensures counting { OnOk result (CountsBy connection.old self.old self.new) }
-        ensures closes { OnOk result (ClosesAs (is_talk connection.old.content) connection.old connection.new self.old self.new) }
     {
-        if is_talk(&connection.content) {
-            return self.end_mapper(connection);
+        if connection.verdict.is_some() {
+            return Ok(());
         }
-        self.end_other(connection)?;
-        self.put_object(connection)
+        self.conclude_content(connection, now);
+        self.judge(connection, now)
+    }
+
+    // Notes that something was found, if a port mapper was asked anything on a connection that ended.
+    fn note_asked(&mut self, connection: &CapturedConnection)
+        ensures { self.new ≡ finds connection.now.content self.old }
+    {
+        self.has_found = self.has_found || is_asked(&connection.content);
+    }
+
+    // Judges a connection at its end, and prints what there is to say of it then.
+    fn close(&mut self, connection: &mut CapturedConnection, now: u64) -> Result<(), Fault>
+        ensures { OnOk result (Closes now connection.old connection.new self.old self.new) }
+    {
+        self.judge_last(connection, now)?;
+        self.note_asked(connection);
+        self.put_end(connection, now)?;
+        self.put_object(connection, now)
     }
 
     /// Prints what there is to say of a connection at its end, once. What was said on it is then forgotten.
-    pub fn end(&mut self, connection: &mut CapturedConnection) -> Result<(), Fault>
-        ensures reported { OnOk result (connection.new.is_reported ≡ true) }
-        ensures ends { OnOk result (SameEnds connection.old connection.new) }
-        ensures ended { OnOk result (Ends connection.old self.old self.new) }
-        ensures closes { OnOk result (((connection.old.is_reported ≡ true) × (connection.new ≡ connection.old) × SameAttempts self.old self.new)
-            ⊎ ((connection.old.is_reported ≡ false) × Closes connection.old connection.new self.old self.new)) }
-        ensures judged { OnOk result (IsDue connection.old → IsSome connection.new.verdict) }
+    pub fn end(&mut self, connection: &mut CapturedConnection, now: u64) -> Result<(), Fault>
+        ensures ends { OnOk result (MatchBool connection.old.is_reported ((connection.new ≡ connection.old) × SameAttempts self.old self.new)
+            (Leaves now connection.old connection.new self.old self.new)) }
         ensures watching { OnOk result (GoesOnWatching self.old connection.old self.new connection.new) }
     {
         if connection.is_reported {
             return Ok(());
         }
         connection.is_reported = true;
-        self.conclude_content(connection);
-        self.end_content(connection)?;
+        self.close(connection, now)?;
         connection.forget();
         Ok(())
-    }
-
-    /// Notes the time of the latest segment.
-    pub fn note_time(&mut self, time: u64)
-        ensures { SameAttempts self.old self.new }
-    {
-        self.time = time;
     }
 
     /// Ends a connection if this segment begins another one between the same two ports, which takes its place. What came behind its latest
@@ -535,10 +414,23 @@ impl<'x, W: Write> Register<'x, W> {
         if !connection.is_before(segment) {
             return Ok(());
         }
-        self.note_time(connection.latest);
-        self.end(connection)?;
-        self.note_time(segment.time);
+        self.end(connection, connection.latest)?;
         *connection = CapturedConnection::new(segment, mapper_port);
+        Ok(())
+    }
+
+    // Notes that this host sent a segment.
+    fn learn_host(&mut self, host: IpAddr) -> Result<(), AllocError>
+        ensures hosts { OnOk result (LearnsHost host self.old.hosts.items self.new.hosts.items) }
+        ensures rest { OnOk result (self.new ≡ record self.old { hosts = self.new.hosts }) }
+    {
+        if self.is_seen(host) {
+            return Ok(());
+        }
+        if self.hosts.len() >= MOST_HOSTS {
+            return Ok(());
+        }
+        self.hosts.push(host)?;
         Ok(())
     }
 
@@ -548,49 +440,81 @@ impl<'x, W: Write> Register<'x, W> {
         connection: &CapturedConnection,
         segment: &Segment,
     ) -> Result<(), AllocError>
-        ensures { OnOk result (SameAttempts self.old self.new) }
+        ensures hosts { OnOk result (HearsHost segment.now connection.now self.old self.new) }
+        ensures rest { OnOk result (self.new ≡ record self.old { hosts = self.new.hosts }) }
     {
-        let host = segment.from.address;
-        if connection.flow(connection.side_of(segment)).is_unseen()
-            && let Err(at) = self.hosts.binary_search(&host)
-            && self.hosts.len() < MOST_HOSTS
-        {
-            self.hosts.insert(at, host)?;
+        let side = connection.side_of(segment);
+        if connection.flow(side).is_unseen() {
+            return self.learn_host(segment.from.address);
         }
         Ok(())
+    }
+
+    // Remembers the node that a port mapper found, if it did.
+    fn note_found(&mut self, connection: &CapturedConnection) -> Result<(), AllocError>
+        ensures places { OnOk result (LearnsAny (found_on connection.now.acceptor connection.now.content) self.old.nodes self.new.nodes) }
+        ensures rest { OnOk result (self.new ≡ record self.old { nodes = self.new.nodes }) }
+    {
+        let Traffic::Mapper(talk) = &connection.content else {
+            return Ok(());
+        };
+        if let (Some(Request::PortPlease(name)), Some(Answer::Port(Ok(info)))) = (
+            &talk.request,
+            &talk.answer,
+        ) {
+            self.nodes.note_found(connection, name.as_slice(), info)?;
+        }
+        Ok(())
+    }
+
+    // Prints what a port mapper answered, and remembers what node it found.
+    fn put_found(&mut self, connection: &CapturedConnection) -> Result<(), Fault>
+        ensures places { OnOk result (LearnsAny (found_on connection.now.acceptor connection.now.content) self.old.nodes self.new.nodes) }
+        ensures rest { OnOk result (self.new ≡ record self.old { nodes = self.new.nodes }) }
+    {
+        if let Traffic::Mapper(talk) = &connection.content {
+            put_answer(self.lines, connection, talk)?;
+        }
+        Ok(self.note_found(connection)?)
     }
 
     // Reads a segment of a connection, and prints what a port mapper answered by it.
     fn read(&mut self, connection: &mut CapturedConnection, segment: &Segment) -> Result<(), Fault>
-        ensures takes { OnOk result (TakesOpen segment.now connection.old connection.new self.old self.new) }
-        ensures watching { OnOk result (TakesOn segment.now self.old connection.old self.new connection.new) }
+        ensures follows { OnOk result (Follows connection.old segment.now connection.new) }
+        ensures hears { OnOk result (Hears segment.now connection.old connection.new self.old self.new) }
     {
+        self.note_host(connection, segment)?;
         if connection.take(self.lines.alloc, segment)? {
-            return self.take_answer(connection);
+            return self.put_found(connection);
         }
         Ok(())
     }
 
-    // Prints an attempt that came up.
-    fn put_settled(&mut self, connection: &mut CapturedConnection) -> Result<(), Fault>
-        ensures open_yet { OnOk result (GoesOnOpen connection.old connection.new self.old self.new) }
-        ensures ends { OnOk result (SameEnds connection.old connection.new) }
+    // Judges an open connection, if what it carries is due.
+    fn judge_open(&mut self, connection: &mut CapturedConnection, now: u64) -> Result<(), Fault>
+        ensures judges { OnOk result (JudgesOpen now connection.old connection.new self.old self.new) }
         ensures watching { OnOk result (GoesOnWatching self.old connection.old self.new connection.new) }
     {
-        match &connection.content {
-            Traffic::Handshake(_) if connection.is_settled() => self.put_attempt_once(connection),
-            _ => Ok(()),
+        if !is_due(connection) {
+            return Ok(());
         }
+        self.judge(connection, now)
     }
 
     // Takes a segment of a connection that ended, and prints if it leaves the verdict in doubt.
     fn take_late(&self, connection: &mut CapturedConnection, segment: &Segment) -> Result<(), Fault>
-        ensures { connection.new ≡ record connection.old { rests_on_end = connection.new.rests_on_end } }
+        ensures { (doubted : Bool) × IsLate connection.old segment.now connection.new doubted }
     {
         if !connection.take_late(segment) {
             return Ok(());
         }
-        put_doubt(self.lines, connection, connection.side_of(segment))
+        let side = connection.side_of(segment);
+        put_doubt(self.lines, connection, side)?;
+        if self.lines.quiet {
+            let object = doubt_object(self.lines.alloc, connection, side);
+            return self.lines.write_made(object);
+        }
+        Ok(())
     }
 
     /// Takes a segment of a connection. Copies of packets that come behind its end are no more than that.
@@ -605,13 +529,11 @@ impl<'x, W: Write> Register<'x, W> {
         if connection.is_reported {
             return self.take_late(connection, segment);
         }
-        self.note_host(connection, segment)?;
         self.read(connection, segment)?;
-        self.put_settled(connection)?;
         if connection.is_finished() {
-            return self.end(connection);
+            return self.end(connection, segment.time);
         }
-        Ok(())
+        self.judge_open(connection, segment.time)
     }
 
     // The exit status: the first that is not 0 of the attempts, those apart that another dial crossed, and of the port mappers' answers; or that
@@ -631,7 +553,7 @@ impl<'x, W: Write> Register<'x, W> {
 
     // Prints what was left out, and that nothing was found, if nothing was.
     fn put_outcome(&mut self, left_out: &PacketsLeftOut, status: u8) -> Result<(), Fault>
-        ensures { OnOk result (PrintsOutcome self.old.lines.quiet self.old.has_found status self.old.results self.new.results) }
+        ensures { OnOk result (PrintsOutcome self.old.lines.quiet self.old.has_found left_out.now status self.old.results self.new.results) }
     {
         if self.lines.quiet {
             let verdict = capture_verdict(self.has_found);
@@ -651,7 +573,7 @@ impl<'x, W: Write> Register<'x, W> {
         ensures now { IfOk result (λ status. status ≡ exit_now self.old) }
         ensures attempts { IfOk result (λ status. (attempts : List PastDial) → StandsFor self.old attempts
             → status ≡ exit_of self.old.has_found attempts) }
-        ensures prints { IfOk result (λ status. PrintsOutcome self.old.lines.quiet self.old.has_found status self.old.results self.new.results) }
+        ensures prints { IfOk result (λ status. PrintsOutcome self.old.lines.quiet self.old.has_found left_out.now status self.old.results self.new.results) }
     {
         let status = self.exit_status();
         let alloc = self.lines.alloc;

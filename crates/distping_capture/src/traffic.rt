@@ -1,11 +1,11 @@
 //! What a connection carries, and by which bytes that is recognized.
 
-ghost use Rattle.std.specs.Prelude.{◌≡◌, IfOk, IsErr, MatchBool, Ok, OnOk};
+ghost use Rattle.std.specs.Prelude.{◌≡◌, IfOk, IsErr, MatchBool, Ok, OnOk, if◌then◌else◌, is_some, option_and_then};
 ghost use Rattle.std.specs.{Int.w16, Option.option_or};
 ghost use Rattle.dist_frames.specs.Stream.{first_body};
 ghost use Rattle.dist_messages.specs.Reading.{read};
 ghost use Rattle.dist_names.specs.NodeName.{has_two_parts};
-ghost use Rattle.distping_capture.specs.Attempts.{answer_verdict, result_verdict, talk_verdict};
+ghost use Rattle.distping_capture.specs.{Attempts.answer_verdict, Attempts.result_verdict, Attempts.talk_verdict, Endings.is_awaited};
 ghost use Rattle.distping_capture.specs.Recognized.{answered_by, asked_by, empty_talk, is_of_acceptor, is_foreign, is_good_name, is_later_of_dialler};
 ghost use Rattle.distping_capture.specs.Recognized.{is_name, is_read_whole, is_tls, look_of, look_of_body, names_node, shown_of};
 
@@ -124,7 +124,8 @@ impl MapperTalk {
 
     /// Reads the answer to the request in these bytes, if it is whole. Returns whether it is.
     pub fn read_answer(&mut self, alloc: Global, bytes: &[u8]) -> Result<bool, AllocError>
-        ensures { OnOk result (self.new ≡ record self.old { answer = option_or (answered_by self.old.request bytes.now) self.old.answer }) }
+        ensures answer { OnOk result (self.new ≡ record self.old { answer = option_or (answered_by self.old.request bytes.now) self.old.answer }) }
+        ensures whole { IfOk result (λ whole. whole ≡ is_some (answered_by self.old.request bytes.now)) }
     {
         let asked = match &self.request {
             Some(Request::Alive(_)) => Asked::Alive,
@@ -139,9 +140,19 @@ impl MapperTalk {
         Ok(true)
     }
 
+    /// Whether it answered, and anything is wrong with that.
+    pub fn is_refused(&self) -> bool
+        ensures { result ≡ is_some (option_and_then answer_verdict self.now.answer) }
+    {
+        match &self.answer {
+            Some(answer) => answer_verdict(answer).is_some(),
+            None => false,
+        }
+    }
+
     /// Notes why a registration or a lookup has no answer.
     pub fn conclude(&mut self, fault: Option<LookupError>)
-        ensures { self.new ≡ record self.old { fault = self.new.fault } }
+        ensures { self.new ≡ (if is_awaited self.old then record self.old { fault = fault } else self.old) }
     {
         if self.request.is_some() && !self.is_done() {
             self.fault = fault;

@@ -10,7 +10,7 @@ pub returns-in_default : goal.returns-in_default
 returns-in_default c =
     let none = settles c.args.side c.bytes.result.now c.next_body.result c.next_body.ensures c.in_default.not-Whole in
     record {
-      reads = reads_none c.args.side c.args.handshake.now c.args.flow.now;
+      reads = reads_none c.args.side c.args.at c.args.handshake.now c.args.flow.now;
       more = inl (subst (λ s. NoneFollows c.args.side (bodies s)) c.bytes.ensures none);
     }
 

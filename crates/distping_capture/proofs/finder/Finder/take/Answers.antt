@@ -1,50 +1,36 @@
-use Rattle.std.proofs.Common.{ℕ, subst, [], ◌∷◌, ◌++◌, inl, inr, refl, arith, rules}
+use Rattle.std.proofs.Common.{◌≡◌, ℕ, subst, [], ◌∷◌, ◌++◌, refl, ◌∙◌}
 use Rattle.std.proofs.lemmas.List.Elements.{Contains-push}
-use Rattle.std.proofs.lemmas.Result.{IfOk-weaker}
 use Rattle.distping_capture.specs.Captures.{TakesAt}
-use Rattle.distping_capture.proofs.{Counting.counts_same, Ending.makes_noted, Tracking.noted_next}
+use Rattle.distping_capture.proofs.{Ending.on_ok, Forgetting.leaves_timed, Forgetting.makes_timed, Tracking.tracks_more}
 use Rattle.distping_capture.proofs.finder.Finder.take.Goals as goal
 
 pub returns-clause-tracking : goal.returns-clause-tracking
-returns-clause-tracking g c = λ t segments w.
+returns-clause-tracking g c =
     let s = c.args.segment.now in
+    on_ok c.forget_much.result c.forget_much.ensures.tracking
+    (λ tracking t segments w.
     let all = segments ++ s ∷ [] in
-    let noted = noted_next t segments s c.args.self.now.register c.note_time.new.self c.args.self.now.connections.items (counts_same c.args.self.now.register c.note_time.new.self c.note_time.ensures) w in
-    c.in_ok-hand_on.ensures.hands c.in_ok-place.ensures.place t all (Contains-push segments s) (c.in_ok-place.ensures.tracking t all noted)
-
-pub returns-then-self-gt-MOST_KEPT-clause-tracking : goal.returns-then-self-gt-MOST_KEPT-clause-tracking
-returns-then-self-gt-MOST_KEPT-clause-tracking g c =
-    IfOk-weaker c.forget.result _ _
-    (λ _ tracking t segments w.
-    let s = c.args.segment.now in
-    let all = segments ++ s ∷ [] in
-    let noted = noted_next t segments s c.args.self.now.register c.note_time.new.self c.args.self.now.connections.items (counts_same c.args.self.now.register c.note_time.new.self c.note_time.ensures) w in
-    tracking t all (c.in_ok-hand_on.ensures.hands c.in_ok-place.ensures.place t all (Contains-push segments s) (c.in_ok-place.ensures.tracking t all noted))) c.forget.ensures.tracking
+    let more = tracks_more t segments (s ∷ []) c.args.self.now.register c.args.self.now.connections.items w in
+    tracking t all (c.in_ok-hand_on.ensures.hands c.in_ok-place.ensures.place t all (Contains-push segments s) (c.in_ok-place.ensures.tracking t all more)))
 
 pub returns-clause-takes : goal.returns-clause-takes
-returns-clause-takes g c = record {
-  placed = c.place_for.new.self;
-  makes = makes_noted c.args.segment.now c.args.self.now c.place_for.new.self c.note_time.new.self c.note_time.ensures c.in_ok-place.ensures.makes;
-  place = c.in_ok-place.place;
-  within = c.in_ok-place.ensures.within;
-  between = c.in_ok-place.ensures.place;
-  taken = c.hand_on.new.self;
-  takes = subst (λ (port : ℕ). TakesAt port c.args.segment.now c.in_ok-place.place c.place_for.new.self c.hand_on.new.self) c.place_for.ensures.port c.in_ok-hand_on.ensures.takes;
-  leaves = inl refl;
-  same_port = search rules;
-}
-
-pub returns-then-self-gt-MOST_KEPT-clause-takes : goal.returns-then-self-gt-MOST_KEPT-clause-takes
-returns-then-self-gt-MOST_KEPT-clause-takes g c =
-    IfOk-weaker c.forget.result _ _
-    (λ _ forgets. record {
-      placed = c.place_for.new.self;
-      makes = makes_noted c.args.segment.now c.args.self.now c.place_for.new.self c.note_time.new.self c.note_time.ensures c.in_ok-place.ensures.makes;
-      place = c.in_ok-place.place;
+returns-clause-takes g c =
+    let s = c.args.segment.now in
+    let first = c.args.self.now in
+    let placed = c.place_for.new.self in
+    let taken = c.hand_on.new.self in
+    let place = c.in_ok-place.place in
+    let time : taken.latest ≡ s.time = c.hand_on.ensures.port.1 ∙ c.place_for.ensures.port.1 in
+    on_ok c.forget_much.result c.forget_much.ensures.leaves
+    (λ leaves. record {
+      placed = placed;
+      makes = makes_timed s.time s first placed (c.in_ok-place.ensures.makes refl);
+      place = place;
       within = c.in_ok-place.ensures.within;
       between = c.in_ok-place.ensures.place;
-      taken = c.hand_on.new.self;
-      takes = subst (λ (port : ℕ). TakesAt port c.args.segment.now c.in_ok-place.place c.place_for.new.self c.hand_on.new.self) c.place_for.ensures.port c.in_ok-hand_on.ensures.takes;
-      leaves = inr (forgets (omega (arith, c.hand_on.new.self.connections.ok.0, c.in_ok-hand_on.ensures.count, c.in_ok-place.ensures.within, c.largest.ensures (omega (arith, c.hand_on.new.self.connections.ok.0, c.in_ok-hand_on.ensures.count, c.in_ok-place.ensures.within)))));
-      same_port = search rules;
-    }) c.forget.ensures.forgets
+      taken = taken;
+      takes = subst (λ (port : ℕ). TakesAt port s place placed taken) c.place_for.ensures.port.0 c.in_ok-hand_on.ensures.takes;
+      same_port = c.forget_much.ensures.port.0 ∙ c.hand_on.ensures.port.0 ∙ c.place_for.ensures.port.0;
+      latest = c.forget_much.ensures.port.1 ∙ time;
+      leaves = leaves_timed s.time taken c.forget_much.new.self time leaves;
+    })

@@ -12,6 +12,7 @@ returns-clause-adds g c =
     record {
       terms = search rules;
       quiet = search rules;
+      found = c.in_ok-push_dial.ensures.found;
       left = c.meet_all.new.self;
       others = c.meet_all.new.earlier;
       meets = search rules;

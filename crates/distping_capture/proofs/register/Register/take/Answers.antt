@@ -1,42 +1,42 @@
-use Rattle.std.proofs.Common.{inl, inr}
-use Rattle.std.proofs.lemmas.Result.{IfOk-weaker}
-use Rattle.distping_capture.proofs.{Counting.counts_same, Ending.always, Ending.inr_ended, Ending.same_attempts, Ending.took_on, Ending.took_then, Ending.watches_late}
+use Rattle.std.proofs.Common.{◌≡◌, ◌&&◌, not, false, ◌∙◌, rules}
+use Rattle.distping_capture.proofs.Ending.{always, follows_reported, on_ok, takes_finished, takes_late, takes_now, takes_open, watches_follows, watches_late}
 use Rattle.distping_capture.proofs.register.Register.take.Goals as goal
+
+pub returns-then-connection-clause-takes : goal.returns-then-connection-clause-takes
+returns-then-connection-clause-takes g c =
+    always c.take_late.result (takes_late c.args.segment.now c.args.connection.now c.take_late.new.connection c.args.self.now c.if-connection.true c.take_late.ensures)
+
+pub returns-then-connection-clause-watching : goal.returns-then-connection-clause-watching
+returns-then-connection-clause-watching g c =
+    let late = c.take_late.ensures in
+    always c.take_late.result (λ t segments among between w. watches_late c.args.connection.now c.take_late.new.connection c.args.self.now (c.args.connection.now.rests_on_end && not late.0) late.1.rest t segments w)
 
 pub returns-then-is_finished-clause-takes : goal.returns-then-is_finished-clause-takes
 returns-then-is_finished-clause-takes g c =
     let s = c.args.segment.now in
     let first = c.args.connection.now in
     let d = c.read.new.connection in
-    let e = c.put_settled.new.connection in
-    let r = c.args.self.now in
-    let settles = c.in_ok-put_settled.ensures in
-    let settled = took_on s first d e r c.read.new.self c.put_settled.new.self (took_then s first d r c.note_host.new.self c.read.new.self c.in_ok-note_host.ensures c.in_ok-read.ensures.takes) settles.ends settles.open_yet in
-    inr_ended c.end.result s first e c.end.new.connection r c.put_settled.new.self c.end.new.self settled c.end.ensures.ends c.end.ensures.closes c.end.ensures.reported c.end.ensures.judged
+    let read = c.in_ok-read.ensures in
+    let open_ : d.is_reported ≡ false = follows_reported first d s read.follows ∙ c.if-connection.false in
+    on_ok c.end.result c.end.ensures.ends
+    (λ ends. takes_now s first d c.end.new.connection c.args.self.now c.read.new.self c.end.new.self c.if-connection.false read.follows read.hears
+    (takes_finished s.time d c.end.new.connection c.read.new.self c.end.new.self (search rules) open_ ends))
 
 pub returns-then-is_finished-clause-watching : goal.returns-then-is_finished-clause-watching
 returns-then-is_finished-clause-watching g c =
-    IfOk-weaker c.end.result _ _
-    (λ _ watching t segments among ends w. watching t segments (c.in_ok-put_settled.ensures.watching t segments (c.in_ok-read.ensures.watching t segments among ends
-    (record { counts = counts_same c.args.self.now c.note_host.new.self c.in_ok-note_host.ensures t segments w.counts; stands = w.stands })))) c.end.ensures.watching
+    on_ok c.end.result c.end.ensures.watching
+    (λ watching. watches_follows c.args.segment.now c.args.connection.now c.read.new.connection c.end.new.connection c.args.self.now c.read.new.self c.end.new.self c.in_ok-read.ensures.follows c.in_ok-read.ensures.hears.still watching)
 
 pub returns-clause-takes : goal.returns-clause-takes
 returns-clause-takes g c =
     let s = c.args.segment.now in
-    let first = c.args.connection.now in
     let d = c.read.new.connection in
-    let e = c.put_settled.new.connection in
-    let r = c.args.self.now in
-    let settles = c.in_ok-put_settled.ensures in
-    inr (inl (took_on s first d e r c.read.new.self c.put_settled.new.self (took_then s first d r c.note_host.new.self c.read.new.self c.in_ok-note_host.ensures c.in_ok-read.ensures.takes) settles.ends settles.open_yet))
-
-pub returns-then-connection-clause-takes : goal.returns-then-connection-clause-takes
-returns-then-connection-clause-takes g c = always c.take_late.result (inl (c.if-connection.true, c.take_late.ensures, same_attempts c.args.self.now))
-
-pub returns-then-connection-clause-watching : goal.returns-then-connection-clause-watching
-returns-then-connection-clause-watching g c =
-    always c.take_late.result (λ t segments among ends w. watches_late c.args.self.now c.args.connection.now c.take_late.new.connection t segments c.take_late.ensures w)
+    let read = c.in_ok-read.ensures in
+    on_ok c.judge_open.result c.judge_open.ensures.judges
+    (λ judges. takes_now s c.args.connection.now d c.judge_open.new.connection c.args.self.now c.read.new.self c.judge_open.new.self c.if-connection.false read.follows read.hears
+    (takes_open s.time d c.judge_open.new.connection c.read.new.self c.judge_open.new.self (search rules) judges))
 
 pub returns-clause-watching : goal.returns-clause-watching
-returns-clause-watching g c = λ t segments among ends w.
-    c.in_ok-put_settled.ensures.watching t segments (c.in_ok-read.ensures.watching t segments among ends (record { counts = counts_same c.args.self.now c.note_host.new.self c.in_ok-note_host.ensures t segments w.counts; stands = w.stands }))
+returns-clause-watching g c =
+    on_ok c.judge_open.result c.judge_open.ensures.watching
+    (λ watching. watches_follows c.args.segment.now c.args.connection.now c.read.new.connection c.judge_open.new.connection c.args.self.now c.read.new.self c.judge_open.new.self c.in_ok-read.ensures.follows c.in_ok-read.ensures.hears.still watching)
