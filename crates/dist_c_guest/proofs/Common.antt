@@ -18,7 +18,7 @@ pub use Rattle.dist_world_model.proofs.Words.{UpRecord, Why, ◌≡◌, ℕ, zer
 pub use Rattle.dist_world_model.proofs.Words.{◌∷◌, ◌++◌, length, drop, slice_get, Some, None, Ok, Err, Option, Result, option_map, sym, refl, ap, ◌∙◌, subst}
 pub use Rattle.dist_world_model.proofs.Words.{inl, inr, arith, eq-eqb, eqb-true, false≢true, Name, EndId, AreLegal, entry_in, is_held, names, Setup, changed_or}
 pub use Rattle.dist_world_model.proofs.Words.{NodeState, ends_after, node_after, opening, after, effect_of, sender_to, step, step_result, Agreement, AllFit}
-pub use Rattle.dist_world_model.proofs.Words.{AreSetups, Counts, IsReached, IsUp, run, body_taken, change_to, text_to, at_place, Conn, Life, World, empty}
+pub use Rattle.dist_world_model.proofs.Words.{AreSetups, Counts, IsFooled, IsReached, IsUp, run, body_taken, change_to, text_to, at_place, Conn, Life, World, empty}
 pub use Rattle.dist_world_model.proofs.Words.{row_at, running}
 pub use Rattle.dist_c_guest.specs.{Calls.IsCall, Calls.answer_after, Calls.answer_to, Calls.frame_to, Calls.node_letting, Forms.allowed_names}
 pub use Rattle.dist_c_guest.specs.{Reading.digest_25, Reading.expansion, Reading.plain, Reading.with_field, Statuses.status_in, Statuses.status_of}

@@ -12,7 +12,7 @@ use Rattle.dist_world_model.specs.Happenings.{take_frame, take_read, happens, mo
 use Rattle.dist_world_model.specs.declared.happening.Happening.TheVariants as happening
 use Rattle.dist_world_model.proofs.OwnSetups.{applied-kind}
 use Rattle.dist_c_guest.specs.Worlds.{AllFitGuests, AreWhole, FitsGuests, Guests, guests_happen, mandatory_of, run_guests, run_guests_from, setups_in}
-use Rattle.dist_c_guest.specs.Worlds.{world_after_guests}
+use Rattle.dist_c_guest.specs.Worlds.{all_read, read_by, world_after_guests}
 
 -- ---- lists
 
@@ -36,6 +36,15 @@ one-fit guests h f = f
 pub fit-of : (guests : Guests) (hs : List Happening) → AllFitGuests guests hs → AllFit hs
 fit-of guests [] f = tt
 fit-of guests (h ∷ hs) f = (one-fit guests h f.0, fit-of guests hs f.1)
+
+-- how a guest reads a body changes nothing of what is asked
+pub fits-read : (guests : Guests) (h : Happening) → FitsGuests guests h → FitsGuests guests (read_by guests h)
+fits-read guests (happening.Outside i (event.Frame id body) fresh) f = f
+fits-read guests h f = f
+
+pub fits-all-read : (guests : Guests) (hs : List Happening) → AllFitGuests guests hs → AllFitGuests guests (all_read guests hs)
+fits-all-read guests [] f = tt
+fits-all-read guests (h ∷ hs) f = (fits-read guests h f.0, fits-all-read guests hs f.1)
 
 pub fits-append : (guests : Guests) (xs ys : List Happening) → AllFitGuests guests xs → AllFitGuests guests ys → AllFitGuests guests (xs ++ ys)
 fits-append guests [] ys a b = b
@@ -86,31 +95,32 @@ module _ (guests : Guests) (whole : AreWhole guests) (did : List Happening) (fit
           same-bind (let t = text_to row.side k in first_body w16 t.come) _ _ (λ body first.
           ap (λ b. notify (record w { conns = at_place c (change_to row.side body_taken) w.conns }) j (event.Frame id b) fresh) (as-it-came c k there row.side body first))))))
 
-    after-same : (h : Happening) → world_after_guests guests w h ≡ world_after w h
+    after-same : (h : Happening) → world_after_guests guests w h ≡ world_after w (read_by guests h)
     after-same (happening.Take i id fresh) = takes-same i id fresh
     after-same h = refl
 
-  happen-same : (w : World) → AreCanonical (setups_in guests) did w → (h : Happening) → guests_happen guests w h ≡ happens w h
+  happen-same : (w : World) → AreCanonical (setups_in guests) did w → (h : Happening) → guests_happen guests w h ≡ happens w (read_by guests h)
   happen-same w canonical h = ap (λ o. ticked_on w (cond (ltb w.clock most_applied) o None)) (after-same (without_closing w) canonical h)
 
 -- ---- all happenings
 
 module _ (guests : Guests) (whole : AreWhole guests) (canonical : (hs : List Happening) → AllFit hs → AreCanonical (setups_in guests) hs (run hs (empty (setups_in guests)))) where
-  runs-from : (did hs : List Happening) → AllFitGuests guests did → AllFitGuests guests hs → run_guests_from guests hs (run did (empty (setups_in guests))) ≡ run hs (run did (empty (setups_in guests)))
+  runs-from : (did hs : List Happening) → AllFitGuests guests did → AllFitGuests guests hs → run_guests_from guests hs (run did (empty (setups_in guests))) ≡ run (all_read guests hs) (run did (empty (setups_in guests)))
   runs-from did [] a b = refl
   runs-from did (h ∷ hs) a b =
       let w : World = run did (empty (setups_in guests)) in
-      let more : run (did ++ h ∷ []) (empty (setups_in guests)) ≡ happens w h = run-append did (h ∷ []) (empty (setups_in guests)) in
+      let r : Happening = read_by guests h in
+      let more : run (did ++ r ∷ []) (empty (setups_in guests)) ≡ happens w r = run-append did (r ∷ []) (empty (setups_in guests)) in
       ap (run_guests_from guests hs) (happen-same guests whole did a w (canonical did (fit-of guests did a)) h ∙ sym more)
-      ∙ runs-from (did ++ h ∷ []) hs (fits-append guests did (h ∷ []) a (b.0, tt)) b.1
-      ∙ ap (run hs) more
+      ∙ runs-from (did ++ r ∷ []) hs (fits-append guests did (r ∷ []) a (fits-read guests h b.0, tt)) b.1
+      ∙ ap (run (all_read guests hs)) more
 
 abbrev Canonical : Type 0
 Canonical = (ss : List Setup) (hs : List Happening) → AreSetups ss → AllFit hs → AreCanonical ss hs (run hs (empty ss))
 
-pub guests-run : Canonical → (guests : Guests) (hs : List Happening) → AreSetups (setups_in guests) → AllFitGuests guests hs → AreWhole guests → run_guests guests hs ≡ run hs (empty (setups_in guests))
+pub guests-run : Canonical → (guests : Guests) (hs : List Happening) → AreSetups (setups_in guests) → AllFitGuests guests hs → AreWhole guests → run_guests guests hs ≡ run (all_read guests hs) (empty (setups_in guests))
 guests-run canonical guests hs good fit whole = runs-from guests whole (λ did a. canonical (setups_in guests) did good a) [] hs tt fit
 
 pub guests-agree : Canonical → ((ss : List Setup) (hs : List Happening) → AreSetups ss → AllFit hs → Agreement (run hs (empty ss)))
     → (guests : Guests) (hs : List Happening) → AreSetups (setups_in guests) → AllFitGuests guests hs → AreWhole guests → Agreement (run_guests guests hs)
-guests-agree canonical agree guests hs good fit whole = subst Agreement (sym (guests-run canonical guests hs good fit whole)) (agree (setups_in guests) hs good (fit-of guests hs fit))
+guests-agree canonical agree guests hs good fit whole = subst Agreement (sym (guests-run canonical guests hs good fit whole)) (agree (setups_in guests) (all_read guests hs) good (fit-of guests (all_read guests hs) (fits-all-read guests hs fit)))

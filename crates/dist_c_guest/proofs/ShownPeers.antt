@@ -1,11 +1,11 @@
 -- Nodes that show each other agree.
 use Rattle.dist_c_guest.proofs.Common.{◌≡◌, ℕ, ◌≢◌, List, slice_get, Some, sym, ap, ◌∙◌, subst, AreLegal, UpRecord, Setup, Act, run_acts, NodeState, opening, Agreement}
-use Rattle.dist_c_guest.proofs.Common.{AreSetups, Counts, IsReached, IsUp, run, Life, World, empty, Happening}
-use Rattle.dist_c_guest.proofs.{GuestWorlds.fit-of, Shown.one-of-a-peer, Shown.run-is-run}
+use Rattle.dist_c_guest.proofs.Common.{AreSetups, Counts, IsFooled, IsReached, IsUp, run, Life, World, empty, Happening}
+use Rattle.dist_c_guest.proofs.{GuestWorlds.fit-of, GuestWorlds.fits-all-read, Shown.one-of-a-peer, Shown.run-is-run}
 use Rattle.dist_core_ends.specs.declared.known.End.TheVariants as ends
 use Rattle.dist_c_guest.specs.ShownPeers.{Agree, AgreeBy, GuardShows, LeadsTo}
 use Rattle.dist_c_guest.specs.Guard.{AreUp, Told, acts_run, first_guard, run_guard}
-use Rattle.dist_c_guest.specs.Worlds.{AllFitGuests, AreWhole, Guests, run_guests, setups_in}
+use Rattle.dist_c_guest.specs.Worlds.{AllFitGuests, AreWhole, Guests, all_read, run_guests, setups_in}
 
 -- ---- who shows whom
 
@@ -41,24 +41,24 @@ same-end legals ups w a b s c x =
 -- ---- the agreement
 
 abbrev Nodes : Type 0
-Nodes = (guests : Guests) (hs : List Happening) → AreSetups (setups_in guests) → AllFitGuests guests hs → AreWhole guests → run_guests guests hs ≡ run hs (empty (setups_in guests))
+Nodes = (guests : Guests) (hs : List Happening) → AreSetups (setups_in guests) → AllFitGuests guests hs → AreWhole guests → run_guests guests hs ≡ run (all_read guests hs) (empty (setups_in guests))
 
 abbrev Linked : Type 0
-Linked = (w : World) (a b : ℕ) → IsReached w → (u : Counts w a b) → (c : ℕ) × (x : IsUp w a b c) × (x.kept ≡ u.kept)
+Linked = (w : World) (a b : ℕ) → (IsFooled w a b → ⊥) → (u : Counts w a b) → (c : ℕ) × (x : IsUp w a b c) × (x.kept ≡ u.kept)
 
-agree-on : ((w : World) → IsReached w → Agreement w) → Linked → (w : World) → IsReached w → (a b : ℕ) → a ≢ b → Counts w a b → Counts w b a → Agree w a b
-agree-on agree linked w r a b apart s t =
-    let u = linked w a b r s in
-    let v = linked w b a r t in
+agree-on : ((w : World) → IsReached w → Agreement w) → Linked → (w : World) → IsReached w → (a b : ℕ) → a ≢ b → (IsFooled w a b → ⊥) → (IsFooled w b a → ⊥) → Counts w a b → Counts w b a → Agree w a b
+agree-on agree linked w r a b apart wise other_wise s t =
+    let u = linked w a b wise s in
+    let v = linked w b a other_wise t in
     record { c = u.0; d = v.0; x = u.1; y = v.1; agreed = agree w r a b u.0 v.0 apart u.1 v.1 }
 
 pub guards-agree : Legals → Ups → Nodes → ((w : World) → IsReached w → Agreement w) → Linked
     → (guests : Guests) (hs : List Happening) → AreSetups (setups_in guests) → AllFitGuests guests hs → AreWhole guests → (a b : ℕ) → a ≢ b
-    → (s : GuardShows (run_guests guests hs) a b) (t : GuardShows (run_guests guests hs) b a) → AgreeBy (run_guests guests hs) a b s.id t.id
-guards-agree legals ups nodes agree linked guests hs good fit whole a b apart s t =
+    → (IsFooled (run_guests guests hs) a b → ⊥) → (IsFooled (run_guests guests hs) b a → ⊥) → (s : GuardShows (run_guests guests hs) a b) (t : GuardShows (run_guests guests hs) b a) → AgreeBy (run_guests guests hs) a b s.id t.id
+guards-agree legals ups nodes agree linked guests hs good fit whole a b apart wise other_wise s t =
     let w = run_guests guests hs in
-    let r : IsReached w = record { setups = setups_in guests; happenings = hs; good = good; fit = fit-of guests hs fit; is = nodes guests hs good fit whole } in
+    let r : IsReached w = record { setups = setups_in guests; happenings = all_read guests hs; good = good; fit = fit-of guests (all_read guests hs) (fits-all-read guests hs fit); is = nodes guests hs good fit whole } in
     let u = shown-at ups w a b s in
     let v = shown-at ups w b a t in
-    let k = agree-on agree linked w r a b apart (counts w a b s.id s.leads u.0 u.1) (counts w b a t.id t.leads v.0 v.1) in
+    let k = agree-on agree linked w r a b apart wise other_wise (counts w a b s.id s.leads u.0 u.1) (counts w b a t.id t.leads v.0 v.1) in
     record { agree = k; at_a = same-end legals ups w a b s k.c k.x; at_b = same-end legals ups w b a t k.d k.y }

@@ -6,6 +6,7 @@ use Rattle.dist_world_model.specs.Agreement.{Fits}
 use Rattle.dist_world_model.specs.Happenings.{most_applied, take_read, ticked_on, without_closing, world_after}
 use Rattle.dist_world_model.specs.{declared.happening.Happening.Happening, World.World, World.empty}
 use Rattle.dist_world_model.specs.declared.happening.Happening.TheVariants as happening
+use Rattle.dist_core.specs.declared.event.Event.TheVariants as event
 use Rattle.dist_c_guest.specs.{Reading.expansion, Whole.is_whole}
 
 -- guests, each by its setup and by the flags that DFLAG_MANDATORY_25_DIGEST stands for to it
@@ -36,10 +37,21 @@ AllFitGuests guests = AllByRecursion (FitsGuests guests)
 
 -- ---- what happens
 
+-- A HAPPENING AS ITS GUEST READS IT: what somebody outside sends may have the digest too
+abbrev pub read_by : Guests → Happening → Happening
+read_by guests (happening.Outside i (event.Frame id body) fresh) =
+    happening.Outside i (event.Frame id (expansion (mandatory_of (slice_get guests i)) body)) fresh
+read_by guests h = h
+
+-- each of them
+abbrev pub all_read : Guests → List Happening → List Happening
+all_read guests [] = []
+all_read guests (h ∷ hs) = read_by guests h ∷ all_read guests hs
+
 -- the world after a happening that applies: a guest takes a frame as it reads it
 abbrev pub world_after_guests : Guests → World → Happening → Option World
 world_after_guests guests w (happening.Take i id fresh) = take_read (expansion (mandatory_of (slice_get guests i))) w i id fresh
-world_after_guests guests w h = world_after w h
+world_after_guests guests w h = world_after w (read_by guests h)
 
 -- one happening; one that does not apply changes nothing
 abbrev pub guests_happen : Guests → World → Happening → World

@@ -9,11 +9,11 @@ ghost use Rattle.dist_core.specs.{Acts.run_acts, Node.NodeState, Runs.run, Step.
 ghost use Rattle.dist_core.specs.declared.{reply.Reply.Reply, step_error.StepError.StepError};
 ghost use Rattle.dist_core.specs.declared.event.Event.TheVariants as event;
 ghost use Rattle.dist_core.specs.declared.step_error.StepError.TheVariants as error;
-ghost use Rattle.dist_world_model.specs.{Agreement.Agreement, Agreement.AreSetups, World.empty, declared.happening.Happening.Happening};
+ghost use Rattle.dist_world_model.specs.{Agreement.Agreement, Agreement.AreSetups, Agreement.IsFooled, World.empty, declared.happening.Happening.Happening};
 ghost use Rattle.dist_world_model.specs.Run as worlds;
 ghost use Rattle.dist_c_guest.specs.{Calls.answer_to, Calls.frame_to, Reading.expansion, Reading.plain, Whole.HasWhole, declared.guest.Guest.Guest};
 ghost use Rattle.dist_c_guest.specs.Histories.{AnyCall, Call, IsAnyHistory, IsHistory, acts_of, events_of};
-ghost use Rattle.dist_c_guest.specs.Worlds.{AllFitGuests, AreWhole, Guests, run_guests, setups_in};
+ghost use Rattle.dist_c_guest.specs.Worlds.{AllFitGuests, AreWhole, Guests, all_read, run_guests, setups_in};
 ghost use Rattle.dist_c_guest.specs.ShownPeers.{AgreeBy, GuardShows};
 ghost use Rattle.dist_c_guest.specs.Guard.{AreUp, Guard, IsGuarded, Told, acts_run, first_guard, guarded, run_guard, told_of_frame};
 ghost use Rattle.dist_c_guest.specs.Guard as told;
@@ -48,10 +48,11 @@ pub fn whole_bodies_are_read_as_they_came()
 {}
 
 /// GUESTS ARE NODES. In a world of guests that are whole, as `dn_node_new` makes them, also where they begin again with another setup,
-/// reading by the digest changes nothing: whatever happens, their world is that of nodes with the same setups.
+/// reading by the digest changes nothing of what they say to one another: whatever happens, their world is that of nodes with the same
+/// setups, to whom somebody outside sends what the guests read.
 pub fn guests_are_nodes()
     ensures { (guests : Guests) (happenings : List Happening) → AreSetups (setups_in guests) → AllFitGuests guests happenings → AreWhole guests
-        → run_guests guests happenings ≡ worlds.run happenings (empty (setups_in guests)) }
+        → run_guests guests happenings ≡ worlds.run (all_read guests happenings) (empty (setups_in guests)) }
 {
     frames_are_canonical();
 }
@@ -100,10 +101,12 @@ pub fn guarded_frames_are_told()
 {}
 
 /// THE AGREEMENT OF GUARDS. Whatever happens in a world of guests that are whole, two running nodes whose guards show each other agree:
-/// on one connection, whose two ends they show, on its flags, and on each other's creation.
+/// on one connection, whose two ends they show, on its flags, and on each other's creation. What is asked is that none of
+/// the two takes somebody outside for the other.
 pub fn shown_peers_agree()
     ensures { (guests : Guests) (happenings : List Happening) → AreSetups (setups_in guests) → AllFitGuests guests happenings → AreWhole guests
-        → (a b : ℕ) → a ≢ b → (s : GuardShows (run_guests guests happenings) a b) → (t : GuardShows (run_guests guests happenings) b a)
+        → (a b : ℕ) → a ≢ b → (IsFooled (run_guests guests happenings) a b → ⊥) → (IsFooled (run_guests guests happenings) b a → ⊥)
+        → (s : GuardShows (run_guests guests happenings) a b) → (t : GuardShows (run_guests guests happenings) b a)
         → AgreeBy (run_guests guests happenings) a b s.id t.id }
 {
     acts_keep_ends();

@@ -5,12 +5,12 @@ ghost use Rattle.dist_script.specs.Fields.{Reads, ReadsUpTo, first_in, meaning_i
 ghost use Rattle.dist_script.specs.Happenings.{happening_kinds, happening_in, happening_line};
 
 use crate::fields::{
-    count_word, creation_word, end_word, line_end, meaning_word, name_word, number_word,
-    opening_word, why_word,
+    bytes_word, count_word, creation_word, end_word, line_end, meaning_word, name_word,
+    number_word, opening_word, why_word,
 };
 use crate::node_line::{cookie_word, setup_of};
 use crate::words::{LineFault, Words};
-use dist_core::Change;
+use dist_core::{Change, Event};
 use dist_world_model::Happening;
 use std::alloc::Global;
 
@@ -30,10 +30,16 @@ enum HappeningWord {
     Cookie,
     NoCookie,
     UsualCookie,
+    OutsideIncoming,
+    OutsideOpened,
+    OutsideFrame,
 }
 
+// A link that is no connection of a world.
+const OUTSIDE_LINK: u64 = 1048576;
+
 // The first word of each kind of line.
-const KINDS: [(&str, HappeningWord); 14] = [
+const KINDS: [(&str, HappeningWord); 17] = [
     ("take", HappeningWord::Take),
     ("deliver", HappeningWord::Deliver),
     ("tick", HappeningWord::Tick),
@@ -48,6 +54,9 @@ const KINDS: [(&str, HappeningWord); 14] = [
     ("cookie", HappeningWord::Cookie),
     ("no_cookie", HappeningWord::NoCookie),
     ("usual_cookie", HappeningWord::UsualCookie),
+    ("outside_frame", HappeningWord::OutsideFrame),
+    ("outside_incoming", HappeningWord::OutsideIncoming),
+    ("outside_opened", HappeningWord::OutsideOpened),
 ];
 
 // What happens, in the words behind the first. The first of them is the node, or the connection that is accepted.
@@ -122,6 +131,27 @@ fn happening_behind(
             change: Change::UsualCookie {
                 cookie: cookie_word(alloc, words)?,
             },
+        },
+        HappeningWord::OutsideIncoming => Happening::Outside {
+            node,
+            event: Event::Incoming { link: OUTSIDE_LINK },
+            fresh: 0,
+        },
+        HappeningWord::OutsideOpened => Happening::Outside {
+            node,
+            event: Event::Opened {
+                end_: end_word(words)?,
+                link: OUTSIDE_LINK,
+            },
+            fresh: 0,
+        },
+        HappeningWord::OutsideFrame => Happening::Outside {
+            node,
+            event: Event::Frame {
+                end_: end_word(words)?,
+                body: bytes_word(alloc, words)?,
+            },
+            fresh: number_word(words)?,
         },
     })
 }

@@ -1,7 +1,7 @@
 -- What is printed of pairs, one behind the other.
 use Rattle.dist_script_play.proofs.Words.{◌≡◌, ℕ, zero, suc, ◌+◌, ◌-◌, ◌<◌, true, false, cond, ◌≢◌, ◌↔◌, List, [], ◌∷◌, ◌++◌, length, IsSome, Some, None}
 use Rattle.dist_script_play.proofs.Words.{Option, nat_cmp, is_eq, is_gt, BTreeSet, sym, refl, ap, ◌∙◌, subst, append_assoc, append-nil, arith, Appends-nil}
-use Rattle.dist_script_play.proofs.Words.{Appends-trans, nat_tests, nil_from_length, IsLowerBound, Updates, contains, Appends, Counts, World, Agreement}
+use Rattle.dist_script_play.proofs.Words.{Appends-trans, nat_tests, nil_from_length, IsLowerBound, Updates, contains, Appends, Counts, IsFooled, World, Agreement}
 use Rattle.dist_script_play.proofs.Words.{HasAllFrom, IsRowFrom, AreLinesOf, IsReported, PutsAgreements, pairs, places_from, reported_line, with_each}
 use Rattle.dist_script_play.proofs.Finding.{none_in}
 use Rattle.dist_world.specs.Ups as Ups
@@ -11,8 +11,8 @@ lines_behind w [] qs s t e k = subst (λ x. AreLinesOf w qs (x ++ t)) (sym e) k
 lines_behind w (p ∷ ps) qs s t h k = (h.0, h.1 ++ t, h.2, lines_behind w ps qs h.1 t h.3 k, ap (λ x. x ++ t) h.4 ∙ append_assoc (reported_line w p.0 p.1 h.0) h.1 t)
 
 -- where nothing is found of two, they do not both count each other as up
-pub none_both : (w : World) (a b : ℕ) → a < b → ((x : Counts w a b) (y : Counts w b a) → a ≢ b → Ups.IsReported None x.kept y.kept) → Counts w a b → Counts w b a → ⊥
-none_both w a b l counted x y = let noted = counted x y (λ e. (let same : a ≡ b = e in absurd (omega arith))) in let is = noted.1 in cc
+pub none_both : (w : World) (a b : ℕ) → a < b → ((x : Counts w a b) (y : Counts w b a) → a ≢ b → (IsFooled w a b → ⊥) → (IsFooled w b a → ⊥) → Ups.IsReported None x.kept y.kept) → IsReported w a b None
+none_both w a b l counted x y wise other_wise = let noted = counted x y (λ e. (let same : a ≡ b = e in absurd (omega arith))) wise other_wise in let is = noted.1 in cc
 
 pub none_left : (r : Option ℕ) (n : ℕ) → r ≡ None → (IsSome r ↔ (0 < n)) → n ≡ 0
 none_left None zero e h = refl
@@ -29,7 +29,7 @@ module _ (w : World) (a : ℕ) where
   skip zero k to t e none r = let same : to ≡ k = omega arith in subst (λ x. IsRowFrom w a x t) same r
   skip (suc d) k to t e none r =
       let rest = skip d (suc k) to t (omega arith) (λ b l m. none b (omega arith) m) r in
-      report_one k t None (λ x y. none k (omega arith) (omega arith) x) rest
+      report_one k t None (λ x y wise other_wise. none k (omega arith) (omega arith) x) rest
 
   -- those before the next one are printed
   pub record RowSoFar (later : BTreeSet ℕ) (old new : Option (List ℕ)) : Type 0 where

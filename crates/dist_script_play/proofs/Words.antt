@@ -11,7 +11,7 @@ pub use Rattle.dist_core.proofs.Words.{true, false, cond, ◌≢◌, ◌⊎◌, 
 pub use Rattle.dist_core.proofs.Words.{Result, option_map, sym, refl, ap, ◌∙◌, subst, inl, inr, arith, nat_tests, slice_get_within, Name, name_cmp, same_name}
 pub use Rattle.dist_core.proofs.Words.{EndId, Entry, end_id, entry_from, entry_in, first_of, holds, table_of, Setup, Refuses, NodeState, step}
 pub use Rattle.dist_world_model.specs.{Run.count_applied, Run.one_where, declared.happening.Happening.Happening}
-pub use Rattle.dist_world_model.proofs.Words.{append-nil, w16, le-ltb, lt-ltb, nil_from_length, Reply, StepError, Counts, run, Life, World, empty}
+pub use Rattle.dist_world_model.proofs.Words.{append-nil, w16, le-ltb, lt-ltb, nil_from_length, Reply, StepError, Counts, IsFooled, run, Life, World, empty}
 pub use Rattle.dist_world.specs.{Asking.node_of, Setups.names_repeat, declared.agreement.Agreement.Agreement}
 pub use Rattle.dist_script.specs.{Scripts.Says.Events, Scripts.Says.Happenings, Texts.PutsFront, Texts.flags_text, Texts.text_of, Words.lines_of}
 pub use Rattle.dist_script.specs.declared.fault.ScriptFault.{ScriptFault}

@@ -2,7 +2,7 @@
 use Rattle.std.specs.Prelude.{◌≡◌, ℕ, zero, suc, List, [], ◌∷◌, ◌++◌, map, length, Option, Some, None, slice_get}
 use Rattle.std.specs.Io.KnownBytes.{Appends}
 use Rattle.dist_core_setup.specs.declared.setup.Setup.{Setup}
-use Rattle.dist_world_model.specs.{World.World, Agreement.Counts}
+use Rattle.dist_world_model.specs.{World.World, Agreement.Counts, Agreement.IsFooled}
 use Rattle.dist_world.specs.{declared.agreement.Agreement.Agreement, Asking.node_of, Ups.FindsAgreed}
 use Rattle.dist_script_play.specs.Lines.{node_text, agree_line}
 
@@ -19,9 +19,10 @@ nodes_text w = nodes_from w 0 w.setups
 
 -- ---- what each two nodes have in common
 
--- WHAT IS RETURNED OF TWO NODES: what they agree on, where each counts the other as up, and nothing where not
+-- WHAT IS RETURNED OF TWO NODES: what they agree on, where each counts the other as up, and nothing where not, or where one takes
+-- somebody outside for the other
 abbrev pub IsReported : World → ℕ → ℕ → Option Agreement → Type 0
-IsReported w a b None = Counts w a b → Counts w b a → ⊥
+IsReported w a b None = Counts w a b → Counts w b a → (IsFooled w a b → ⊥) → (IsFooled w b a → ⊥) → ⊥
 IsReported w a b (Some g) = FindsAgreed w a b (Some g)
 
 -- the line of what two nodes agree on, if they do

@@ -1,7 +1,7 @@
 //! All that a world has, and one happening.
 ghost use Rattle.std.specs.Prelude.{◌≡◌, ◌↔◌, ◌++◌, IsTrue, List, IsErrOf, ℕ, Ok, slice_get, option_copied, IfOk, OnOk};
 ghost use Rattle.std.specs.Option.{option_map};
-ghost use Rattle.dist_world_model.specs.{World.empty, World.running, Agreement.AreSetups, Agreement.IsUp};
+ghost use Rattle.dist_world_model.specs.{World.empty, World.running, Agreement.AreSetups, Agreement.IsFooled, Agreement.IsUp};
 ghost use Rattle.dist_world.specs.{Setups.names_repeat, Asking.node_of, Asking.said_to, Asking.SaidNext, Asking.flat_closed, Ups.FindsPeer};
 ghost use Rattle.dist_world_lives.specs.Links.{up_on};
 
@@ -127,6 +127,22 @@ impl Scene {
         let setup = setup_at(&self.setups, b)?;
         let life = self.lives.at(place)?;
         life.up_with(&setup.name)
+    }
+
+    /// Whether a node takes somebody outside the world for another one.
+    pub fn is_fooled(&self, a: usize, b: usize) -> bool
+        ensures { IsTrue result ↔ IsFooled self.now a b }
+    {
+        let Some(place) = self.running(a) else {
+            return false;
+        };
+        let Some(setup) = setup_at(&self.setups, b) else {
+            return false;
+        };
+        let Some(life) = self.lives.at(place) else {
+            return false;
+        };
+        life.is_fooled_by(&setup.name)
     }
 
     // The running incarnation of a node.

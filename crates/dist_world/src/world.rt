@@ -1,7 +1,7 @@
 //! The world.
 ghost use Rattle.std.specs.Prelude.{◌≡◌, ◌↔◌, ◌≢◌, ◌<◌, ℕ, List, Some, length, take, option_copied, IfOk, IfErr, OnOk, IsErrOf, IsTrue};
 ghost use Rattle.std.specs.Option.{option_map};
-ghost use Rattle.dist_world_model.specs.Agreement.{Agreement as NodesAgree, Counts, IsUp};
+ghost use Rattle.dist_world_model.specs.Agreement.{Agreement as NodesAgree, Counts, IsFooled, IsUp, OpenAgreement};
 ghost use Rattle.dist_world_model.specs.{declared.happening.Happening.Happening, OwnSetups.AreAsBegun};
 ghost use Rattle.dist_world_model.specs.{World.empty, Run.run, Run.count_applied, Laws.AllLives, Laws.Decided};
 ghost use Rattle.dist_world.specs.{Setups.names_repeat, Asking.node_of, Asking.said_to, Asking.SaidNext, Asking.flat_closed, Ups.agreement_on};
@@ -71,7 +71,10 @@ impl World {
 
         // Two running nodes that each count the other as up do so over one connection, with the flags that both announced
         // and each other's creation where known, each holding the digest of its own cookie for the other and its challenge.
+        // Where each does it on a connection of the world, nothing else is asked; where it may be on whatever, that none of the two
+        // takes somebody outside for the other.
         ensures agree { NodesAgree self.new }
+        ensures strangers { OpenAgreement self.new }
     {
         worlds_are_reached();
         crossings_are_decided();
@@ -80,11 +83,13 @@ impl World {
     }
 
     /// What nodes `a` and `b`, by their places among the setups, have in common where they are two different running nodes
-    /// and each has an end that is up and whose peer is the other. `None` otherwise, also where one of them is no node.
+    /// and each has an end that is up on a connection and whose peer is the other. `None` otherwise, also where one of them is no
+    /// node, or takes somebody outside the world for the other.
     pub fn both_up(&self, a: usize, b: usize) -> Option<Agreement>
         ensures found { FindsBoth self.now a b result }
         ensures only { (c d : ℕ) (x : IsUp self.now a b c) (y : IsUp self.now b a d) → a ≢ b → result ≡ Some (agreement_on c x.kept y.kept) }
-        ensures counted { (x : Counts self.now a b) (y : Counts self.now b a) → a ≢ b → IsReported result x.kept y.kept }
+        ensures counted { (x : Counts self.now a b) (y : Counts self.now b a) → a ≢ b
+            → (IsFooled self.now a b → ⊥) → (IsFooled self.now b a → ⊥) → IsReported result x.kept y.kept }
 
         // What is returned is what they agree on.
         ensures agree { FindsAgreed self.now a b result }
@@ -97,6 +102,14 @@ impl World {
         ups_are_linked();
         nodes_agree();
         self.scene.both_up(a, b)
+    }
+
+    /// Whether node `a` counts node `b` as up on an end whose other side is somebody outside the world, so that nothing is promised
+    /// of the two.
+    pub fn is_fooled(&self, a: usize, b: usize) -> bool
+        ensures { IsTrue result ↔ IsFooled self.now a b }
+    {
+        self.scene.is_fooled(a, b)
     }
 
     /// What the nodes begin with, in the order of their places. The creations in it are not used, and a node that runs may have

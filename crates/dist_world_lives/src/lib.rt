@@ -21,4 +21,4 @@ mod stepping;
 pub use connections::Connections;
 pub use incarnations::Lives;
 pub use life::Life;
-pub use stepping::{LifeStep, Occasion};
+pub use stepping::{LifeStep, MOST_CONNECTIONS, Occasion, conn_behind};

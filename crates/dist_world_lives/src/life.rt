@@ -1,9 +1,10 @@
 //! One incarnation of a node.
-ghost use Rattle.std.specs.{Prelude.◌≡◌, Prelude.ℕ, Prelude.◌<◌, Prelude.IfOk, Prelude.Some, Prelude.slice_get, Option.option_map};
+ghost use Rattle.std.specs.{Prelude.◌≡◌, Prelude.◌↔◌, Prelude.IsTrue, Prelude.ℕ, Prelude.◌<◌, Prelude.IfOk, Prelude.Some, Prelude.slice_get, Option.option_map};
 ghost use Rattle.dist_core.specs.{Changing.IsChange, Changing.change, Step.step};
 ghost use Rattle.dist_world_model.specs.Happenings.{life_after_end, with_node, reached_life, is_open_end, shut_all, new_life, reached_row, conn_of};
 ghost use Rattle.dist_world_model.specs.{World.runs, World.runs_for, Lists.at_place};
 ghost use Rattle.dist_world_lives.specs.{Stepping.IsLifeStep, Stepping.wire_of, Links.FindsLink, Links.link_of_record, Links.up_on};
+ghost use Rattle.dist_world_lives.specs.Links.{is_unlinked, IsFooledBy};
 ghost use Rattle.dist_core_ends.specs.declared.known.UpRecord.{UpRecord};
 ghost use Rattle.dist_core_ends.specs.declared.known.End.TheVariants as end;
 
@@ -104,6 +105,13 @@ impl Life {
         link_of_record(&self.rows, self.node.up_with(peer))
     }
 
+    /// Whether it is up with somebody outside the world under this name.
+    pub fn is_fooled_by(&self, peer: &NodeName) -> bool
+        ensures { IsTrue result ↔ IsFooledBy self.now peer.now }
+    {
+        is_unlinked(&self.rows, self.node.up_with(peer))
+    }
+
     /// It gets an event, and sends what the reply says on this side of a connection. A refusal changes nothing.
     pub fn step(
         &mut self,
@@ -178,6 +186,16 @@ pub fn is_open(node: &Node, id: EndId) -> bool
     match node.still(id) {
         Still::Pending | Still::Up => true,
         Still::NoSuchEnd | Still::Gone(_) => false,
+    }
+}
+
+// The end of this record has no connection.
+fn is_unlinked(rows: &[EndRow], up: Option<(EndId, &UpRecord)>) -> bool
+    ensures { result ≡ is_unlinked rows.now (option_map (λ r. (r.0, r.1.now)) up.entry) }
+{
+    match up {
+        Some((id, _)) => row_wire(rows, id).is_none(),
+        None => false,
     }
 }
 

@@ -1,7 +1,7 @@
 //! An event that an incarnation gets.
 ghost use Rattle.std.specs.Prelude.{◌≡◌, ◌++◌, IfOk, IfErr, OnOk, OnErr, Ok};
 ghost use Rattle.dist_core.specs.{Answers.Refuses, Step.step};
-ghost use Rattle.dist_world_model.specs.{Lists.add_some, Lists.at_each, Lists.at_place, Rows.mark, Rows.given_by};
+ghost use Rattle.dist_world_model.specs.{Lists.add_some, Lists.at_each, Lists.at_place, Rows.mark, Rows.given_by, Rows.conn_behind};
 ghost use Rattle.dist_world_lives.specs.Stepping.{life_step_of, conns_with, undelivered_on, HasMadeStep, HasSent};
 ghost use Rattle.dist_world_lives.specs.Stepping.{own_row, rows_shut, rows_doomed, doomed_end};
 
@@ -33,6 +33,20 @@ pub struct LifeStep {
     pub closed: Option<(EndId, Why)>,
 }
 
+/// How many connections of a world there may be.
+pub const MOST_CONNECTIONS: usize = 1048576;
+
+/// The connection behind a link. `None` where the link is none of the world.
+pub fn conn_behind(link: u64) -> Option<usize>
+    ensures { result ≡ conn_behind link }
+{
+    if link < MOST_CONNECTIONS as u64 {
+        Some(link as usize)
+    } else {
+        None
+    }
+}
+
 // The row of the end that an event gives out.
 fn new_row(alloc: Global, clock: u64, event: &Event) -> Result<Option<EndRow>, AllocError>
     ensures { IfOk result (λ row. row ≡ given_by clock event.now) }
@@ -47,7 +61,7 @@ fn new_row(alloc: Global, clock: u64, event: &Event) -> Result<Option<EndRow>, A
         Event::Incoming { link } => Ok(Some(EndRow::new(
             Side::Acceptor,
             None,
-            Some(*link as usize),
+            conn_behind(*link),
             clock,
         ))),
         _ => Ok(None),

@@ -1,12 +1,12 @@
 -- A connection that is accepted is a wire; and so all connections are wires still, whatever event comes.
 use Rattle.dist_world_model.proofs.Words.{◌≡◌, ℕ, true, ◌⊎◌, List, ◌++◌, length, slice_get, Some, None, sym, refl, ap, ◌∙◌, subst, inl, inr, append-nil, arith}
 use Rattle.dist_world_model.proofs.Words.{slice_get_past, Side, Acceptor, Dialler, conns_after_saying, says, text_to, accepted_by, next_end, at_place, NodeLaws}
-use Rattle.dist_world_model.proofs.Words.{EndRow, given_by, mark, new_row, Conn, Life, end_of_life, row_of_life}
+use Rattle.dist_world_model.proofs.Words.{EndRow, given_by, mark, new_row, Conn, Life, end_of_life, row_of_life, Happening}
 use Rattle.dist_world_model.proofs.{AllWires.Alike, AllWires.WireAt, AllWires.alike-refl, AllWires.ends-refl, AllWires.same-conn, EventEnds.gives}
 use Rattle.dist_world_model.proofs.ConnectionRows.{ConnOf, RowOf, StaysConn, WasConn, linked-keeps}
-use Rattle.dist_world_model.proofs.{HappeningEffects.Accepts, HappeningEffects.Plain, HappeningEffects.Ready, HappeningEffects.Takes, StepEffects.is_given}
+use Rattle.dist_world_model.proofs.{HappeningEffects.Accepts, HappeningEffects.Plain, HappeningEffects.Ready, HappeningEffects.Strange, HappeningEffects.Takes, StepEffects.is_given}
 use Rattle.dist_world_model.proofs.Lookups.{at-other, decide, end_in, place-twice, placed, row_in, unplaced}
-use Rattle.dist_world_model.proofs.{SendingWires.long, SendingWires.new-row-at, SendingWires.plain-notified, SendingWires.take-notified, WholeFrames.on_way}
+use Rattle.dist_world_model.proofs.{SendingWires.long, SendingWires.new-row-at, SendingWires.plain-notified, SendingWires.strange-notified, SendingWires.take-notified, WholeFrames.on_way}
 use Rattle.dist_world_model.proofs.SilentWires.{Kept, Notifying, all-stay, deed, get-now, ls', me, notify-voices, now, other-wire, row-was, rows'}
 use Rattle.dist_core.specs.declared.event.Event.TheVariants as event
 
@@ -35,7 +35,7 @@ module _ (laws : NodeLaws) (notifying : Notifying) where
     me-is = (let h = gives old.node v f (deed laws notifying) given in h.id) ∙ sym (long laws notifying)
 
     row-at : slice_get (rows' laws notifying) (me laws notifying) ≡ Some (mark w.clock f.reply (me laws notifying) new)
-    row-at = (new-row-at laws notifying) new given (ap (given_by w.clock) is)
+    row-at = (new-row-at laws notifying) new given (ap (given_by w.clock) is ∙ ap (λ o. Some (new_row Acceptor None o w.clock)) (wired.0.behind c k ak))
 
     row-there : (j p : ℕ) → j ≡ i → p ≡ (me laws notifying) → row_in (ls' laws notifying) j p ≡ Some (mark w.clock f.reply (me laws notifying) new)
     row-there j p e q = (λ n. row_in (ls' laws notifying) (e n) (q n)) ∙ ap (λ o. row_of_life o (me laws notifying)) (get-now laws notifying) ∙ row-at
@@ -115,7 +115,8 @@ module _ (laws : NodeLaws) (notifying : Notifying) where
     accept-notified ds e = subst (Kept laws notifying) (sym ((λ n. conns_after_saying (e n) (row-at n) f.reply.say) ∙ place-twice c (accepted_by next) (says Acceptor f.reply.say) w.conns)) accept-kept
 
   -- ALL CONNECTIONS ARE WIRES STILL
-  pub notified-kept : (ds : List Conn) → Ready w i v ds → (Kept laws notifying) (conns_after_saying ds (slice_get (rows' laws notifying) (me laws notifying)) f.reply.say)
-  notified-kept ds (Plain plain opens e) = (plain-notified laws notifying) ds plain e
+  pub notified-kept : {h : Happening} (ds : List Conn) → Ready h w i v fresh ds → (Kept laws notifying) (conns_after_saying ds (slice_get (rows' laws notifying) (me laws notifying)) f.reply.say)
+  notified-kept ds (Plain plain e) = (plain-notified laws notifying) ds plain e
   notified-kept ds (Accepts c k is ak free target e) = accept-notified c k is ak free target ds e
+  notified-kept ds (Strange a is runs strange e) = (strange-notified laws notifying) ds strange e
   notified-kept ds (Takes id row c k body is ar on ak first e) = (take-notified laws notifying) ds id row c k body is ar on ak first e

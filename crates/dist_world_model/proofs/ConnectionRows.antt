@@ -1,6 +1,6 @@
 -- Each connection has one dialled row and at most one accepted row, and each row with a connection is one of these.
 use Rattle.dist_world_model.proofs.Words.{◌≡◌, ℕ, ◌⊎◌, List, slice_get, Some, None, Option, sym, refl, ap, ◌∙◌, subst, inl, inr, Side, Acceptor, Dialler, End}
-use Rattle.dist_world_model.proofs.Words.{EndRow, Conn, Life}
+use Rattle.dist_world_model.proofs.Words.{EndRow, Conn, Life, conn_behind}
 use Rattle.dist_world_model.proofs.{Lookups.end_in, Lookups.far, Lookups.row_in, Lookups.voice_in, Wires.Voice}
 
 -- the row of this end, which has this side and belongs to this connection
@@ -38,6 +38,8 @@ pub record Linked (ls : List Life) (cs : List Conn) : Type 0 where
   pub target : (c : ℕ) (k : Conn) → slice_get cs c ≡ Some k → (m : Voice) × (voice_in ls k.target ≡ Some m)
   pub accepted : (c y : ℕ) (k : Conn) → slice_get cs c ≡ Some k → k.accepted ≡ Some y → RowOf ls Acceptor k.target y c
   pub only : (i p c : ℕ) (x : EndRow) → row_in ls i p ≡ Some x → x.conn ≡ Some c → ConnOf cs x.side i p c
+  -- its number is that of a link
+  pub behind : (c : ℕ) (k : Conn) → slice_get cs c ≡ Some k → conn_behind c ≡ Some c
 
 -- ---- what keeps it
 
@@ -67,6 +69,7 @@ pub record NewConn (ls : List Life) (c : ℕ) (h : Conn) : Type 0 where
   pub dialled : RowOf ls Dialler h.life h.dialler c
   pub target : (m : Voice) × (voice_in ls h.target ≡ Some m)
   pub free : h.accepted ≡ None
+  pub behind : conn_behind c ≡ Some c
 
 -- this connection is there still
 pub record StaysConn (cs : List Conn) (c : ℕ) (k : Conn) : Type 0 where
@@ -90,7 +93,7 @@ pub linked-keeps : (ls ls' : List Life) (cs cs' : List Conn) → ((i p : ℕ) �
     → ((c y : ℕ) (k h : Conn) → slice_get cs c ≡ Some k → slice_get cs' c ≡ Some h → h.accepted ≡ Some y → (k.accepted ≡ Some y) ⊎ RowOf ls' Acceptor h.target y c)
     → ((i p c : ℕ) (x : EndRow) → row_in ls' i p ≡ Some x → x.conn ≡ Some c → RowOf ls x.side i p c ⊎ ConnOf cs' x.side i p c)
     → Linked ls cs → Linked ls' cs'
-linked-keeps ls ls' cs cs' rows voices stays were accs backs l = record { dialled = dialled; target = target; accepted = accepted; only = only }
+linked-keeps ls ls' cs cs' rows voices stays were accs backs l = record { dialled = dialled; target = target; accepted = accepted; only = only; behind = behind }
   where
     dialled : (c : ℕ) (h : Conn) → slice_get cs' c ≡ Some h → RowOf ls' Dialler h.life h.dialler c
     dialled c h at = by (were c h at)
@@ -116,6 +119,13 @@ linked-keeps ls ls' cs cs' rows voices stays were accs backs l = record { dialle
             old (inl e) = let s = w.same in row-stays ls ls' rows Acceptor _ _ _ _ c s.target refl (l.accepted c y w.old w.there e)
             old (inr r) = r
         by (inr n) = absurd (let z : Some y ≡ None = sym ac ∙ n.free in cc)
+
+    behind : (c : ℕ) (h : Conn) → slice_get cs' c ≡ Some h → conn_behind c ≡ Some c
+    behind c h at = by (were c h at)
+      where
+        by : WasConn cs c h ⊎ NewConn ls' c h → conn_behind c ≡ Some c
+        by (inl w) = l.behind c w.old w.there
+        by (inr n) = n.behind
 
     only : (i p c : ℕ) (x : EndRow) → row_in ls' i p ≡ Some x → x.conn ≡ Some c → ConnOf cs' x.side i p c
     only i p c x at on = by (backs i p c x at on)

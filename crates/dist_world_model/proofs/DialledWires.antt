@@ -2,7 +2,7 @@
 use Rattle.dist_world_model.proofs.Words.{◌≡◌, ℕ, true, false, cond, ◌⊎◌, List, [], ◌∷◌, ◌++◌, length, is_some, slice_get, Some, None, Option, option_map, sym}
 use Rattle.dist_world_model.proofs.Words.{refl, ap, ◌∙◌, subst, inl, inr, arith, ne_eqb, false≢true, slice_get_within, Side, Acceptor, Dialler, is_dialing}
 use Rattle.dist_world_model.proofs.Words.{waits_in, End, Phase, conn_of, new_conn, reached_life, reached_row, at_place, EndRow, Conn, Life, end_of_life}
-use Rattle.dist_world_model.proofs.Words.{row_of_life}
+use Rattle.dist_world_model.proofs.Words.{row_of_life, ltb, most_connections}
 use Rattle.dist_world_model.proofs.AllWires.{AreWired, Loc, WireAt, alike-refl, ends-refl, hush-refl, same-conn, voice-refl, wire-alike}
 use Rattle.dist_world_model.proofs.ConnectionRows.{ConnOf, Linked, NewConn, RowOf, Stays, VoiceStays, WasConn, linked-keeps}
 use Rattle.dist_world_model.proofs.{EndStates.AreBeside, EndStates.Beside, EndStates.Stand, EndStates.open-row, EndStates.stand_in, EventEnds.none-of}
@@ -43,7 +43,7 @@ reach-quiet : (id c p : ℕ) (o : Option EndRow) → Quiet o (option_map (reach 
 reach-quiet id c p None = quiet-refl None
 reach-quiet id c p (Some row) = reach-any (λ r. Quiet (Some row) (Some r)) row (quiet-refl (Some row)) (λ c. record { marks = refl; peer = λ s h. refl }) id c p
 
-module _ (i id j : ℕ) (ls : List Life) (cs : List Conn) (old away : Life) (at : slice_get ls i ≡ Some old) (at-away : slice_get ls j ≡ Some away) (beside : AreBeside old.node.ends old.rows) (dialing : is_dialing (end_in ls i id) ≡ true) (free : conn_of (row_in ls i id) ≡ None) where
+module _ (i id j : ℕ) (ls : List Life) (cs : List Conn) (old away : Life) (at : slice_get ls i ≡ Some old) (at-away : slice_get ls j ≡ Some away) (beside : AreBeside old.node.ends old.rows) (dialing : is_dialing (end_in ls i id) ≡ true) (free : conn_of (row_in ls i id) ≡ None) (few : ltb (length cs) most_connections ≡ true) where
   abbrev pub c : ℕ
   c = length cs
 
@@ -93,7 +93,7 @@ module _ (i id j : ℕ) (ls : List Life) (cs : List Conn) (old away : Life) (at 
       reach-voices
       (λ d k h. record { new = k; there = get-new d k h; same = ends-refl k; accepted = λ y e. e })
       (λ d h e. split (WasConn cs d h ⊎ NewConn ls' d h) d h e
-      (λ q z. inr (let P : ℕ → Conn → Type 0 = λ d h. NewConn ls' d h in subst (P d) z (subst (λ d. P d (new_conn i id j)) q (record { dialled = new-of; target = (voice away.node.setup, reach-voices j (voice away.node.setup) (ap voice_of at-away)); free = refl }))))
+      (λ q z. inr (let P : ℕ → Conn → Type 0 = λ d h. NewConn ls' d h in subst (P d) z (subst (λ d. P d (new_conn i id j)) q (record { dialled = new-of; target = (voice away.node.setup, reach-voices j (voice away.node.setup) (ap voice_of at-away)); free = refl; behind = ap (λ b. cond b (Some c) None) few }))))
       (λ s. inl (record { old = h; there = s; same = ends-refl h })))
       (λ d y k h ak ah e. split ((k.accepted ≡ Some y) ⊎ RowOf ls' Acceptor h.target y d) d h ah
       (λ q z. absurd (let w : None ≡ Some y = ap (λ (k : Conn). k.accepted) z ∙ e in cc))

@@ -92,18 +92,6 @@ pub record Below (t : ℕ) (row : EndRow) : Type 0 where
   pub rose : past t row.rose ≡ is_some row.rose
   pub closed : past t row.closed ≡ is_some row.closed
 
--- the end is past waiting for its connection
-abbrev pub needs_in : Phase → Bool
-needs_in phase.Dialing = false
-needs_in phase.DoomedDialing = false
-needs_in _ = true
-
-abbrev pub needs : End → Bool
-needs ends.Unnamed = true
-needs (ends.Attempt a) = needs_in a.phase
-needs (ends.Up r) = true
-needs (ends.Closed w) = false
-
 -- how an open end stands is what its row says
 pub open-row : (s : Stand) (row : EndRow) → Some s ≡ row_stand row → (is_some row.closed ≡ false) × (s ≡ stand_row row)
 open-row s row f = by (is_some row.closed) refl f

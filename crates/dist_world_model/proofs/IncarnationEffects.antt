@@ -24,7 +24,7 @@ alike xs i x y h g = let e : Some x ≡ Some y = sym h ∙ g in cc
 turned-by : {hap : Happening} (w : World) (ls : List Life) (cs : List Conn) → Act hap w ls cs → (i : ℕ) (l : Life) → slice_get ls i ≡ Some l → Turn w.lives w.clock i l
 turned-by w ls cs (Begins who s base c fc at nm keep r is k) i l h = at-more (Turn w.lives w.clock) w.lives _ (Starts who s c refl refl) (same w.lives w.clock) i l (ap (λ xs. slice_get xs i) (sym is) ∙ h)
 turned-by w ls cs (Ends j old at live is k) i l h = at-one (Turn w.lives w.clock) j _ w.lives (λ x e. Stops x e (ap runs (alike w.lives j x old e at) ∙ live) refl) (same w.lives w.clock) i l (ap (λ xs. slice_get xs i) (sym is) ∙ h)
-turned-by w ls cs (Reaches j id k old far at live atf livef d n is ks) i l h = at-one (Turn w.lives w.clock) j _ w.lives (λ x e. Links x id _ e (ap runs (alike w.lives j x old e at) ∙ live) refl) (same w.lives w.clock) i l (ap (λ xs. slice_get xs i) (sym is) ∙ h)
+turned-by w ls cs (Reaches j id k old far at live atf livef d n few is ks) i l h = at-one (Turn w.lives w.clock) j _ w.lives (λ x e. Links x id _ e (ap runs (alike w.lives j x old e at) ∙ live) refl) (same w.lives w.clock) i l (ap (λ xs. slice_get xs i) (sym is) ∙ h)
 turned-by w ls cs (Comes side c n is k) i l h = Stays (ap (λ xs. slice_get xs i) (sym is) ∙ h)
 turned-by w ls cs (Reports j old v fresh f ds fits at live ok ready is k) i l h = at-one (Turn w.lives w.clock) j _ w.lives (λ x e. Lives old v fresh f at live ok refl) (same w.lives w.clock) i l (ap (λ xs. slice_get xs i) (sym is) ∙ h)
 turned-by w ls cs (Resets a j old v r at live ok is k) i l h = at-one (Turn w.lives w.clock) j _ w.lives (λ x e. Changes old v at live ok (ap (with_node (after_change old.node v)) (alike w.lives j x old e at))) (same w.lives w.clock) i l (ap (λ xs. slice_get xs i) (sym is) ∙ h)

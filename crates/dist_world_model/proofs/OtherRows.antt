@@ -43,7 +43,7 @@ module _ (laws : NodeLaws) (n : NodeState) (legal : AreLegal n.ends) (v : Event)
         by : (o : Option (EndId × End)) → f.other ≡ o → NotedAt a b (slice_get n.ends p) → NotedAt a b (other_view o (λ i. cond (eqb f.reply.end_.0 i) (Some f.this) (slice_get n.ends i)) p)
         by None e k = own k
         by (Some x) e k = elim (eqb (let y = x.0 in y.0) p) as (λ c. NotedAt a b (cond c (Some x.1) (cond (eqb f.reply.end_.0 p) (Some f.this) (slice_get n.ends p)))) [
-          | true ↦ (let s = other-spent n v f deed x.0 x.1 e in s.0 a b)
+          | true ↦ other-spent n v f deed x.0 x.1 e a b
           | false ↦ own k
         ]
 

@@ -105,7 +105,7 @@ module _ (ss : List Setup) (P : ℕ → ℕ → Setup → Type 0) where
         subst (AllGo w.lives) (sym is) (more-at (λ (o : Option Life). o) (Goes P) goes-refl w.lives (new_life who w.clock s c)
         (λ t a r g. subst (λ n. P n a r) g.0 (subst (λ n. P w.clock n r) g.1 (subst (P w.clock who) g.2 so))))
     go-on ls cs (Ends i old at live is k) = subst (AllGo w.lives) (sym is) (go-at i (life_after_end w.clock) w.lives old at (λ t who s g. g))
-    go-on ls cs (Reaches i id j old away at live ata livea d n is k) = subst (AllGo w.lives) (sym is) (go-at i (reached_life id _) w.lives old at (λ t who s g. g))
+    go-on ls cs (Reaches i id j old away at live ata livea d n few is k) = subst (AllGo w.lives) (sym is) (go-at i (reached_life id _) w.lives old at (λ t who s g. g))
     go-on ls cs (Comes side c n is k) = subst (AllGo w.lives) (sym is) (λ i. goes-refl (slice_get w.lives i))
     go-on ls cs (Reports i old v fresh f ds fits at live ok ready is k) =
         subst (AllGo w.lives) (sym is) (go-at i (λ l. life_after w.clock v f.reply (after old.node v f) old) w.lives old at (λ t who s g. g))

@@ -148,7 +148,7 @@ module _ (laws : NodeLaws) (notifying : Notifying) where
 
     own-kept : is_given v ≡ false → (g : Conn → Conn) → ((h : Conn) → SameEnds h (g h) × ((g h).accepted ≡ h.accepted)) → WireAt (ls' laws notifying) (g k) → Kept laws notifying (at_place c g w.conns)
     own-kept ng g same own = (
-      linked-same w.lives (ls' laws notifying) w.conns (at_place c g w.conns) (all-stay laws notifying) (all-were laws notifying (λ link is. both_ways (is_given v) ng (ap is_given is))) (notify-voices laws notifying) (conns-at c g w.conns same) wired.0,
+      linked-same w.lives (ls' laws notifying) w.conns (at_place c g w.conns) (all-stay laws notifying) (all-were laws notifying (λ link is. absurd (both_ways (is_given v) ng (ap is_given is)))) (notify-voices laws notifying) (conns-at c g w.conns same) wired.0,
       at-other (λ d h. WireAt (ls' laws notifying) h) c g w.conns
           (λ h ah. let z = same-conn w.conns c k h ak ah in let P : Conn → Type 0 = λ h. WireAt (ls' laws notifying) (g h) in subst P z own)
           (λ d h n ah. other-wire laws notifying d h h ah (alike-refl w.lives h) (λ y e. inl e) (λ x ax ox. absurd (n (same_Some c d (sym on ∙ ap (λ (r : EndRow). r.conn) (same_Some x0 x (sym at-x ∙ ax)) ∙ ox))))),

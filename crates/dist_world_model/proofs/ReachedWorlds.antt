@@ -1,10 +1,10 @@
 -- Worlds that can be.
 use Rattle.dist_world_model.proofs.Words.{◌≡◌, ℕ, List, [], ◌++◌, sym, refl, ap, ◌∙◌, subst, Setup, Agreement, AllFit, AreSetups, Counts, IsReached, IsUp}
-use Rattle.dist_world_model.proofs.Words.{AllLives, UpsAreLinked, NodeLaws, run, World, empty, Happening}
-use Rattle.dist_world_model.proofs.{AgreementOfWorlds.agreement_holds, EndConnections.linked_lives}
+use Rattle.dist_world_model.proofs.Words.{NodeLaws, run, World, empty, Happening, ℕ, Option, Some, None, slice_get, refl, EndRow, conn_of, IsFooled, OpenAgreement}
+use Rattle.dist_world_model.proofs.AgreementOfWorlds.{agreement_holds}
 use Rattle.dist_world_model.proofs.OwnSetups.{as-begun, run-setups}
 use Rattle.dist_world_model.specs.OwnSetups.{AreAsBegun}
-use Rattle.dist_world_model.proofs.HappeningEffects.{is-running, run-append, fit-append}
+use Rattle.dist_world_model.proofs.HappeningEffects.{run-append, fit-append}
 
 module _ (laws : NodeLaws) where
   pub reached_agree : (w : World) → IsReached w → Agreement w
@@ -16,14 +16,26 @@ reached_new ss h = record { setups = ss; happenings = []; good = h; fit = tt; is
 pub reached_run : (w : World) (hs : List Happening) → IsReached w → AllFit hs → IsReached (run hs w)
 reached_run w hs r f = record { setups = r.setups; happenings = r.happenings ++ hs; good = r.good; fit = fit-append r.happenings hs r.fit f; is = ap (run hs) r.is ∙ sym (run-append r.happenings hs (empty r.setups)) }
 
+-- who counts another as up, and does not take somebody outside for it, does so on a connection
+pub counted_on : (w : World) (a b : ℕ) → (IsFooled w a b → ⊥) → (u : Counts w a b) → (c : ℕ) × (x : IsUp w a b c) × (x.kept ≡ u.kept)
+counted_on w a b wise u = by (slice_get u.life.rows u.id) refl
+  where
+    linked : (row : EndRow) → slice_get u.life.rows u.id ≡ Some row → (o : Option ℕ) → row.conn ≡ o → (c : ℕ) × (x : IsUp w a b c) × (x.kept ≡ u.kept)
+    linked row at None e = absurd (wise (u, ap conn_of at ∙ e))
+    linked row at (Some c) e =
+        (c, record { place = u.place; life = u.life; id = u.id; kept = u.kept; row = row; other = u.other; runs = u.runs; lives = u.lives; is_up = u.is_up; beside = at; on = e; named = u.named; peer = u.peer }, refl)
+
+    by : (o : Option EndRow) → slice_get u.life.rows u.id ≡ o → (c : ℕ) × (x : IsUp w a b c) × (x.kept ≡ u.kept)
+    by None at = absurd (wise (u, ap conn_of at))
+    by (Some row) at = linked row at row.conn refl
+
 module _ (laws : NodeLaws) where
-  -- who counts another as up does so on a connection
-  pub counted_on : (w : World) (a b : ℕ) → IsReached w → (u : Counts w a b) → (c : ℕ) × (x : IsUp w a b c) × (x.kept ≡ u.kept)
-  counted_on w a b r u =
-      let k : AllLives UpsAreLinked w = subst (AllLives UpsAreLinked) (sym r.is) (linked_lives laws r.setups r.happenings) in
-      let live = is-running w a u.place u.life u.runs u.lives in
-      let g = k u.place u.life u.lives live.1 u.id u.kept u.is_up in
-      (g.1, record { place = u.place; life = u.life; id = u.id; kept = u.kept; row = g.0; other = u.other; runs = u.runs; lives = u.lives; is_up = u.is_up; beside = g.2; on = g.3; named = u.named; peer = u.peer }, refl)
+  -- two nodes that take nobody outside for the other agree on whatever they count each other as up
+  pub open_agree : (w : World) → IsReached w → OpenAgreement w
+  open_agree w r a b n wise other_wise u v =
+      let x = counted_on w a b wise u in
+      let y = counted_on w b a other_wise v in
+      (x.0, y.0, x.1, y.1, x.2, y.2, reached_agree laws w r a b x.0 y.0 n x.1 y.1)
 
 -- ---- the setups of the nodes that run
 

@@ -3,7 +3,7 @@ use Rattle.dist_world_model.proofs.Words.{or-false, ◌≡◌, ℕ, Bool, true, 
 use Rattle.dist_world_model.proofs.Words.{subst, eqb-true, false_from_ne_true, false≢true, Name, Side, Acceptor, Dialler, replaced_by, EndId, Entry, AreLegal}
 use Rattle.dist_world_model.proofs.Words.{entry_in, holds, holds_at, is_claim, is_held, names, Attempt, End, UpRecord, Kind, In, Out, Up, Why, comes_up}
 use Rattle.dist_world_model.proofs.Words.{dooms_other, fresh_attempt, goes_on, shuts, shuts_other, NodeState, ends_after, new_id, Effect, Event, Reply}
-use Rattle.dist_world_model.proofs.Words.{NodeLaws, EndRow, dooms, given_by, mark, new_row, row_after, rows_after, shuts_end}
+use Rattle.dist_world_model.proofs.Words.{NodeLaws, EndRow, conn_behind, dooms, given_by, mark, new_row, row_after, rows_after, shuts_end}
 use Rattle.dist_world_model.proofs.EndStates.{AreBeside, Fits, Stand, dialled_stand, named_stand, open-row, ready_stand, row_stand, stand_after, stand_claim}
 use Rattle.dist_world_model.proofs.EndStates.{stand_in, stand_of}
 use Rattle.dist_world_model.proofs.{EventEnds.gives, Places.eqb-self, RowMarks.closed-stand, RowMarks.end-claim, RowMarks.written-stand}
@@ -121,7 +121,7 @@ module _ (laws : NodeLaws) (n : NodeState) (legal : AreLegal n.ends) (rows : Lis
         changed laws n rows c h v f ends.Unnamed g at (fit-open c f.reply id.0 true false ends.Unnamed (ends.Attempt a) (eqb-self id.0) refl refl (λ row z. takes-name a f.reply None s refl refl)) tt (λ i b o. (refl, refl))
     works e f at (Takes_over say a x s no-out is-in) = ousts say a x why.Replaced In at s (is-in x.0 ∙ eqb-self x.0)
     works e f at (Refuses say p x en gr) = let f : Effect = shuts id say why.Crossed (note.NameTaken p None) in changed laws n rows c h v f ends.Unnamed g at (λ row b. fit-shut c f.reply id.0 why.Crossed (eqb-self id.0) row) tt (λ i b o. (refl, b))
-    works e f at (Dooms say a x b d s en gr atx sb sd nd) =
+    works e f at (Dooms say a x b d s en gr atx sb sd) =
         let f : Effect = dooms_other id say (ends.Attempt a) a.peer x (ends.Attempt d) in
         let nm : names Out x.0 (entry_in n.ends a.peer) ≡ true = ap (names Out x.0) en ∙ eqb-self x.0 in
         let free = ap (is_held a.peer Out) at in
@@ -134,5 +134,5 @@ module _ (laws : NodeLaws) (n : NodeState) (legal : AreLegal n.ends) (rows : Lis
   -- EACH DEED KEEPS ROWS BESIDE ENDS
   pub beside-deed : (v : Event) (f : Effect) → Deed n v f → Kept v f
   beside-deed v f (Dials p o is idle) = given laws n rows c h v (goes_on (new_id n) [] (ends.Attempt (fresh_attempt p o)) note.Nothing) (new_row Dialler (Some p) None c) (ap (given_by c) is) (gives n v _ (Dials p o is idle) (ap is_given is)) refl refl
-  beside-deed v f (Comes_in link is) = given laws n rows c h v (goes_on (new_id n) [] ends.Unnamed note.Nothing) (new_row Acceptor None (Some link) c) (ap (given_by c) is) (gives n v _ (Comes_in link is) (ap is_given is)) refl refl
-  beside-deed v f (Works id e f' own at j w) = works v (own-not-given v id own) id e f' at w
+  beside-deed v f (Comes_in link is) = given laws n rows c h v (goes_on (new_id n) [] ends.Unnamed note.Nothing) (new_row Acceptor None (conn_behind link) c) (ap (given_by c) is) (gives n v _ (Comes_in link is) (ap is_given is)) refl refl
+  beside-deed v f (Works id e f' own at w) = works v (own-not-given v id own) id e f' at w

@@ -1,10 +1,10 @@
 -- What is sent at the event's own end, and the frame that it takes, keep all connections wires.
 use Rattle.dist_world_model.proofs.Words.{◌≡◌, ℕ, true, false, List, length, slice_get, Some, None, Option, option_map, sym, refl, ap, ◌∙◌, subst, w16}
-use Rattle.dist_world_model.proofs.Words.{false≢true, first_body, Dialler, EndId, End, Event, body_taken, change_to, conns_after_saying, says, spoken_on}
-use Rattle.dist_world_model.proofs.Words.{text_to, conn_of, at_place, NodeLaws, EndRow, dooms, given_by, mark, new_row, row_after, shuts_end, Conn, row_at}
+use Rattle.dist_world_model.proofs.Words.{false≢true, first_body, Acceptor, Dialler, EndId, End, Event, body_taken, change_to, conns_after_saying, says, spoken_on}
+use Rattle.dist_world_model.proofs.Words.{text_to, conn_behind, conn_of, is_none, is_outside, at_place, NodeLaws, EndRow, dooms, given_by, mark, new_row, row_after, shuts_end, Conn, row_at}
 use Rattle.dist_world_model.proofs.Words.{row_of_life}
-use Rattle.dist_world_model.proofs.{EndStates.Beside, EndStates.Fits, EventEnds.frame-end, EventEnds.gives, EventEnds.own-end, GrowingRows.spoken-none}
-use Rattle.dist_world_model.proofs.{HappeningEffects.IsPlain, Lookups.place-twice, OwnWires.own-says, OwnWires.own-takes, Places.eqb-self, StepEffects.is_given}
+use Rattle.dist_world_model.proofs.{EndStates.Beside, EndStates.Fits, EventEnds.frame-end, EventEnds.gives, EventEnds.named-end, EventEnds.own-end, GrowingRows.spoken-none}
+use Rattle.dist_world_model.proofs.{HappeningEffects.IsPlain, HappeningEffects.none-by, Lookups.place-twice, OwnWires.own-says, OwnWires.own-takes, Places.eqb-self, StepEffects.is_given, StepEffects.own_id}
 use Rattle.dist_world_model.proofs.SilentWires.{Kept, Notifying, beside, deed, me, rows', silent}
 use Rattle.dist_world_model.proofs.UnchangedRows.{get-row-old, row-new, same-length}
 use Rattle.dist_core.specs.declared.event.Event.TheVariants as event
@@ -51,8 +51,8 @@ module _ (laws : NodeLaws) (notifying : Notifying) where
       by (event.Incoming link) is = absurd (subst IsPlain is plain)
       by u is = absurd (false≢true (ap is_given (sym is) ∙ g))
 
-  plain-not : IsPlain v → (link : ℕ) → v ≡ event.Incoming link → ⊥
-  plain-not plain link is = subst IsPlain is plain
+  plain-not : IsPlain v → (link : ℕ) → v ≡ event.Incoming link → conn_behind link ≡ None
+  plain-not plain link is = absurd (subst IsPlain is plain)
 
   pub plain-notified : (ds : List Conn) → IsPlain v → ds ≡ w.conns → (Kept laws notifying) (conns_after_saying ds (slice_get (rows' laws notifying) (me laws notifying)) f.reply.say)
   plain-notified ds plain e = elim (is_given v) as (λ b. is_given v ≡ b → (Kept laws notifying) (conns_after_saying ds (slice_get (rows' laws notifying) (me laws notifying)) f.reply.say)) [
@@ -69,6 +69,42 @@ module _ (laws : NodeLaws) (notifying : Notifying) where
               let k = wired.0.only i (me laws notifying) c q.x0 (ap (λ o. row_of_life o (me laws notifying)) at ∙ q.at-x) on in
               subst (Kept laws notifying) (sym ((λ n. conns_after_saying (e n) (q.row-is n) f.reply.say) ∙ ap (λ o. spoken_on w.conns o q.x0.side f.reply.say) on))
               ((own-says laws notifying) q.x0 q.e0 q.at-x q.at-e q.fits q.row-is c on k.conn k.there ng plain)
+
+  -- ---- something from outside
+
+  strange-not : is_outside w i v ≡ true → (link : ℕ) → v ≡ event.Incoming link → conn_behind link ≡ None
+  strange-not strange link is = none-by _ (ap (is_outside w i) (sym is) ∙ strange)
+
+  pub strange-free : is_outside w i v ≡ true → is_given v ≡ false → conn_of (slice_get old.rows (me laws notifying)) ≡ None
+  strange-free strange ng = by v refl
+    where
+      own : (id : EndId) → f.reply.end_ ≡ id → is_none (conn_of (row_at w i id.0)) ≡ true → conn_of (slice_get old.rows (me laws notifying)) ≡ None
+      own id e n = ap (λ (y : EndId). conn_of (slice_get old.rows y.0)) e ∙ ap (λ o. conn_of (row_of_life o id.0)) (sym at) ∙ none-by _ n
+
+      by : (u : Event) → v ≡ u → conn_of (slice_get old.rows (me laws notifying)) ≡ None
+      by (event.Opened id link) is = own id (named-end old.node v f id (deed laws notifying) (ap own_id is)) (ap (is_outside w i) (sym is) ∙ strange)
+      by (event.Frame id body) is = own id (named-end old.node v f id (deed laws notifying) (ap own_id is)) (ap (is_outside w i) (sym is) ∙ strange)
+      by (event.Incoming link) is = absurd (false≢true (sym ng ∙ ap is_given is))
+      by u is = absurd (false≢true (ap (is_outside w i) (sym is) ∙ strange))
+
+  pub strange-given : is_outside w i v ≡ true → is_given v ≡ true → conn_of (slice_get (rows' laws notifying) (me laws notifying)) ≡ None
+  strange-given strange g = by v refl
+    where
+      by : (u : Event) → v ≡ u → conn_of (slice_get (rows' laws notifying) (me laws notifying)) ≡ None
+      by (event.Incoming link) is = ap conn_of (new-row-at (new_row Acceptor None (conn_behind link) w.clock) g (ap (given_by w.clock) is)) ∙ strange-not strange link is
+      by (event.Dial p o) is = absurd (false≢true (ap (is_outside w i) (sym is) ∙ strange))
+      by u is = absurd (false≢true (ap is_given (sym is) ∙ g))
+
+  pub strange-notified : (ds : List Conn) → is_outside w i v ≡ true → ds ≡ w.conns → (Kept laws notifying) (conns_after_saying ds (slice_get (rows' laws notifying) (me laws notifying)) f.reply.say)
+  strange-notified ds strange e = elim (is_given v) as (λ b. is_given v ≡ b → (Kept laws notifying) (conns_after_saying ds (slice_get (rows' laws notifying) (me laws notifying)) f.reply.say)) [
+    | true ↦ λ g. subst (Kept laws notifying) (sym (spoken-none ds (slice_get (rows' laws notifying) (me laws notifying)) f.reply.say (strange-given strange g) ∙ e)) ((silent laws notifying) (strange-not strange) (λ c x a b. g))
+    | false ↦ λ ng. own (found ng) (strange-free strange ng)
+  ] refl
+    where
+      own : Found → conn_of (slice_get old.rows (me laws notifying)) ≡ None → (Kept laws notifying) (conns_after_saying ds (slice_get (rows' laws notifying) (me laws notifying)) f.reply.say)
+      own q none =
+          let free : q.x0.conn ≡ None = ap conn_of (sym q.at-x) ∙ none in
+          subst (Kept laws notifying) (sym (spoken-none ds (slice_get (rows' laws notifying) (me laws notifying)) f.reply.say (ap conn_of q.row-is ∙ free) ∙ e)) ((silent laws notifying) (strange-not strange) (conn-not q.x0 q.at-x free))
 
   pub take-notified : (ds : List Conn) (id : EndId) (row : EndRow) (c : ℕ) (k : Conn) (body : List ℕ) → v ≡ event.Frame id body → row_at w i id.0 ≡ Some row → row.conn ≡ Some c → slice_get w.conns c ≡ Some k → (let u = text_to row.side k in first_body w16 u.come) ≡ Some body → ds ≡ at_place c (change_to row.side body_taken) w.conns
       → (Kept laws notifying) (conns_after_saying ds (slice_get (rows' laws notifying) (me laws notifying)) f.reply.say)

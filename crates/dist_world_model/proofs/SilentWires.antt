@@ -1,7 +1,7 @@
 -- An event that a running incarnation gets: the connections on which nothing is sent are wires still.
 use Rattle.dist_world_model.proofs.Words.{◌≡◌, ℕ, ◌^◌, ◌<◌, true, not, ◌⊎◌, List, length, slice_get, Some, None, Ok, Option, sym, refl, ap, ◌∙◌, inl, inr}
 use Rattle.dist_world_model.proofs.Words.{same_Some, Side, Acceptor, Dialler, StepRow, after, effect_of, Effect, Event, life_after, at_place, NodeLaws, EndRow}
-use Rattle.dist_world_model.proofs.Words.{given_by, mark, new_row, rows_after, Conn, Life, World, end_of_life, row_of_life, runs}
+use Rattle.dist_world_model.proofs.Words.{conn_behind, given_by, mark, new_row, rows_after, Conn, Life, World, end_of_life, row_of_life, runs}
 use Rattle.dist_world_model.proofs.AllWires.{Alike, AreWired, Loc, WireAt, alike-refl, conns-same, hush-refl, linked-same, voice-refl, wire-alike}
 use Rattle.dist_world_model.proofs.{ConnectionRows.Stays, ConnectionRows.VoiceStays, ConnectionRows.Was, ConnectionRows.row_of, EndStates.AreBeside}
 use Rattle.dist_world_model.proofs.{IncarnationFacts.IsLife, OtherRows.end-hushed, OtherRows.row-quiet, OwnSide.IsPast, SentFrames.IsFit}
@@ -65,7 +65,7 @@ module _ (laws : NodeLaws) (notifying : Notifying) where
   row-stays p c x e h = (mark w.clock f.reply p x, row-then w.clock v f.reply old.rows p x e, refl, h)
 
   -- a row that was not given out now was there
-  pub row-was : (p : ℕ) → (length old.rows ≡ p → (link : ℕ) → v ≡ event.Incoming link → ⊥) → Was (slice_get old.rows p) (slice_get rows' p)
+  pub row-was : (p : ℕ) → (length old.rows ≡ p → (link : ℕ) → v ≡ event.Incoming link → conn_behind link ≡ None) → Was (slice_get old.rows p) (slice_get rows' p)
   row-was p not c y e h = by (came w.clock v f.reply old.rows p y e)
     where
       by : Came w.clock v f.reply old.rows p y → (x : EndRow) × (slice_get old.rows p ≡ Some x) × (x.side ≡ y.side) × (x.conn ≡ Some c)
@@ -73,14 +73,14 @@ module _ (laws : NodeLaws) (notifying : Notifying) where
       by (Fresh side q link long g z) = absurd (given-conn v refl g)
         where
           given-conn : (u : Event) → v ≡ u → given_by w.clock u ≡ Some (new_row side q link w.clock) → ⊥
-          given-conn (event.Incoming k) is g = not (sym long) k is
+          given-conn (event.Incoming k) is g = let n : None ≡ Some c = sym (not (sym long) k is) ∙ ap (λ (r : EndRow). r.conn) (same_Some _ _ g) ∙ ap (λ (r : EndRow). r.conn) (sym z) ∙ h in cc
           given-conn (event.Dial a o) is g = let n : None ≡ Some c = ap (λ (r : EndRow). r.conn) (same_Some _ _ g) ∙ ap (λ (r : EndRow). r.conn) (sym z) ∙ h in cc
           given-conn u is g = cc
 
   pub all-stay : (j p : ℕ) → Stays (row_in w.lives j p) (row_in ls' j p)
   all-stay j p = changed-at (λ o. row_of_life o p) Stays (λ o c x e h. (x, e, refl, h)) i (λ (l : Life). now) w.lives old at j (λ e. row-stays p)
 
-  pub all-were : ((link : ℕ) → v ≡ event.Incoming link → ⊥) → (j p : ℕ) → Was (row_in w.lives j p) (row_in ls' j p)
+  pub all-were : ((link : ℕ) → v ≡ event.Incoming link → conn_behind link ≡ None) → (j p : ℕ) → Was (row_in w.lives j p) (row_in ls' j p)
   all-were not j p = changed-at (λ o. row_of_life o p) Was (λ o c x e h. (x, e, refl, h)) i (λ (l : Life). now) w.lives old at j (λ e. row-was p (λ long. not))
 
   -- ---- what is quiet
@@ -108,7 +108,7 @@ module _ (laws : NodeLaws) (notifying : Notifying) where
   abbrev pub Kept : List Conn → Type 0
   Kept cs' = AreWired ls' cs'
 
-  pub silent : ((link : ℕ) → v ≡ event.Incoming link → ⊥) → ((c : ℕ) (x : EndRow) → slice_get old.rows me ≡ Some x → x.conn ≡ Some c → is_given v ≡ true) → Kept w.conns
+  pub silent : ((link : ℕ) → v ≡ event.Incoming link → conn_behind link ≡ None) → ((c : ℕ) (x : EndRow) → slice_get old.rows me ≡ Some x → x.conn ≡ Some c → is_given v ≡ true) → Kept w.conns
   silent not free = (
     linked-same w.lives ls' w.conns w.conns all-stay (all-were not) notify-voices (conns-same w.conns) wired.0,
     λ c k ak. other-wire c k k ak (alike-refl w.lives k) (λ y e. inl e) (free c),

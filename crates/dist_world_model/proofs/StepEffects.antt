@@ -1,10 +1,10 @@
 -- What a step does, as far as rows see it: one case for each thing that can be done, and what that says of its reply.
-use Rattle.dist_world_model.proofs.Words.{◌≡◌, ℕ, Bool, true, false, eqb, ◌⊎◌, List, [], is_some, slice_get, Some, None, Ok, Option, sym, refl, ap, ◌∙◌, subst}
-use Rattle.dist_world_model.proofs.Words.{inl, inr, Name, Form, Message, Side, Acceptor, Dialler, Opening, replaced_by, is_greater, EndId, entry_in, names}
+use Rattle.dist_world_model.proofs.Words.{◌≡◌, ℕ, Bool, true, false, eqb, List, [], is_some, slice_get, Some, None, Ok, Option, sym, refl, ap, ◌∙◌, subst}
+use Rattle.dist_world_model.proofs.Words.{Name, Form, Message, Side, Acceptor, Dialler, Opening, replaced_by, is_greater, EndId, entry_in, names}
 use Rattle.dist_world_model.proofs.Words.{Attempt, End, UpRecord, In, Out, Phase, Why, named_attempt, closes, comes_up, dooms_other, fresh_attempt, goes_on}
 use Rattle.dist_world_model.proofs.Words.{held_back, reply_phase, shuts, shuts_other, superseded_end, superseded_in, supersedes, NodeState, new_id, Heard}
-use Rattle.dist_world_model.proofs.Words.{StepRow, Taken, effect_of, sender_in, sender_to, Effect, Event, says, NodeLaws, given_by}
-use Rattle.dist_world_model.proofs.EndStates.{dialled_stand, named_stand, needs, needs_in, ready_stand, stand_in, stand_of}
+use Rattle.dist_world_model.proofs.Words.{StepRow, Taken, effect_of, Effect, Event, says, NodeLaws, given_by}
+use Rattle.dist_world_model.proofs.EndStates.{dialled_stand, named_stand, ready_stand, stand_in, stand_of}
 use Rattle.dist_messages.specs.declared.form.Form.TheVariants as form
 use Rattle.dist_peers.specs.declared.entry.Entry.TheVariants as entry
 use Rattle.dist_core_ends.specs.declared.known.End.TheVariants as ends
@@ -53,37 +53,22 @@ pub data Work (n : NodeState) (id : EndId) : End → Effect → Type 0 where
   -- names cross: the own is the lesser, and doomed
   Dooms : (say : List ℕ) → (a : Attempt) → (x : EndId) → (b d : Attempt) → stand_in a.peer a.phase ≡ named_stand a.peer → entry_in n.ends a.peer ≡ Some (entry.Out x)
       → greater_at n a.peer ≡ false → slice_get n.ends x.0 ≡ Some (ends.Attempt b) → stand_in b.peer b.phase ≡ dialled_stand b.peer false false
-      → stand_in d.peer d.phase ≡ dialled_stand b.peer true false → needs_in d.phase ≡ needs_in b.phase
+      → stand_in d.peer d.phase ≡ dialled_stand b.peer true false
       → Work n id ends.Unnamed (dooms_other id say (ends.Attempt a) a.peer x (ends.Attempt d))
   -- names cross: the own is the lesser, and closed
   Drops : (say : List ℕ) → (a : Attempt) → (x : EndId) → stand_in a.peer a.phase ≡ named_stand a.peer → entry_in n.ends a.peer ≡ Some (entry.Out x)
       → greater_at n a.peer ≡ false → Work n id ends.Unnamed (shuts_other id say (ends.Attempt a) x why.Crossed (note.NameTaken a.peer None))
 
--- an end that needs a connection afterwards did before, or learns of it now
-abbrev pub IsServed : Event → EndId → End → End → Type 0
-IsServed v id e d = needs d ≡ true → (needs e ≡ true) ⊎ ((link : ℕ) × (v ≡ event.Opened id link))
-
 -- WHAT A STEP DOES
 pub data Deed (n : NodeState) (v : Event) : Effect → Type 0 where
   Dials : (p : Name) → (o : Opening) → v ≡ event.Dial p o → entry_in n.ends p ≡ None → Deed n v (goes_on (new_id n) [] (ends.Attempt (fresh_attempt p o)) note.Nothing)
   Comes_in : (link : ℕ) → v ≡ event.Incoming link → Deed n v (goes_on (new_id n) [] ends.Unnamed note.Nothing)
-  Works : (id : EndId) → (e : End) → (f : Effect) → own_id v ≡ Some id → slice_get n.ends id.0 ≡ Some e → IsServed v id e f.this → Work n id e f → Deed n v f
+  Works : (id : EndId) → (e : End) → (f : Effect) → own_id v ≡ Some id → slice_get n.ends id.0 ≡ Some e → Work n id e f → Deed n v f
 
 pub own-not-given : (v : Event) (id : EndId) → own_id v ≡ Some id → is_given v ≡ false
 own-not-given (event.Dial p o) id h = absurd cc
 own-not-given (event.Incoming link) id h = absurd cc
 own-not-given v id h = refl
-
--- who awaits a message has a connection
-sender-needs : (e : End) (s : Side) → sender_to e ≡ Some s → needs e ≡ true
-sender-needs (ends.Closed w) s h = absurd cc
-sender-needs (ends.Attempt a) s h = by a.phase h
-  where
-    by : (q : Phase) → sender_in q ≡ Some s → needs_in q ≡ true
-    by phase.Dialing e = absurd cc
-    by phase.DoomedDialing e = absurd cc
-    by q e = refl
-sender-needs e s h = refl
 
 module _ (n : NodeState) (id : EndId) where
   -- an end that an entry has as dialled
@@ -92,8 +77,8 @@ module _ (n : NodeState) (id : EndId) where
   crossed a x say s e g (Some (ends.Attempt b)) at = by b.phase refl
     where
       by : (q : Phase) → b.phase ≡ q → Work n id ends.Unnamed (supersedes id say a x (superseded_in b q))
-      by phase.Dialing ph = Dooms say a x b (record b { phase = phase.DoomedDialing }) s e g at (ap (stand_in b.peer) ph) refl (sym (ap needs_in ph))
-      by phase.AwaitStatus ph = Dooms say a x b (record b { phase = phase.Doomed }) s e g at (ap (stand_in b.peer) ph) refl (sym (ap needs_in ph))
+      by phase.Dialing ph = Dooms say a x b (record b { phase = phase.DoomedDialing }) s e g at (ap (stand_in b.peer) ph) refl
+      by phase.AwaitStatus ph = Dooms say a x b (record b { phase = phase.Doomed }) s e g at (ap (stand_in b.peer) ph) refl
       by q ph = Drops say a x s e g
   crossed a x say s e g o at = Drops say a x s e g
 
@@ -130,17 +115,17 @@ module _ (n : NodeState) (id : EndId) where
 
 module _ (laws : NodeLaws) (n : NodeState) where
   closed : (v : Event) (f : Effect) (id : EndId) (w : Why) (e : End) → own_id v ≡ Some id → slice_get n.ends id.0 ≡ Some e → f ≡ closes id w → Deed n v f
-  closed v f id w e is at k = subst (Deed n v) (sym k) (Works id e _ is at (λ h. absurd cc) (Shuts [] w e))
+  closed v f id w e is at k = subst (Deed n v) (sym k) (Works id e _ is at (Shuts [] w e))
 
   row : (v : Event) (fresh : ℕ) (f : Effect) → StepRow n v fresh f → Deed n v f
   row v fresh f (core.Dials p o is idle sp full cr k) = subst (Deed n v) (sym k) (Dials p o is idle)
   row v fresh f (core.Comes_in link is sp cr k) = subst (Deed n v) (sym k) (Comes_in link is)
-  row v fresh f (core.Begins id link b is at ph sp k) = Works id (ends.Attempt b) f (ap own_id is) at (λ h. inr (link, is)) (goes n id (ends.Attempt b) f _ b _ refl (sym (ap (stand_in b.peer) ph)) k)
+  row v fresh f (core.Begins id link b is at ph sp k) = Works id (ends.Attempt b) f (ap own_id is) at (goes n id (ends.Attempt b) f _ b _ refl (sym (ap (stand_in b.peer) ph)) k)
   row v fresh f (core.Ceases id link b is at ph sp k) = closed v f id _ (ends.Attempt b) (ap own_id is) at k
   row v fresh f (core.Loses id w e is at op k) = closed v f id w e (ap own_id is) at k
-  row v fresh f (core.Ticks id r is at sp k) = subst (Deed n v) (sym k) (Works id (ends.Up r) _ (ap own_id is) at (λ h. inl refl) (Goes _ (ends.Up r) (ends.Up r) (λ side. refl)))
+  row v fresh f (core.Ticks id r is at sp k) = subst (Deed n v) (sym k) (Works id (ends.Up r) _ (ap own_id is) at (Goes _ (ends.Up r) (ends.Up r) (λ side. refl)))
   row v fresh f (core.Fails id body e side x is at to sp says k) = closed v f id _ e (ap own_id is) at k
-  row v fresh f (core.Hears id body e side m is at to sp says h) = Works id e f (ap own_id is) at (λ q. inl (sender-needs e side to)) (heard n id fresh e m f h)
+  row v fresh f (core.Hears id body e side m is at to sp says h) = Works id e f (ap own_id is) at (heard n id fresh e m f h)
 
   -- EACH STEP IS ONE OF THESE DEEDS
   pub deed_of : (v : Event) (fresh : ℕ) (f : Effect) → effect_of n v fresh ≡ Ok f → Deed n v f

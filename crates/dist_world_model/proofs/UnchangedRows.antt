@@ -2,7 +2,7 @@
 use Rattle.dist_world_model.proofs.Words.{◌≡◌, ℕ, zero, suc, Bool, true, false, cond, ◌&&◌, eqb, ◌⊎◌, List, [], ◌∷◌, length, slice_get, Some, None, Option}
 use Rattle.dist_world_model.proofs.Words.{option_map, sym, refl, ap, ◌∙◌, subst, inl, inr, arith, ne_eqb, eqb-true, and_right, slice_get_within, Name, Side}
 use Rattle.dist_world_model.proofs.Words.{Acceptor, Dialler, EndId, IsThere, other_view, End, NodeState, ends_after, Effect, Event, Reply, add_some, NodeLaws}
-use Rattle.dist_world_model.proofs.Words.{EndRow, dooms, given_by, mark, new_row, once, peer_by, rises, row_after, rows_after, says_reply, shuts_end}
+use Rattle.dist_world_model.proofs.Words.{EndRow, conn_behind, dooms, given_by, mark, new_row, once, peer_by, rises, row_after, rows_after, says_reply, shuts_end}
 use Rattle.dist_world_model.proofs.Words.{takes_name}
 use Rattle.dist_world_model.proofs.{EndStates.AreBeside, EndStates.Beside, EndStates.Fits, EventEnds.Gives, RowMarks.once-false, StepEffects.is_given}
 use Rattle.dist_world_model.proofs.Places.{before-map, eqb-self, get-each, get-more, one-more}
@@ -57,7 +57,7 @@ came c v r rows i y at =
 
     by : (u : Event) (x : EndRow) → slice_get (add_some rows (given_by c u)) i ≡ Some x → y ≡ mark c r i x → given_by c v ≡ given_by c u → Came c v r rows i y
     by (event.Dial p o) x q e g = added Dialler (Some p) None x g e (one-more rows (new_row Dialler (Some p) None c) i x q)
-    by (event.Incoming link) x q e g = added Acceptor None (Some link) x g e (one-more rows (new_row Acceptor None (Some link) c) i x q)
+    by (event.Incoming link) x q e g = added Acceptor None (conn_behind link) x g e (one-more rows (new_row Acceptor None (conn_behind link) c) i x q)
     by u x q e g = Old x q e
 
 pub given-is : (v : Event) (side : Side) (p : Option Name) (link : Option ℕ) (c : ℕ) → given_by c v ≡ Some (new_row side p link c) → is_given v ≡ true

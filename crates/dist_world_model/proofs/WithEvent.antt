@@ -5,7 +5,7 @@ use Rattle.dist_world_model.proofs.Words.{same_Some, slice_get_past, Name, Side,
 use Rattle.dist_world_model.proofs.Words.{UpRecord, Kind, In, Out, Up, NodeState, ends_after, node_after, after, effect_of, step_result, Effect, Event, Reply}
 use Rattle.dist_world_model.proofs.Words.{StepError, lesser, life_after, claim_in, held_before, NodeLaws, EndRow, claim_before, claim_when, dooms, given_by}
 use Rattle.dist_world_model.proofs.Words.{holds_peer, mark, new_row, once, past, peer_by, rises, rows_after, says_reply, shuts_end, takes_name, entered_before}
-use Rattle.dist_world_model.proofs.Words.{left_before, Life, runs}
+use Rattle.dist_world_model.proofs.Words.{conn_behind, left_before, Life, runs}
 use Rattle.dist_world_model.proofs.{EndStates.AreBeside, EndStates.Fits, EndStates.Stand, EndStates.open-row, EndStates.ready_stand, OtherRows.own-after}
 use Rattle.dist_world_model.proofs.EventEnds.{climber, dial-idle, doomer, gives, none-of, sayer, taker}
 use Rattle.dist_world_model.proofs.IncarnationFacts.{Grown, Grows, IsGone, IsLife, NamedNow, New, Origin, Was, held-now, life-by}
@@ -27,11 +27,11 @@ ousted n v f d o p j tk pr nm = by f d tk pr
     named q e = ap (λ r. names In j (entry_in n.ends r)) (same_Some q p e) ∙ nm
 
     by : (f : Effect) → Deed n v f → takes_name f.reply.note ≡ true → peer_by f.reply.note o ≡ Some p → shuts_end f.reply.closed j ≡ true
-    by f (Works id e g own at s (Takes say a st no-out no-in)) tk pr = absurd (false≢true (sym (no-in j) ∙ named a.peer pr))
-    by f (Works id e g own at s (Takes_over say a x st no-out is-in)) tk pr = sym (is-in j) ∙ named a.peer pr
-    by f (Works id e g own at s (Refuses say q x en gr)) tk pr = absurd (false≢true (ap (names In j) (sym en) ∙ named q pr))
-    by f (Works id e g own at s (Dooms say a x b d st en gr atx sb sd nd)) tk pr = absurd (false≢true (ap (names In j) (sym en) ∙ named a.peer pr))
-    by f (Works id e g own at s (Drops say a x st en gr)) tk pr = absurd (false≢true (ap (names In j) (sym en) ∙ named a.peer pr))
+    by f (Works id e g own at (Takes say a st no-out no-in)) tk pr = absurd (false≢true (sym (no-in j) ∙ named a.peer pr))
+    by f (Works id e g own at (Takes_over say a x st no-out is-in)) tk pr = sym (is-in j) ∙ named a.peer pr
+    by f (Works id e g own at (Refuses say q x en gr)) tk pr = absurd (false≢true (ap (names In j) (sym en) ∙ named q pr))
+    by f (Works id e g own at (Dooms say a x b d st en gr atx sb sd)) tk pr = absurd (false≢true (ap (names In j) (sym en) ∙ named a.peer pr))
+    by f (Works id e g own at (Drops say a x st en gr)) tk pr = absurd (false≢true (ap (names In j) (sym en) ∙ named a.peer pr))
     by f d tk pr = cc
 
 gone-by : (t : ℕ) (r : Reply) (i : ℕ) (row : EndRow) → row.rose ≡ None → rises r.up ≡ false → (dooms r.note i ≡ true) ⊎ (shuts_end r.closed i ≡ true) → IsGone (mark t r i row)
@@ -53,11 +53,11 @@ decided n v f d t x p own other tk pr nm ro rt = by f d tk pr
     lost q b k m e g h = subst (λ c. IsGone (cond c m k)) (sym (ap (is_greater n.setup.name) (sym (same_Some q p e)) ∙ g)) h
 
     by : (f : Effect) → Deed n v f → takes_name f.reply.note ≡ true → peer_by f.reply.note other.peer ≡ Some p → IsGone (lesser n.setup.name p (mark t f.reply x own) (mark t f.reply f.reply.end_.0 other))
-    by f (Works id e g own' at s (Takes say a st no-out no-in)) tk pr = absurd (false≢true (sym (no-out x) ∙ named a.peer pr))
-    by f (Works id e g own' at s (Takes_over say a y st no-out is-in)) tk pr = absurd (false≢true (sym (no-out x) ∙ named a.peer pr))
-    by f (Works id e g own' at s (Refuses say q y en gr)) tk pr = lost q true _ _ pr gr (gone-by t f.reply id.0 other rt refl (inr (eqb-self id.0)))
-    by f (Works id e g own' at s (Dooms say a y b d st en gr aty sb sd nd)) tk pr = lost a.peer false _ _ pr gr (gone-by t f.reply x own ro refl (inl (ap (names Out x) (sym en) ∙ named a.peer pr)))
-    by f (Works id e g own' at s (Drops say a y st en gr)) tk pr = lost a.peer false _ _ pr gr (gone-by t f.reply x own ro refl (inr (ap (names Out x) (sym en) ∙ named a.peer pr)))
+    by f (Works id e g own' at (Takes say a st no-out no-in)) tk pr = absurd (false≢true (sym (no-out x) ∙ named a.peer pr))
+    by f (Works id e g own' at (Takes_over say a y st no-out is-in)) tk pr = absurd (false≢true (sym (no-out x) ∙ named a.peer pr))
+    by f (Works id e g own' at (Refuses say q y en gr)) tk pr = lost q true _ _ pr gr (gone-by t f.reply id.0 other rt refl (inr (eqb-self id.0)))
+    by f (Works id e g own' at (Dooms say a y b d st en gr aty sb sd)) tk pr = lost a.peer false _ _ pr gr (gone-by t f.reply x own ro refl (inl (ap (names Out x) (sym en) ∙ named a.peer pr)))
+    by f (Works id e g own' at (Drops say a y st en gr)) tk pr = lost a.peer false _ _ pr gr (gone-by t f.reply x own ro refl (inr (ap (names Out x) (sym en) ∙ named a.peer pr)))
     by f d tk pr = absurd cc
 
 -- ---- how a row stands whose end comes up
@@ -155,7 +155,7 @@ module _ (laws : NodeLaws) (t : ℕ) (l : Life) (v : Event) (fresh : ℕ) (f : E
                   let s : new_row Dialler (Some m) None t ≡ new_row side p c t = same_Some _ _ g in
                   let w : Some m ≡ Some q = ap (λ (r : EndRow). r.peer) s ∙ pq in
                   held-is q k j ∙ ap (names k j) (dial-idle l.node v f deed q o (is ∙ ap (λ r. event.Dial r o) (same_Some m q w))) ∙ none k
-              by (event.Incoming link) is g = absurd (let s : new_row Acceptor None (Some link) t ≡ new_row side p c t = same_Some _ _ g in let z : Acceptor ≡ Dialler = ap (λ (r : EndRow). r.side) s ∙ sd in cc)
+              by (event.Incoming link) is g = absurd (let s : new_row Acceptor None (conn_behind link) t ≡ new_row side p c t = same_Some _ _ g in let z : Acceptor ≡ Dialler = ap (λ (r : EndRow). r.side) s ∙ sd in cc)
               by u is g = absurd cc
 
   pub lives-life : IsLife (t + 1) (life_after t v f.reply (after l.node v f) l)

@@ -22,16 +22,16 @@ pub use Rattle.dist_core.proofs.Words.{is_in_use, closes, comes_up, fresh_attemp
 pub use Rattle.dist_core.proofs.Words.{superseded_in, supersedes, NodeState, ends_after, new_id, node_after, opening, Heard, IsChallenge, IsName, StepRow}
 pub use Rattle.dist_core.proofs.Words.{Taken, after, effect_of, sender_in, sender_to, step, step_result}
 pub use Rattle.dist_core_laws.specs.{Laws.IsOther, Records.AreRight}
-pub use Rattle.dist_world_model.specs.Agreement.{Fits, Agreement, AllFit, AreAgreed, AreSetups, Counts, IsAgreed, IsReached, IsUp, Joins, bare}
+pub use Rattle.dist_world_model.specs.Agreement.{Fits, Agreement, AllFit, AreAgreed, AreSetups, Counts, IsAgreed, IsFooled, IsReached, IsUp, Joins, NoImpostors, OpenAgreement, bare}
 pub use Rattle.dist_world_model.specs.{Crossing.Crosses, Crossing.lesser, Holders.AreApart, Holders.claim_in, Holders.get_along, Holders.held_before, Run.run}
 pub use Rattle.dist_world_model.specs.Delivery.{after_delivery, body_taken, change_to, conns_after_saying, more_said, says, spoken_on, text_to}
 pub use Rattle.dist_world_model.specs.Happenings.{accepted_by, applied_at, conn_of, happens, is_nonempty, is_open_end, life_after, life_after_end, most_applied}
-pub use Rattle.dist_world_model.specs.Happenings.{most_begins, most_connections, new_conn, new_life, next_end, notify, notify_node, reached_life, reached_row}
-pub use Rattle.dist_world_model.specs.Happenings.{shut_all, shut_row, ticked_on, with_node, without_closing, world_after, ◌>>=◌, ◌>>◌}
+pub use Rattle.dist_world_model.specs.Happenings.{most_begins, new_conn, new_life, next_end, notify, notify_node, reached_life, reached_row}
+pub use Rattle.dist_world_model.specs.Happenings.{is_outside, shut_all, shut_row, ticked_on, with_node, without_closing, world_after, ◌>>=◌, ◌>>◌}
 pub use Rattle.dist_world_model.specs.{Laws.AllLives, Laws.Alone, Laws.Apart, Laws.Decided, Laws.InTurn, Laws.OwnDigests, Laws.UpsAreLinked, NodeLaws.NodeLaws}
 pub use Rattle.dist_world_model.specs.{Lists.add_some, Lists.at_each, Lists.at_place, Lists.first_where, declared.happening.Happening.Happening}
 pub use Rattle.dist_world_model.specs.Order.{Accepted, AreAbove, AreInOrder, InOrder, Numbers, OnlyLastRuns}
-pub use Rattle.dist_world_model.specs.Rows.{EndRow, claim_before, claim_when, dooms, given_by, holds_peer, kind_by, mark, new_row, once, past, peer_by, rises}
-pub use Rattle.dist_world_model.specs.Rows.{row_after, rows_after, says_reply, shuts_end, takes_name}
+pub use Rattle.dist_world_model.specs.Rows.{EndRow, claim_before, claim_when, conn_behind, dooms, given_by, holds_peer, kind_by, mark, new_row, once, past, peer_by, rises}
+pub use Rattle.dist_world_model.specs.Rows.{most_connections, row_after, rows_after, says_reply, shuts_end, takes_name}
 pub use Rattle.dist_world_model.specs.Stones.{DialsIdle, Replaces, RisesFirst, TakesOver, entered_before, left_before}
 pub use Rattle.dist_world_model.specs.World.{Conn, Life, Text, World, empty, end_at, end_of_life, row_at, row_of_life, running, runs, runs_for}

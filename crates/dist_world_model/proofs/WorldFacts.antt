@@ -124,7 +124,7 @@ heading hap w ls cs act = by act
     by : Act hap w ls cs → Heading hap w ls
     by (Begins who s base c fc at nm keep none is k) = One_more who s base c fc at nm none is
     by (Ends i old there live is k) = at i _ is (λ l e. record { who = refl; begun = refl; setup = refl; over = inr (runs-none l (ap runs (alike w.lives i l old e there) ∙ live)) })
-    by (Reaches i id j old away there live ata livea d n is k) = at i _ is (λ l e. record { who = refl; begun = refl; setup = refl; over = inl refl })
+    by (Reaches i id j old away there live ata livea d n few is k) = at i _ is (λ l e. record { who = refl; begun = refl; setup = refl; over = inl refl })
     by (Comes side c n is k) = All_there (subst (Heads w.clock w.lives) (sym is) (λ i l there. (l, there, head-refl w.clock l)))
     by (Reports i old v fresh f ds fits there live ok ready is k) = at i _ is (λ l e. let z = alike w.lives i old l there e in record { who = ap (λ (l : Life). l.who) z; begun = ap (λ (l : Life). l.begun) z; setup = ap (λ (l : Life). bare l.node.setup) z; over = inl (ap (λ (l : Life). l.over) z) })
     by (Resets a i old v r there live ok is k) = at i _ is (λ l e. record { who = refl; begun = refl; setup = bare-stays old.node.setup v ∙ ap (λ (l : Life). bare l.node.setup) (alike w.lives i old l there e); over = inl refl })
@@ -190,7 +190,7 @@ module _ (laws : NodeLaws) where
         by : Act hap w ls cs → AreWired ls cs
         by (Begins who s base c fc at nm keep none is k) = to _ _ is k (begun-wired w.lives (new_life who w.clock s c) refl refl w.conns h.wired)
         by (Ends i old at live is k) = to _ _ is k (turned-wired i (life_after_end w.clock) w.lives old at refl refl (shut-kept w.clock old.rows) w.conns h.wired)
-        by (Reaches i id j old away at live ata livea dialing free is k) = let l = lives i old at in to _ _ is k (reached-wired i id j w.lives w.conns old away at ata (l.beside live) dialing free h.wired)
+        by (Reaches i id j old away at live ata livea dialing free few is k) = let l = lives i old at in to _ _ is k (reached-wired i id j w.lives w.conns old away at ata (l.beside live) dialing free few h.wired)
         by (Comes side c n is k) = to _ _ is k (come-wired side c n w.lives w.conns h.wired)
         by (Reports i old v fresh f ds fits at live ok ready is k) =
             to _ _ is k (notified-kept laws (record { w = w; lives = lives; fit = h.fits; wired = h.wired; i = i; old = old; v = v; fresh = fresh; f = f; small = fits known; at = at; live = live; ok = ok }) ds ready)
@@ -214,7 +214,7 @@ kept-empty ss h = record {
   seen = λ i l at. absurd cc;
   fits = λ i l at. absurd cc;
   owns = λ i l at. absurd cc;
-  wired = (record { dialled = λ c k at. absurd cc; target = λ c k at. absurd cc; accepted = λ c y k at. absurd cc; only = λ i p c x at. absurd cc }, λ c k at. absurd cc);
+  wired = (record { dialled = λ c k at. absurd cc; target = λ c k at. absurd cc; accepted = λ c y k at. absurd cc; only = λ i p c x at. absurd cc; behind = λ c k at. absurd cc }, λ c k at. absurd cc);
   order = λ i j a b lt at. absurd cc;
 }
 

@@ -2,7 +2,7 @@
 use Rattle.std.specs.Prelude.{if◌then◌else◌, ◌&&◌, ◌≡◌, ◌≢◌, ◌<◌, ◌^◌, ◌⊎◌}
 use Rattle.dist_world_model.specs.Words.{ℕ, List, [], Option, Some, None, UpRecord, slice_get, Setup, Creation, Happening, own_digest, AllByRecursion}
 use Rattle.dist_world_model.specs.Words.{IsNodeName, common, announced_in, knows_six}
-use Rattle.dist_world_model.specs.{Rows.EndRow, World.World, World.Life, World.Conn, World.running, World.empty, Run.run}
+use Rattle.dist_world_model.specs.{Rows.EndRow, World.World, World.Life, World.Conn, World.running, World.empty, Run.run, Happenings.conn_of}
 use Rattle.dist_world_model.specs.declared.happening.Happening.TheVariants as happening
 use Rattle.dist_core_ends.specs.declared.known.End.TheVariants as ends
 
@@ -34,6 +34,14 @@ pub record Counts (w : World) (a b : ℕ) : Type 0 where
   pub is_up : slice_get life.node.ends id ≡ Some (ends.Up kept)
   pub named : slice_get w.setups b ≡ Some other
   pub peer : kept.peer ≡ other.name
+
+-- NODE a TAKES SOMEBODY OUTSIDE FOR NODE b: it counts b as up on an end that has no connection of this world
+abbrev pub IsFooled : World → ℕ → ℕ → Type 0
+IsFooled w a b = (u : Counts w a b) × (conn_of (slice_get u.life.rows u.id) ≡ None)
+
+-- NO IMPOSTOR IS UP: no node takes somebody outside for a node
+abbrev pub NoImpostors : World → Type 0
+NoImpostors w = (a b : ℕ) → IsFooled w a b → ⊥
 
 -- A SETUP WITHOUT ITS COOKIES AND ITS ALLOW LIST, which a node may change while it runs
 abbrev pub bare : Setup → Setup
@@ -75,6 +83,11 @@ pub record AreAgreed (w : World) (a b c d : ℕ) (x : IsUp w a b c) (y : IsUp w 
 abbrev pub Agreement : World → Type 0
 Agreement w = (a b c d : ℕ) → a ≢ b → (x : IsUp w a b c) (y : IsUp w b a d) → AreAgreed w a b c d x y
 
+-- THE AGREEMENT WITH STRANGERS ABOUT: any two nodes that each count the other as up, on whatever, and take nobody outside for it
+abbrev pub OpenAgreement : World → Type 0
+OpenAgreement w = (a b : ℕ) → a ≢ b → (IsFooled w a b → ⊥) → (IsFooled w b a → ⊥) → (u : Counts w a b) (v : Counts w b a)
+    → (c d : ℕ) × (x : IsUp w a b c) × (y : IsUp w b a d) × (x.kept ≡ u.kept) × (y.kept ≡ v.kept) × AreAgreed w a b c d x y
+
 -- ---- what is asked of a world: the nodes' names are names, and distinct; numbers fit their types
 
 -- the setup's name is a name, and its flags fit 64 bits
@@ -92,6 +105,7 @@ abbrev pub Fits : Happening → Type 0
 Fits (happening.Begin i c) = c.0 < 2 ^ 32
 Fits (happening.BeginAs i s) = let c = s.creation in c.0 < 2 ^ 32
 Fits (happening.Take i id fresh) = fresh < 2 ^ 32
+Fits (happening.Outside i v fresh) = fresh < 2 ^ 32
 Fits h = Unit {0}
 
 -- each of them fits

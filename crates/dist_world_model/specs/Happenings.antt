@@ -5,7 +5,7 @@ use Rattle.dist_world_model.specs.Words.{NodeState, w16, length, is_none, option
 use Rattle.dist_world_model.specs.Words.{opening, same_name, Happening}
 use Rattle.dist_world_model.specs.World.{World, Life, Conn, runs, running, row_at, end_at}
 use Rattle.dist_world_model.specs.Delivery.{empty_text, after_delivery, body_taken, text_to, change_to, conns_after_saying}
-use Rattle.dist_world_model.specs.{Lists.at_place, Rows.EndRow, Rows.rows_after, Rows.once}
+use Rattle.dist_world_model.specs.{Lists.at_place, Rows.EndRow, Rows.rows_after, Rows.once, Rows.most_connections, Rows.conn_behind}
 use Rattle.dist_world_model.specs.declared.happening.Happening.TheVariants as happening
 use Rattle.dist_core.specs.declared.event.Event.TheVariants as event
 
@@ -27,10 +27,6 @@ test >> o = if test then o else None
 -- how many times nodes may begin
 abbrev pub most_begins : ℕ
 most_begins = 1048576
-
--- how many connections there may be
-abbrev pub most_connections : ℕ
-most_connections = 1048576
 
 -- how many happenings may apply
 abbrev pub most_applied : ℕ
@@ -213,6 +209,23 @@ take_read reading w node id fresh = do
 abbrev pub take_frame : World → ℕ → EndId → ℕ → Option World
 take_frame = take_read (λ body. body)
 
+-- ---- somebody outside
+
+-- the event comes from outside: a connection that is none of the world, or what is told of an end that has none
+abbrev pub is_outside : World → ℕ → Event → Bool
+is_outside w i (event.Incoming link) = is_none (conn_behind link)
+is_outside w i (event.Opened id link) = is_none (conn_of (row_at w i id.0))
+is_outside w i (event.Frame id body) = is_none (conn_of (row_at w i id.0))
+is_outside w i v = false
+
+-- OUTSIDE: a running node gets such an event: somebody who is no node of this world connects, is reached, or sends any frame.
+-- What the end then says goes to nobody here
+abbrev pub notify_outside : World → ℕ → Event → ℕ → Option World
+notify_outside w node v fresh = do
+  i ← running w node
+  is_outside w i v
+  notify w i v fresh
+
 -- ---- THE HAPPENINGS
 
 -- the world after one that applies, but for the clock
@@ -229,6 +242,7 @@ world_after w (happening.Deliver node id k) = deliver w node id k
 world_after w (happening.Take node id fresh) = take_frame w node id fresh
 world_after w (happening.Lose node id why) = notify_node w node (event.Lost id why)
 world_after w (happening.Reset node v) = reset w node v
+world_after w (happening.Outside node v fresh) = notify_outside w node v fresh
 
 -- nothing is known of the last step
 abbrev pub without_closing : World → World

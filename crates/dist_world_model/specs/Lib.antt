@@ -11,6 +11,7 @@ pub mod Stones
 pub mod Order
 pub mod Laws
 pub mod Agreement
+pub mod Strangers
 pub mod Frames
 pub mod OwnSetups
 pub mod Renewals

@@ -7,7 +7,7 @@ use Rattle.dist_core.specs.declared.event.Event.TheVariants as event
 use Rattle.dist_core.specs.declared.reply.Note.{Note}
 use Rattle.dist_core.specs.declared.reply.Note.TheVariants as note
 
--- THE ROW OF AN END: its side, peer and connection, and the numbers of the happenings at which it was
+-- THE ROW OF AN END: its side, peer and connection of the world, where it has one, and the numbers of the happenings at which it was
 -- given out, took a name, was doomed, sent its reply, came up, was closed
 pub record EndRow : Type 0 where
   pub side : Side
@@ -24,10 +24,18 @@ pub record EndRow : Type 0 where
 abbrev pub new_row : Side → Option Name → Option ℕ → ℕ → EndRow
 new_row side peer conn t = record { side = side; peer = peer; conn = conn; given = t; named = None; doomed = None; replied = None; rose = None; closed = None }
 
+-- how many connections of a world there may be (our own choice)
+abbrev pub most_connections : ℕ
+most_connections = 1048576
+
+-- THE CONNECTION BEHIND A LINK: a number below that is a connection of the world, any other one is somebody's outside
+abbrev pub conn_behind : ℕ → Option ℕ
+conn_behind link = if nat_lt link most_connections then Some link else None
+
 -- the row of the end that an event gives out
 abbrev pub given_by : ℕ → Event → Option EndRow
 given_by t (event.Dial p o) = Some (new_row Dialler (Some p) None t)
-given_by t (event.Incoming link) = Some (new_row Acceptor None (Some link) t)
+given_by t (event.Incoming link) = Some (new_row Acceptor None (conn_behind link) t)
 given_by t _ = None
 
 -- ---- what a reply writes

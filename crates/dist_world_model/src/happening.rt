@@ -2,7 +2,7 @@
 ghost use Rattle.std.specs.Prelude.{◌<◌, ◌^◌};
 ghost use Rattle.dist_world_model.specs.Agreement.{Fits};
 
-use dist_core::{Change, Opening, Setup, Why};
+use dist_core::{Change, Event, Opening, Setup, Why};
 use dist_names::{Creation, NodeName};
 use dist_peers::EndId;
 
@@ -84,6 +84,14 @@ pub enum Happening {
         node: usize,
         change: Change,
     },
+    /// Somebody who is no node of the world, as any other node or a port scanner, does this to a running node: `Incoming`, where
+    /// the link is 1,048,576 or more; `Opened`, at a dialled end that has no connection of the world; `Frame`, at an end that has
+    /// none. It applies where the step succeeds. What the end says goes to nobody of the world.
+    Outside {
+        node: usize,
+        event: Event,
+        fresh: u32,
+    },
 }
 
 // A number of 32 bits is below 2^32.
@@ -104,6 +112,11 @@ impl Happening {
             Happening::Take {
                 node: _,
                 end_: _,
+                fresh,
+            } => fits(*fresh),
+            Happening::Outside {
+                node: _,
+                event: _,
                 fresh,
             } => fits(*fresh),
             _ => {}

@@ -3,7 +3,8 @@
 ghost use Rattle.std.specs.Prelude.{◌≡◌, ℕ, List, [], Some, slice_get};
 ghost use Rattle.dist_core_setup.specs.declared.setup.Setup.{Setup};
 ghost use Rattle.dist_world_model.specs.Laws.{AllLives, Alone, Apart, Decided, InTurn, OwnDigests, UpsAreLinked};
-ghost use Rattle.dist_world_model.specs.Agreement.{Agreement, AreSetups, AllFit, IsReached, Counts, IsUp};
+ghost use Rattle.dist_world_model.specs.Agreement.{Agreement, AreSetups, AllFit, IsReached, Counts, IsUp, IsFooled, NoImpostors, OpenAgreement};
+ghost use Rattle.dist_world_model.specs.Strangers.{AreHonest, AreInside};
 ghost use Rattle.dist_world_model.specs.{declared.happening.Happening.Happening, World.World, World.Life, World.empty, World.running, Run.run};
 ghost use Rattle.dist_world_model.specs.declared.happening.Happening.TheVariants as happening;
 ghost use Rattle.dist_world_model.specs.{Order.AreAbove, Order.AreInOrder, Order.OnlyLastRuns, Frames.AreCanonical};
@@ -64,10 +65,14 @@ pub fn incarnations_are_in_order()
     nodes_keep_laws();
 }
 
-/// Every end of a running incarnation that is up has a connection, so whoever counts a node as up does so on a connection.
+/// Where nothing comes from outside, every end of a running incarnation that is up has a connection. Whoever counts a node as up, and
+/// does not take somebody outside for it, does so on a connection. Nobody takes somebody outside for a node where no end came up, by
+/// what somebody outside did, under the name of a node.
 pub fn ups_are_linked()
-    ensures runs { (setups : List Setup) (happenings : List Happening) → AllLives UpsAreLinked (run happenings (empty setups)) }
-    ensures counted { (w : World) (a b : ℕ) → IsReached w → (u : Counts w a b) → (c : ℕ) × (x : IsUp w a b c) × (x.kept ≡ u.kept) }
+    ensures runs { (setups : List Setup) (happenings : List Happening) → AreInside happenings → AllLives UpsAreLinked (run happenings (empty setups)) }
+    ensures counted { (w : World) (a b : ℕ) → (IsFooled w a b → ⊥) → (u : Counts w a b) → (c : ℕ) × (x : IsUp w a b c) × (x.kept ≡ u.kept) }
+    ensures honest { (setups : List Setup) (happenings : List Happening) → AreHonest setups happenings (empty setups)
+        → NoImpostors (run happenings (empty setups)) }
 {
     nodes_keep_laws();
 }
@@ -78,6 +83,7 @@ pub fn ups_are_linked()
 pub fn nodes_agree()
     ensures runs { (setups : List Setup) (happenings : List Happening) → AreSetups setups → AllFit happenings → Agreement (run happenings (empty setups)) }
     ensures reached { (w : World) → IsReached w → Agreement w }
+    ensures strangers { (w : World) → IsReached w → OpenAgreement w }
     ensures begun { (setups : List Setup) (happenings : List Happening) → AreAsBegun setups happenings (run happenings (empty setups)) }
     ensures traced { (w : World) → IsReached w
         → (happenings : List Happening) × (w ≡ run happenings (empty w.setups)) × AreAsBegun w.setups happenings w }

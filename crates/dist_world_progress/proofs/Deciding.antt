@@ -28,7 +28,7 @@ use Rattle.dist_world_progress.proofs.Taking.{due_taken, row-on, some-there, tak
 -- ---- what a happening of a handshake leaves
 
 -- a connection but for what is on its way
-abbrev seats : Conn → Conn
+abbrev pub seats : Conn → Conn
 seats k = record k { there = empty_text; back = empty_text }
 
 -- connections, ends and running incarnations are those that were, and no node made more than s steps
@@ -49,7 +49,7 @@ kept-then s t ls ms ns cs ds es a b = record {
   life = λ i l at. (let x = a.life i l at in let y = b.life i x.0 x.1 in let m = x.3 in let n = y.3 in (y.0, y.1, y.2 ∙ x.2, omega (arith, m, n)));
 }
 
-seats-at : (i : ℕ) (g : Conn → Conn) → ((k : Conn) → seats (g k) ≡ seats k) → (cs : List Conn) (c : ℕ) → option_map seats (slice_get (at_place i g cs) c) ≡ option_map seats (slice_get cs c)
+pub seats-at : (i : ℕ) (g : Conn → Conn) → ((k : Conn) → seats (g k) ≡ seats k) → (cs : List Conn) (c : ℕ) → option_map seats (slice_get (at_place i g cs) c) ≡ option_map seats (slice_get cs c)
 seats-at i g h cs c = ap (option_map seats) (get-place i g cs c) ∙ elim (eqb i c) as (λ b. option_map seats (cond b (option_map g (slice_get cs c)) (slice_get cs c)) ≡ option_map seats (slice_get cs c)) [
   | true ↦ by (slice_get cs c)
   | false ↦ refl
@@ -59,11 +59,11 @@ seats-at i g h cs c = ap (option_map seats) (get-place i g cs c) ∙ elim (eqb i
     by None = refl
     by (Some k) = ap (λ (k : Conn). Some k) (h k)
 
-text-seats : (side : Side) (g : Text → Text) (k : Conn) → seats (change_to side g k) ≡ seats k
+pub text-seats : (side : Side) (g : Text → Text) (k : Conn) → seats (change_to side g k) ≡ seats k
 text-seats Dialler g k = refl
 text-seats Acceptor g k = refl
 
-said-seats : (cs : List Conn) (o : Option EndRow) (say : List ℕ) (c : ℕ) → option_map seats (slice_get (conns_after_saying cs o say) c) ≡ option_map seats (slice_get cs c)
+pub said-seats : (cs : List Conn) (o : Option EndRow) (say : List ℕ) (c : ℕ) → option_map seats (slice_get (conns_after_saying cs o say) c) ≡ option_map seats (slice_get cs c)
 said-seats cs None say c = refl
 said-seats cs (Some row) say c = by row.conn
   where
@@ -75,7 +75,7 @@ said-seats cs (Some row) say c = by row.conn
     by None = refl
     by (Some d) = seats-at d (says row.side say) (spoken row.side) cs c
 
-first-same : {A : Type 0} (test : A → Bool) (i : ℕ) (g : A → A) (xs : List A) → ((x : A) → slice_get xs i ≡ Some x → test (g x) ≡ test x) → first_where test (at_place i g xs) ≡ first_where test xs
+pub first-same : {A : Type 0} (test : A → Bool) (i : ℕ) (g : A → A) (xs : List A) → ((x : A) → slice_get xs i ≡ Some x → test (g x) ≡ test x) → first_where test (at_place i g xs) ≡ first_where test xs
 first-same test i g [] h = refl
 first-same test zero g (x ∷ xs) h = ap (λ b. cond b (Some 0) (option_map suc (first_where test xs))) (h x refl)
 first-same test (suc i) g (x ∷ xs) h = ap (λ o. cond (test x) (Some 0) (option_map suc o)) (first-same test i g xs h)
@@ -160,7 +160,7 @@ module _ (laws : NodeLaws) (w : World) (seen : AllLives (IsWhole w.clock) w) whe
       by None g e = absurd (false≢true e)
       by (Some x) g e = g i r
 
-clock-on : (w : World) (h : Happening) → (happens w h).clock ≤ w.clock + 1
+pub clock-on : (w : World) (h : Happening) → (happens w h).clock ≤ w.clock + 1
 clock-on w h = by (applied_at w h)
   where
     by : (o : Option World) → (ticked_on w o).clock ≤ w.clock + 1
@@ -275,7 +275,7 @@ module _ (laws : NodeLaws) (w : World) (flows : IsFlowing w) (c : ℕ) (k : Conn
       }
 
   -- a dialled end that awaits its connection learns of it
-  opened-step : (n : NodeState) (id : EndId) (link : ℕ) (e : End) → slice_get n.ends id.0 ≡ Some e → is_dialing (Some e) ≡ true → is_spent n ≡ false → (x : Reply × NodeState) × (step n (event.Opened id link) 0 ≡ Ok x)
+  pub opened-step : (n : NodeState) (id : EndId) (link : ℕ) (e : End) → slice_get n.ends id.0 ≡ Some e → is_dialing (Some e) ≡ true → is_spent n ≡ false → (x : Reply × NodeState) × (step n (event.Opened id link) 0 ≡ Ok x)
   unfolding effect_of
   opened-step n id link (ends.Attempt a) at dials left = by a.phase refl dials
     where

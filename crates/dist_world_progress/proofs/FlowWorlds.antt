@@ -6,17 +6,17 @@ use Rattle.dist_world_model.proofs.Words.{Side, Acceptor, Dialler, EndId, End, P
 use Rattle.dist_world_model.proofs.Words.{Event, after_delivery, body_taken, change_to, conns_after_saying, more_said, says, spoken_on, text_to, accepted_by, conn_of}
 use Rattle.dist_world_model.proofs.Words.{life_after_end, new_conn, new_life, next_end, reached_life, with_node, at_place, NodeLaws, EndRow}
 use Rattle.dist_world_model.proofs.Words.{given_by, mark, new_row, Conn, Life, Text, World, empty, end_of_life, row_at, row_of_life, run}
-use Rattle.dist_world_model.proofs.Words.{AreSetups, AllFit, Fits}
+use Rattle.dist_world_model.proofs.Words.{AreSetups, AllFit, Fits, is_outside}
 use Rattle.dist_world_model.proofs.AllWires.{same-conn}
 use Rattle.dist_world_model.proofs.ConnectionRows.{IsEndOf, RowOf}
 use Rattle.dist_world_model.proofs.{EndStates.Beside, EventEnds.frame-end, EventEnds.gives}
 use Rattle.dist_world_progress.proofs.Flows.{Fades, Flow, Nameless, Stays, flow-accepted, flow-fades}
 use Rattle.dist_world_progress.proofs.FlowSteps.{TakenOf, Took, Untaken, accepted-flows, dialled-flows, other-fades}
-use Rattle.dist_world_model.proofs.HappeningEffects.{Accepts, Act, Begins, Comes, Ends, IsPlain, Plain, Reaches, Ready, Reports, Resets, Takes}
+use Rattle.dist_world_model.proofs.HappeningEffects.{Accepts, Act, Begins, Comes, Ends, IsPlain, Plain, Reaches, Ready, Reports, Resets, Strange, Takes}
 use Rattle.dist_world_model.proofs.IncarnationEffects.{kept-by-all}
 use Rattle.dist_world_model.proofs.Lookups.{at-other, changed-at, end_in, far, more-at, place-twice, row_in}
 use Rattle.dist_world_model.proofs.{OtherRows.end-after, OtherRows.own-after, Places.at-more, Places.at-one}
-use Rattle.dist_world_model.proofs.{GrowingRows.spoken-none, SendingWires.Found, SendingWires.conn-not, SendingWires.dial-conn, SendingWires.found, SendingWires.new-row-at}
+use Rattle.dist_world_model.proofs.{GrowingRows.spoken-none, SendingWires.Found, SendingWires.conn-not, SendingWires.dial-conn, SendingWires.found, SendingWires.new-row-at, SendingWires.strange-free, SendingWires.strange-given}
 use Rattle.dist_world_model.proofs.SilentWires.{Notifying, beside, deed, get-now, life, ls', me, now, own-row, rows', the-row}
 use Rattle.dist_world_model.proofs.{StepEffects.is_given, WholeFrames.on_way, WholeFrames.way-delivered}
 use Rattle.dist_world_model.proofs.WorldFacts.{IsKept, happening-keeps, kept-empty}
@@ -277,7 +277,7 @@ module _ (laws : NodeLaws) (notifying : Notifying) (flowing : (let w = notifying
         subst (λ o. Flow there (on_way (more_said f.reply.say k.back)) d o) (sym end-new) (subst (λ z. Flow there z d (Some ends.Unnamed)) same (flow-accepted there back d free_was))
 
     row-at : slice_get (rows' laws notifying) (me laws notifying) ≡ Some (mark w.clock f.reply (me laws notifying) (new_row Acceptor None (Some c) w.clock))
-    row-at = new-row-at laws notifying (new_row Acceptor None (Some c) w.clock) given (ap (given_by w.clock) is)
+    row-at = new-row-at laws notifying (new_row Acceptor None (Some c) w.clock) given (ap (given_by w.clock) is ∙ ap (λ o. Some (new_row Acceptor None o w.clock)) (wired.0.behind c k ak))
 
     accept-flows : (ds : List Conn) → ds ≡ at_place c (accepted_by next) w.conns → Spoken ds
     accept-flows ds e = subst (AreFlowing (ls' laws notifying)) (sym ((λ n. conns_after_saying (e n) (row-at n) f.reply.say) ∙ place-twice c (accepted_by next) (says Acceptor f.reply.say) w.conns))
@@ -285,9 +285,22 @@ module _ (laws : NodeLaws) (notifying : Notifying) (flowing : (let w = notifying
         (λ h ah. let z = same-conn w.conns c k h ak ah in let P : Conn → Type 0 = λ h. FlowAt (ls' laws notifying) (take_in h) in subst P z accepted-flow)
         (λ d h n ah. other-flows d h ah (λ x a b. given)))
 
-  pub notified-flows : (ds : List Conn) → Ready w i v ds → Spoken ds
-  notified-flows ds (Plain plain opens e) = plain-flows ds plain e
+  -- something from outside
+  strange-flows : (ds : List Conn) → is_outside w i v ≡ true → ds ≡ w.conns → Spoken ds
+  strange-flows ds strange e = elim (is_given v) as (λ b. is_given v ≡ b → Spoken ds) [
+    | true ↦ λ g. silent-spoken ds e (strange-given laws notifying strange g) (λ c x a b. g)
+    | false ↦ λ ng. own (found laws notifying ng) (strange-free laws notifying strange ng)
+  ] refl
+    where
+      own : Found laws notifying → conn_of (slice_get old.rows (me laws notifying)) ≡ None → Spoken ds
+      own q none =
+          let free : q.x0.conn ≡ None = ap conn_of (sym q.at-x) ∙ none in
+          silent-spoken ds e (ap conn_of q.row-is ∙ free) (conn-not laws notifying q.x0 q.at-x free)
+
+  pub notified-flows : {h : Happening} (ds : List Conn) → Ready h w i v fresh ds → Spoken ds
+  notified-flows ds (Plain plain e) = plain-flows ds plain e
   notified-flows ds (Accepts c k is ak free target e) = accept-flows c k is ak free target ds e
+  notified-flows ds (Strange a is runs strange e) = strange-flows ds strange e
   notified-flows ds (Takes id row c k body is ar on ak first e) = take-flows ds id row c k body is ar on ak first e
 
 -- ---- EVERY HAPPENING KEEPS IT
@@ -302,7 +315,7 @@ module _ (laws : NodeLaws) (hap : Happening) (w : World) (known : Fits hap) (h :
       by : Act hap w ls cs → AreFlowing ls cs
       by (Begins who s base c fc at nm kind none is k) = to _ _ is k (all-stay w.lives _ w.conns (begun-ends w.lives (new_life who w.clock s c) refl) flow)
       by (Ends i old at live is k) = to _ _ is k (all-stay w.lives _ w.conns (turned-ends i (life_after_end w.clock) w.lives old at refl) flow)
-      by (Reaches i id j old away at live ata livea dialing free is k) = to _ _ is k (reached-flows i id j w.lives w.conns old at dialing flow)
+      by (Reaches i id j old away at live ata livea dialing free few is k) = to _ _ is k (reached-flows i id j w.lives w.conns old at dialing flow)
       by (Comes side c n is k) = to _ _ is k (come-flows side c n w.lives w.conns flow)
       by (Reports i old v fresh f ds fits at live ok ready is k) =
           to _ _ is k (notified-flows laws (record { w = w; lives = λ i l at. (let s = h.seen i l at in s.0); fit = h.fits; wired = h.wired; i = i; old = old; v = v; fresh = fresh; f = f; small = fits known; at = at; live = live; ok = ok }) flow ds ready)

@@ -60,7 +60,7 @@ pub way-empty : (x : Text) (b : List ℕ) → on_way x ≡ [] → first_body w16
 way-empty x b e is = let st = starts x.come (began x.come b is).0 in let n : length (x.come ++ x.said) ≡ 0 = ap length e in omega (arith, n, length-append x.come x.said, st.long)
 
 -- the body that is taken is the first on the way, and what is behind it is on the way still
-way-first : (x : Text) (b c rest : List ℕ) → on_way x ≡ body_frame w16 c ++ rest → length c < 2 ^ 16 → first_body w16 x.come ≡ Some b → (b ≡ c) × (on_way (body_taken x) ≡ rest)
+pub way-first : (x : Text) (b c rest : List ℕ) → on_way x ≡ body_frame w16 c ++ rest → length c < 2 ^ 16 → first_body w16 x.come ≡ Some b → (b ≡ c) × (on_way (body_taken x) ≡ rest)
 way-first x b c rest e fits is =
     let g = began x.come b is in
     let st = starts x.come g.0 in

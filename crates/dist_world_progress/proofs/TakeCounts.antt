@@ -3,7 +3,7 @@ use Rattle.dist_world_model.specs.declared.happening.Happening.{Happening}
 use Rattle.dist_world_model.proofs.Words.{◌≡◌, ℕ, ◌+◌, ◌<◌, ◌≤◌, length, true, false, cond, ◌&&◌, eqb, List, [], ◌∷◌, IfSome, slice_get, Some, None, Ok, Option, sym}
 use Rattle.dist_world_model.proofs.Words.{refl, ap, ◌∙◌, subst, arith, eqb-true, and_parts, same_Some, w16, first_body, false≢true}
 use Rattle.dist_world_model.proofs.Words.{EndId, End, other_view, ends_after, Setup, NodeState, after, after_change, effect_of, step, Effect, Event, Reply, NodeLaws}
-use Rattle.dist_world_model.proofs.Words.{conn_of, text_to, applied_at, happens, life_after, life_after_end, new_life, notify, reached_life, ticked_on}
+use Rattle.dist_world_model.proofs.Words.{conn_of, is_outside, text_to, applied_at, happens, life_after, life_after_end, new_life, notify, reached_life, ticked_on}
 use Rattle.dist_world_model.proofs.Words.{with_node, without_closing, world_after, AllLives, at_place, run, Conn, Life, World, empty, end_of_life, row_at, running, runs}
 use Rattle.dist_world_model.proofs.{Conditions.if_holds, Conditions.if_ok, Conditions.if_there}
 use Rattle.dist_world_progress.proofs.{FlowSteps.other-fades, FlowWorlds.begun-ends, FlowWorlds.turned-ends}
@@ -22,10 +22,10 @@ same-stage : (o u : Option End) → o ≡ u → stage_of o ≤ stage_of u
 same-stage o u e = let q : stage_of o ≡ stage_of u = ap stage_of e in omega (arith, q)
 
 -- the event is of the end that it names
-event-end : (n : NodeState) (v : Event) (f : Effect) (id : EndId) → Deed n v f → own_id v ≡ Some id → f.reply.end_ ≡ id
+pub event-end : (n : NodeState) (v : Event) (f : Effect) (id : EndId) → Deed n v f → own_id v ≡ Some id → f.reply.end_ ≡ id
 event-end n v f id (Dials p o is idle) h = absurd (let z = ap own_id (sym is) ∙ h in cc)
 event-end n v f id (Comes_in link is) h = absurd (let z = ap own_id (sym is) ∙ h in cc)
-event-end n v f id (Works x e g own at s w) h = end-of n x e g w ∙ same_Some x id (sym own ∙ h)
+event-end n v f id (Works x e g own at w) h = end-of n x e g w ∙ same_Some x id (sym own ∙ h)
 
 module _ (laws : NodeLaws) where
   -- ---- an event
@@ -73,7 +73,7 @@ module _ (laws : NodeLaws) where
         by : Act hap w x.lives x.conns → stage w ≤ stage x
         by (Begins who s base c fc at nm kind none is k) = to _ is (same-stage _ _ (begun-ends w.lives (new_life who w.clock s c) refl i p))
         by (Ends j old at live is k) = to _ is (same-stage _ _ (turned-ends j (life_after_end w.clock) w.lives old at refl i p))
-        by (Reaches j id d old away at live ata livea dialing free is k) = to _ is (same-stage _ _ (turned-ends j (reached_life id (length w.conns)) w.lives old at refl i p))
+        by (Reaches j id d old away at live ata livea dialing free few is k) = to _ is (same-stage _ _ (turned-ends j (reached_life id (length w.conns)) w.lives old at refl i p))
         by (Comes side c n is k) = to _ is (same-stage _ _ refl)
         by (Reports j old v fresh f ds fits at live ok ready is k) =
             to _ is (changed-at (λ o. end_of_life o p) (λ a b. stage_of a ≤ stage_of b) (λ a. same-stage a a refl) j (λ (l : Life). life_after w.clock v f.reply (after old.node v f) old) w.lives old at i
@@ -112,6 +112,12 @@ module _ (laws : NodeLaws) where
         if_there Forward (let t = text_to row.side k in first_body w16 t.come) _ (λ body is.
         notified-forward i _ (event.Frame id body) fresh refl refl e)))))
 
+    pub outside-forward : (body : List ℕ) (fresh : ℕ) → IfSome (world_after w (happening.Outside a (event.Frame id body) fresh)) Forward
+    outside-forward body fresh =
+        if_there Forward (running w a) _ (λ i e.
+        if_holds Forward (is_outside w i (event.Frame id body)) _ (λ strange.
+        notified-forward i w.conns (event.Frame id body) fresh refl refl e))
+
     pub opened-forward : IfSome (world_after w (happening.Opened a id)) Forward
     opened-forward =
         if_there Forward (running w a) _ (λ i e.
@@ -128,12 +134,14 @@ module _ (laws : NodeLaws) where
         by None g = same-stage (end_in w.lives i p) (end_in w.lives i p) refl
         by (Some x) g = forward (without_closing w) seen i p h x g
 
-    counted : (h : Happening) → frames_by w h i p + stage_of (end_in w.lives i p) ≤ stage_of (end_in (happens w h).lives i p)
-    counted (happening.Take a id fresh) =
-        elim (is_place (running w a) i && eqb id.0 p) as (λ b. (is_place (running w a) i && eqb id.0 p) ≡ b → cond b (one_where (applied_at w (happening.Take a id fresh))) 0 + stage_of (end_in w.lives i p) ≤ stage_of (end_in (happens w (happening.Take a id fresh)).lives i p)) [
+    -- an end that takes a frame is brought on
+    taken-counted : (h : Happening) (a : ℕ) (id : EndId) → IfSome (world_after (without_closing w) h) (Forward (without_closing w) seen a id)
+        → cond (is_place (running w a) i && eqb id.0 p) (one_where (applied_at w h)) 0 + stage_of (end_in w.lives i p) ≤ stage_of (end_in (happens w h).lives i p)
+    taken-counted h a id forth =
+        elim (is_place (running w a) i && eqb id.0 p) as (λ b. (is_place (running w a) i && eqb id.0 p) ≡ b → cond b (one_where (applied_at w h)) 0 + stage_of (end_in w.lives i p) ≤ stage_of (end_in (happens w h).lives i p)) [
           | true ↦ λ b. let g = and_parts (is_place (running w a) i) (eqb id.0 p) b in
-              by (eqb-true id.0 p g.1) (place-is (running w a) g.0) (applied_at w (happening.Take a id fresh)) (where-applied (Forward (without_closing w) seen a id) w (happening.Take a id fresh) (take-forward (without_closing w) seen a id fresh))
-          | false ↦ λ b. let h = happens-forward (happening.Take a id fresh) in omega (arith, h)
+              by (eqb-true id.0 p g.1) (place-is (running w a) g.0) (applied_at w h) (where-applied (Forward (without_closing w) seen a id) w h forth)
+          | false ↦ λ b. let k = happens-forward h in omega (arith, k)
         ] refl
       where
         place-is : (o : Option ℕ) → is_place o i ≡ true → o ≡ Some i
@@ -143,6 +151,10 @@ module _ (laws : NodeLaws) where
         by : id.0 ≡ p → running w a ≡ Some i → (o : Option World) → IfSome o (Forward (without_closing w) seen a id) → one_where o + stage_of (end_in w.lives i p) ≤ stage_of (end_in (ticked_on w o).lives i p)
         by q r None g = let s = same-stage (end_in w.lives i p) (end_in w.lives i p) refl in omega (arith, s)
         by q r (Some x) g = let s = subst (λ k. stage_of (end_in w.lives i k) < stage_of (end_in x.lives i k)) q (g i r) in omega (arith, s)
+
+    counted : (h : Happening) → frames_by w h i p + stage_of (end_in w.lives i p) ≤ stage_of (end_in (happens w h).lives i p)
+    counted (happening.Take a id fresh) = taken-counted (happening.Take a id fresh) a id (take-forward (without_closing w) seen a id fresh)
+    counted (happening.Outside a (event.Frame id body) fresh) = taken-counted (happening.Outside a (event.Frame id body) fresh) a id (outside-forward (without_closing w) seen a id body fresh)
     counted h = let s = happens-forward h in omega (arith, s)
 
   pub seen-on : (w : World) (h : Happening) → AllLives (IsWhole w.clock) w → (let x = happens w h in AllLives (IsWhole x.clock) x)

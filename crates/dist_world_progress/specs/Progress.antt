@@ -7,6 +7,7 @@ use Rattle.dist_world_model.specs.{Agreement.IsUp, World.World, World.Life, Worl
 use Rattle.dist_world_model.specs.{Happenings.applied_at, Happenings.happens, Happenings.most_applied, OwnSetups.is_place, Run.one_where, Run.run}
 use Rattle.dist_world_model.specs.declared.happening.Happening.TheVariants as happening
 use Rattle.dist_core.specs.{Node.limits_of, Step.sender_to}
+use Rattle.dist_core.specs.declared.event.Event.TheVariants as event
 use Rattle.dist_core_ends.specs.declared.phase.Awaited.TheVariants as awaited
 use Rattle.dist_core_ends.specs.{Ends.awaited_of, Ends.end_id}
 use Rattle.dist_core_ends.specs.declared.known.End.TheVariants as ends
@@ -58,10 +59,12 @@ NoHandshakeHangs w = (c : ℕ) (k : Conn) (d a : End) → HasEnds w c k d a → 
 
 -- ---- an end takes few frames
 
--- 1 if this happening applies, and end id of incarnation i takes a frame by it
+-- 1 if this happening applies, and end id of incarnation i takes a frame by it, from this world or from outside
 abbrev pub frames_by : World → Happening → ℕ → ℕ → ℕ
 frames_by w (happening.Take node x fresh) i id =
     if is_place (running w node) i && (x.0 == id) then one_where (applied_at w (happening.Take node x fresh)) else 0
+frames_by w (happening.Outside node (event.Frame x body) fresh) i id =
+    if is_place (running w node) i && (x.0 == id) then one_where (applied_at w (happening.Outside node (event.Frame x body) fresh)) else 0
 frames_by w h i id = 0
 
 -- HOW MANY FRAMES AN END TAKES in the course of these happenings

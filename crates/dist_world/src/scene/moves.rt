@@ -1,8 +1,8 @@
-//! The twelve happenings.
+//! The thirteen happenings.
 ghost use Rattle.std.specs.{Prelude.◌≡◌, Prelude.Ok, Prelude.slice_get, Prelude.IfOk, Option.option_map};
 ghost use Rattle.dist_world_model.specs.World.{running};
 ghost use Rattle.dist_world_model.specs.Happenings.{notify, notify_node, without_closing, begin, begin_as, halt, reset};
-ghost use Rattle.dist_world_model.specs.Happenings.{reach, notify_opened, accept, deliver, take_frame, world_after, applied_at};
+ghost use Rattle.dist_world_model.specs.Happenings.{reach, notify_opened, accept, deliver, take_frame, is_outside, notify_outside, world_after, applied_at};
 ghost use Rattle.dist_world.specs.Doing.{Did, Happened};
 
 use crate::scene::{Scene, setup_at};
@@ -10,16 +10,13 @@ use dist_core::{Change, Event, Opening, Setup, Why};
 use dist_core_laws::a_reply_is_of_its_end;
 use dist_names::{ByteString, Creation, NodeName};
 use dist_peers::EndId;
-use dist_world_lives::Occasion;
+use dist_world_lives::{MOST_CONNECTIONS, Occasion, conn_behind};
 use dist_world_model::Happening;
 use std::alloc::{AllocError, Global};
 use std::mem::replace;
 
 /// The most begins.
 const MOST_BEGINS: usize = 1048576;
-
-/// The most connections.
-const MOST_CONNECTIONS: usize = 1048576;
 
 /// The most happenings that apply.
 const MOST_APPLIED: u64 = 4611686018427387904;
@@ -309,6 +306,37 @@ impl Scene {
         self.notify_node(alloc, node, &event)
     }
 
+    // Whether an event of this incarnation comes from outside.
+    fn is_outside(&self, place: usize, event: &Event) -> bool
+        ensures { result ≡ is_outside self.now place event.now }
+    {
+        match event {
+            Event::Incoming { link } => conn_behind(*link).is_none(),
+            Event::Opened { end_, link: _ } => self.lives.wire(place, *end_).is_none(),
+            Event::Frame { end_, body: _ } => self.lives.wire(place, *end_).is_none(),
+            _ => false,
+        }
+    }
+
+    // Somebody outside does something to a node.
+    fn outside(
+        &mut self,
+        alloc: Global,
+        node: usize,
+        event: &Event,
+        fresh: u32,
+    ) -> Result<bool, AllocError>
+        ensures { Did result (notify_outside (without_closing self.old) node event.now fresh) self.old self.new }
+    {
+        let Some(place) = self.running(node) else {
+            return Ok(false);
+        };
+        if !self.is_outside(place, event) {
+            return Ok(false);
+        }
+        self.notify(alloc, place, event, fresh)
+    }
+
     // One happening, but for the clock.
     fn apply(&mut self, alloc: Global, happening: &Happening) -> Result<bool, AllocError>
         ensures { Did result (world_after (without_closing self.old) happening.now) self.old self.new }
@@ -338,6 +366,7 @@ impl Scene {
                 self.notify_node(alloc, *node, &event)
             }
             Happening::Reset { node, change } => self.reset(alloc, *node, change),
+            Happening::Outside { node, event, fresh } => self.outside(alloc, *node, event, *fresh),
         }
     }
 

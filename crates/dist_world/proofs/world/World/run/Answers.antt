@@ -14,3 +14,8 @@ pub returns-clause-agree : goal.returns-clause-agree
 returns-clause-agree c =
     let reached : IsReached c.run.new.self = reached_after c.worlds_are_reached.ensures.run c.run.result c.self.inside.scene c.run.new.self c.args.happenings.now c.self.invariant c.run.ensures.after c.run.ensures.stopped c.run.ensures.fit c.run.ensures.fit_so_far in
     c.nodes_agree.ensures.reached c.run.new.self reached
+
+pub returns-clause-strangers : goal.returns-clause-strangers
+returns-clause-strangers c =
+    let reached : IsReached c.run.new.self = reached_after c.worlds_are_reached.ensures.run c.run.result c.self.inside.scene c.run.new.self c.args.happenings.now c.self.invariant c.run.ensures.after c.run.ensures.stopped c.run.ensures.fit c.run.ensures.fit_so_far in
+    c.nodes_agree.ensures.strangers c.run.new.self reached
