@@ -43,7 +43,7 @@ module _ (w : World) (pre ss : List Setup) (s : Setup) (h : HaveBegun w pre (s �
       ap (λ b. cond b (begin (without_closing w) (length pre) s.creation) None) (lt-ltb w.clock 4611686018427387904 (omega (arith, few, h.clock)))
       ∙ (there (slice_get w.setups (length pre)) s _ (ap (λ (xs : List Setup). slice_get xs (length pre)) h.setups ∙ at-end pre ss s)
       ∙ (holds (is_none (running w (length pre))) _ (ap (λ (o : Option ℕ). is_none o) (none-runs (length pre) w.lives h.below))
-      ∙ holds (ltb (length w.lives) 1048576) _ (lt-ltb (length w.lives) 1048576 (omega (arith, few, h.count)))))
+      ∙ holds (ltb (length w.lives) 281474976710656) _ (lt-ltb (length w.lives) 281474976710656 (omega (arith, few, h.count)))))
 
   more : length (pre ++ s ∷ []) ≡ suc (length pre)
   more = length-append pre (s ∷ []) ∙ omega arith

@@ -153,7 +153,7 @@ leads-reached : (w : World) (node : ℕ) (id : EndId) (j : ℕ) → IfSome (happ
 leads-reached w node id j = let P : World → Type 0 = λ x. Leads w x j in
     if_there P (running w node) _ (λ p at.
     if_there P (running w j) _ (λ q far.
-    if_holds P (is_dialing (end_at w p id.0) && is_none (wire_number (row_at w p id.0)) && ltb (length w.conns) 1048576) _ (λ free.
+    if_holds P (is_dialing (end_at w p id.0) && is_none (wire_number (row_at w p id.0)) && ltb (length w.conns) 281474976710656) _ (λ free.
     record {
       place = q;
       runs_there = far;
@@ -364,7 +364,7 @@ same-conns : (w : World) (i : ℕ) (c : Creation) → IfSome (begin w i c) (λ x
 same-conns w i c = let P : World → Type 0 = λ x. x.conns ≡ w.conns in
     if_there P (slice_get w.setups i) _ (λ s at.
     if_holds P (is_none (running w i)) _ (λ free.
-    if_holds P (ltb (length w.lives) 1048576) _ (λ few.
+    if_holds P (ltb (length w.lives) 281474976710656) _ (λ few.
     refl)))
 
 conns-settled : (w : World) (o : Option World) → IfSome o (λ x. x.conns ≡ w.conns) → (let y = ticked_on w o in y.conns) ≡ w.conns

@@ -58,7 +58,7 @@ module _ (w : World) (h : QuietIn w) where
   quiet-reached node id target =
       if_there QuietIn (running w node) _ (λ i at.
       if_there QuietIn (running w target) _ (λ j far.
-      if_holds QuietIn (is_dialing (end_at w i id.0) && is_none (conn_of (row_at w i id.0)) && ltb (length w.conns) 1048576) _ (λ free.
+      if_holds QuietIn (is_dialing (end_at w i id.0) && is_none (conn_of (row_at w i id.0)) && ltb (length w.conns) 281474976710656) _ (λ free.
       at-more (λ c k. IsQuiet k) w.conns (new_conn i id.0 j) (refl, refl) h)))
 
   quiet-opened : (node : ℕ) (id : EndId) → IfSome (notify_opened w node id) QuietIn
@@ -259,7 +259,7 @@ quiet-begun : (w : World) (i : ℕ) (c : Creation) → QuietIn w → IfSome (beg
 quiet-begun w i c h =
     if_there QuietIn (slice_get w.setups i) _ (λ s at.
     if_holds QuietIn (is_none (running w i)) _ (λ free.
-    if_holds QuietIn (ltb (length w.lives) 1048576) _ (λ few.
+    if_holds QuietIn (ltb (length w.lives) 281474976710656) _ (λ few.
     h)))
 
 stays-quiet : (w : World) → QuietIn w → (o : Option World) → IfSome o QuietIn → QuietIn (ticked_on w o)

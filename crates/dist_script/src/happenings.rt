@@ -36,7 +36,7 @@ enum HappeningWord {
 }
 
 // A link that is no connection of a world.
-const OUTSIDE_LINK: u64 = 1048576;
+const OUTSIDE_LINK: u64 = 281_474_976_710_656;
 
 // The first word of each kind of line.
 const KINDS: [(&str, HappeningWord); 17] = [

@@ -34,7 +34,7 @@ pub struct LifeStep {
 }
 
 /// How many connections of a world there may be.
-pub const MOST_CONNECTIONS: usize = 1048576;
+pub const MOST_CONNECTIONS: usize = 281_474_976_710_656;
 
 /// The connection behind a link. `None` where the link is none of the world.
 pub fn conn_behind(link: u64) -> Option<usize>

@@ -24,9 +24,9 @@ test >> o = if test then o else None
 
 -- ---- the limits of a world (our own choice)
 
--- how many times nodes may begin
+-- how many times nodes may begin: 2 ^ 48
 abbrev pub most_begins : ℕ
-most_begins = 1048576
+most_begins = 281474976710656
 
 -- how many happenings may apply
 abbrev pub most_applied : ℕ

@@ -24,9 +24,9 @@ pub record EndRow : Type 0 where
 abbrev pub new_row : Side → Option Name → Option ℕ → ℕ → EndRow
 new_row side peer conn t = record { side = side; peer = peer; conn = conn; given = t; named = None; doomed = None; replied = None; rose = None; closed = None }
 
--- how many connections of a world there may be (our own choice)
+-- how many connections of a world there may be: 2 ^ 48 (our own choice)
 abbrev pub most_connections : ℕ
-most_connections = 1048576
+most_connections = 281474976710656
 
 -- THE CONNECTION BEHIND A LINK: a number below that is a connection of the world, any other one is somebody's outside
 abbrev pub conn_behind : ℕ → Option ℕ

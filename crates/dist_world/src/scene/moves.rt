@@ -16,7 +16,7 @@ use std::alloc::{AllocError, Global};
 use std::mem::replace;
 
 /// The most begins.
-const MOST_BEGINS: usize = 1048576;
+const MOST_BEGINS: usize = 281_474_976_710_656;
 
 /// The most happenings that apply.
 const MOST_APPLIED: u64 = 4611686018427387904;
