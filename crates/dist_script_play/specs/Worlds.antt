@@ -1,10 +1,15 @@
 -- WHAT IS PRINTED OF A WORLD at the end: its nodes, and what each two of them have in common. The lines stand in Lines.antt.
-use Rattle.std.specs.Prelude.{◌≡◌, ℕ, zero, suc, List, [], ◌∷◌, ◌++◌, map, length, Option, Some, None, slice_get}
+use Rattle.std.specs.Prelude.{◌≡◌, ⊥, ◌⊎◌, ℕ, zero, suc, List, [], ◌∷◌, ◌++◌, map, length, Option, Some, None, slice_get}
 use Rattle.std.specs.Io.KnownBytes.{Appends}
+use Rattle.std.specs.FinMap as rows
+use Rattle.dist_names.specs.Order.{Name}
+use Rattle.dist_peers.specs.declared.entry.Entry.{Entry}
+use Rattle.dist_core_ends.specs.Ends.{table_of}
+use Rattle.dist_core.specs.Node.{NodeState}
 use Rattle.dist_core_setup.specs.declared.setup.Setup.{Setup}
 use Rattle.dist_world_model.specs.{World.World, Agreement.Counts, Agreement.IsFooled}
 use Rattle.dist_world.specs.{declared.agreement.Agreement.Agreement, Asking.node_of, Ups.FindsAgreed}
-use Rattle.dist_script_play.specs.Lines.{node_text, agree_line}
+use Rattle.dist_script_play.specs.Lines.{node_text, agree_line, fooled_line}
 
 -- ---- the nodes
 
@@ -64,3 +69,37 @@ AreAgreements w text = AreLinesOf w (pairs (places_from 0 (length w.setups))) te
 -- these are written behind what stood
 abbrev pub PutsAgreements : World → Option (List ℕ) → Option (List ℕ) → Type 0
 PutsAgreements w old new = (text : List ℕ) × AreAgreements w text × Appends old new text
+
+-- ---- who takes somebody outside for another node
+
+-- NODE a TAKES SOMEBODY OUTSIDE FOR THE NODE of this name
+abbrev pub IsFooledAbout : World → ℕ → Name → Type 0
+IsFooledAbout w a p = (b : ℕ) × (s : Setup) × (slice_get w.setups b ≡ Some s) × (s.name ≡ p) × IsFooled w a b
+
+-- the line of this peer of node a, which has the name own: there is one exactly if a takes somebody outside for the node of that name
+abbrev pub IsFooledLine : World → ℕ → Name → Name → List ℕ → Type 0
+IsFooledLine w a own p text = (IsFooledAbout w a p × (text ≡ fooled_line own p)) ⊎ ((IsFooledAbout w a p → ⊥) × (text ≡ []))
+
+-- these are the lines of the peers in these rows of its table, one behind the other
+abbrev pub AreFooledLines : World → ℕ → Name → List (Name × Entry) → List ℕ → Type 0
+AreFooledLines w a own [] text = text ≡ []
+AreFooledLines w a own (r ∷ rs) text = (line rest : List ℕ) × IsFooledLine w a own r.0 line × AreFooledLines w a own rs rest × (text ≡ line ++ rest)
+
+-- those of its running incarnation
+abbrev pub AreFooledOf : World → ℕ → Name → Option NodeState → List ℕ → Type 0
+AreFooledOf w a own None text = text ≡ []
+AreFooledOf w a own (Some n) text = AreFooledLines w a own (rows.entries (table_of n.ends)) text
+
+-- those of these nodes, of which the first has place i
+abbrev pub AreFooledFrom : World → ℕ → List Setup → List ℕ → Type 0
+AreFooledFrom w i [] text = text ≡ []
+AreFooledFrom w i (s ∷ setups) text =
+    (here rest : List ℕ) × AreFooledOf w i s.name (node_of w i) here × AreFooledFrom w (suc i) setups rest × (text ≡ here ++ rest)
+
+-- WHO TAKES SOMEBODY OUTSIDE FOR WHOM, in a world: the lines of all nodes, in the order of their places
+abbrev pub AreFooled : World → List ℕ → Type 0
+AreFooled w text = AreFooledFrom w 0 w.setups text
+
+-- these are written behind what stood
+abbrev pub PutsFooled : World → Option (List ℕ) → Option (List ℕ) → Type 0
+PutsFooled w old new = (text : List ℕ) × AreFooled w text × Appends old new text
