@@ -85,7 +85,7 @@ pub enum Happening {
         change: Change,
     },
     /// Somebody who is no node of the world, as any other node or a port scanner, does this to a running node: `Incoming`, where
-    /// the link is 1,048,576 or more; `Opened`, at a dialled end that has no connection of the world; `Frame`, at an end that has
+    /// the link is 2^48 or more; `Opened`, at a dialled end that has no connection of the world; `Frame`, at an end that has
     /// none. It applies where the step succeeds. What the end says goes to nobody of the world.
     Outside {
         node: usize,
