@@ -188,7 +188,7 @@ happenings_text w (h ∷ hs) = closed_by (applied_at w h) ++ happenings_text (ha
 -- what is printed at the end of a world in which this many of all happenings applied
 abbrev pub IsEnd : World → ℕ → ℕ → List ℕ → Type 0
 IsEnd w applied all text =
-    (agreements fooled : List ℕ) × AreAgreements w agreements × AreFooled w fooled
+    (agreements fooled : List ℕ) × (any : Bool) × AreAgreements w agreements × AreFooled w any fooled
     × (text ≡ applied_line applied all ++ nodes_text w ++ agreements ++ fooled)
 
 -- what these happenings print, from this world on, and what is printed at the end

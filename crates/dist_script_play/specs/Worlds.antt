@@ -1,5 +1,5 @@
 -- WHAT IS PRINTED OF A WORLD at the end: its nodes, and what each two of them have in common. The lines stand in Lines.antt.
-use Rattle.std.specs.Prelude.{◌≡◌, ⊥, ◌⊎◌, ℕ, zero, suc, List, [], ◌∷◌, ◌++◌, map, length, Option, Some, None, slice_get}
+use Rattle.std.specs.Prelude.{◌≡◌, ◌<◌, ⊥, ◌↔◌, ◌||◌, if◌then◌else◌, IsTrue, Bool, false, ℕ, zero, suc, List, [], ◌∷◌, ◌++◌, map, length, Option, Some, None, slice_get}
 use Rattle.std.specs.Io.KnownBytes.{Appends}
 use Rattle.std.specs.FinMap as rows
 use Rattle.dist_names.specs.Order.{Name}
@@ -76,30 +76,37 @@ PutsAgreements w old new = (text : List ℕ) × AreAgreements w text × Appends 
 abbrev pub IsFooledAbout : World → ℕ → Name → Type 0
 IsFooledAbout w a p = (b : ℕ) × (s : Setup) × (slice_get w.setups b ≡ Some s) × (s.name ≡ p) × IsFooled w a b
 
--- the line of this peer of node a, which has the name own: there is one exactly if a takes somebody outside for the node of that name
-abbrev pub IsFooledLine : World → ℕ → Name → Name → List ℕ → Type 0
-IsFooledLine w a own p text = (IsFooledAbout w a p × (text ≡ fooled_line own p)) ⊎ ((IsFooledAbout w a p → ⊥) × (text ≡ []))
+-- whether it does so of this peer, and the line of that; own is the name of node a
+abbrev pub IsFooledLine : World → ℕ → Name → Name → Bool → List ℕ → Type 0
+IsFooledLine w a own p is text = (IsTrue is ↔ IsFooledAbout w a p) × (text ≡ (if is then fooled_line own p else []))
 
--- these are the lines of the peers in these rows of its table, one behind the other
-abbrev pub AreFooledLines : World → ℕ → Name → List (Name × Entry) → List ℕ → Type 0
-AreFooledLines w a own [] text = text ≡ []
-AreFooledLines w a own (r ∷ rs) text = (line rest : List ℕ) × IsFooledLine w a own r.0 line × AreFooledLines w a own rs rest × (text ≡ line ++ rest)
+-- whether it does so of a peer in these rows of its table, and their lines, one behind the other
+abbrev pub AreFooledLines : World → ℕ → Name → List (Name × Entry) → Bool → List ℕ → Type 0
+AreFooledLines w a own [] any text = (any ≡ false) × (text ≡ [])
+AreFooledLines w a own (r ∷ rs) any text =
+    (is others : Bool) × (line rest : List ℕ) × IsFooledLine w a own r.0 is line × AreFooledLines w a own rs others rest
+    × (any ≡ (is || others)) × (text ≡ line ++ rest)
 
--- those of its running incarnation
-abbrev pub AreFooledOf : World → ℕ → Name → Option NodeState → List ℕ → Type 0
-AreFooledOf w a own None text = text ≡ []
-AreFooledOf w a own (Some n) text = AreFooledLines w a own (rows.entries (table_of n.ends)) text
+-- the same of the table of its running incarnation
+abbrev pub AreFooledOf : World → ℕ → Name → Option NodeState → Bool → List ℕ → Type 0
+AreFooledOf w a own None any text = (any ≡ false) × (text ≡ [])
+AreFooledOf w a own (Some n) any text = AreFooledLines w a own (rows.entries (table_of n.ends)) any text
 
--- those of these nodes, of which the first has place i
-abbrev pub AreFooledFrom : World → ℕ → List Setup → List ℕ → Type 0
-AreFooledFrom w i [] text = text ≡ []
-AreFooledFrom w i (s ∷ setups) text =
-    (here rest : List ℕ) × AreFooledOf w i s.name (node_of w i) here × AreFooledFrom w (suc i) setups rest × (text ≡ here ++ rest)
+-- the same of these nodes, of which the first has place i
+abbrev pub AreFooledFrom : World → ℕ → List Setup → Bool → List ℕ → Type 0
+AreFooledFrom w i [] any text = (any ≡ false) × (text ≡ [])
+AreFooledFrom w i (s ∷ setups) any text =
+    (is others : Bool) × (here rest : List ℕ) × AreFooledOf w i s.name (node_of w i) is here × AreFooledFrom w (suc i) setups others rest
+    × (any ≡ (is || others)) × (text ≡ here ++ rest)
 
--- WHO TAKES SOMEBODY OUTSIDE FOR WHOM, in a world: the lines of all nodes, in the order of their places
-abbrev pub AreFooled : World → List ℕ → Type 0
-AreFooled w text = AreFooledFrom w 0 w.setups text
+-- WHO TAKES SOMEBODY OUTSIDE FOR WHOM, in a world: whether a node does so, and the lines of all nodes, in the order of their places
+abbrev pub AreFooled : World → Bool → List ℕ → Type 0
+AreFooled w any text = AreFooledFrom w 0 w.setups any text
 
 -- these are written behind what stood
-abbrev pub PutsFooled : World → Option (List ℕ) → Option (List ℕ) → Type 0
-PutsFooled w old new = (text : List ℕ) × AreFooled w text × Appends old new text
+abbrev pub PutsFooled : World → Bool → Option (List ℕ) → Option (List ℕ) → Type 0
+PutsFooled w any old new = (text : List ℕ) × AreFooled w any text × Appends old new text
+
+-- NO NODE of the world takes somebody outside for another one
+abbrev pub FoolsNobody : World → Type 0
+FoolsNobody w = (a b : ℕ) → a < length w.setups → IsFooled w a b → ⊥
