@@ -65,38 +65,35 @@ rows_end w a own rows k any o n all so =
 pub record NodesSoFar (w : World) (k : ℕ) (any : Bool) (old new : Option (List ℕ)) : Type 0 where
   pub done : List ℕ
   pub put : Appends old new done
-  pub rest : (others : Bool) (t : List ℕ) → AreFooledFrom w k (drop k w.setups) others t → AreFooledFrom w 0 w.setups (any || others) (done ++ t)
+  pub rest : (count : ℕ) (others : Bool) (t : List ℕ) → k + count ≡ length w.setups → AreFooledFrom w k count others t
+      → AreFooledFrom w 0 (length w.setups) (any || others) (done ++ t)
 
 pub nodes_begin : (w : World) (o : Option (List ℕ)) → NodesSoFar w 0 false o o
-nodes_begin w o = record { done = []; put = Appends-nil o; rest = λ others t r. r }
+nodes_begin w o = record {
+  done = [];
+  put = Appends-nil o;
+  rest = λ count others t all r. let e : count ≡ length w.setups = omega (arith, all) in subst (λ c. AreFooledFrom w 0 c others t) e r;
+}
 
-one_node : (w : World) (ss : List Setup) (i k : ℕ) (d : Setup) (is others : Bool) (here t : List ℕ) → k < length ss
-    → AreFooledOf w i (get_or ss k d).name (node_of w i) is here → AreFooledFrom w (suc i) (drop (suc k) ss) others t → AreFooledFrom w i (drop k ss) (is || others) (here ++ t)
-one_node w [] i k d is others here t few of rest = absurd (omega arith)
-one_node w (s ∷ ss) i zero d is others here t few of rest = (is, others, here, t, of, rest, refl, refl)
-one_node w (s ∷ ss) i (suc k) d is others here t few of rest = one_node w ss i k d is others here t (omega arith) of rest
-
-pub nodes_go_on : (w : World) (k : ℕ) (d : Setup) (name : Name) (any is : Bool) (o m n : Option (List ℕ)) (here : List ℕ) → NodesSoFar w k any o m → k < length w.setups
-    → name ≡ (get_or w.setups k d).name → AreFooledOf w k name (node_of w k) is here → Appends m n here → NodesSoFar w (k + 1) (any || is) o n
-nodes_go_on w k d name any is o m n here so few named of put =
+pub nodes_go_on : (w : World) (k : ℕ) (any is : Bool) (o m n : Option (List ℕ)) (here : List ℕ) → NodesSoFar w k any o m
+    → AreFooledOf w k (node_of w k) is here → Appends m n here → NodesSoFar w (k + 1) (any || is) o n
+nodes_go_on w k any is o m n here so of put =
     let next : suc k ≡ k + 1 = omega arith in
     subst (λ x. NodesSoFar w x (any || is) o n) next (record {
       done = so.done ++ here;
       put = Appends-trans o m n so.done here so.put put;
-      rest = λ others t more.
-          subst (λ v. AreFooledFrom w 0 w.setups v ((so.done ++ here) ++ t)) (sym (or-assoc any is others))
-          (subst (AreFooledFrom w 0 w.setups (any || (is || others))) (sym (append_assoc so.done here t))
-          (so.rest (is || others) (here ++ t) (one_node w w.setups k k d is others here t few (subst (λ p. AreFooledOf w k p (node_of w k) is here) named of) more)));
+      rest = λ count others t all more.
+          subst (λ v. AreFooledFrom w 0 (length w.setups) v ((so.done ++ here) ++ t)) (sym (or-assoc any is others))
+          (subst (AreFooledFrom w 0 (length w.setups) (any || (is || others))) (sym (append_assoc so.done here t))
+          (so.rest (suc count) (is || others) (here ++ t) (omega (arith, all)) (is, others, here, t, of, more, refl, refl)));
     })
 
-pub nodes_end : (w : World) (k : ℕ) (any : Bool) (o n : Option (List ℕ)) → length w.setups ≤ k → NodesSoFar w k any o n → PutsFooled w any o n
-nodes_end w k any o n all so =
-    let none : AreFooledFrom w k (drop k w.setups) false [] =
-    subst (λ ss. AreFooledFrom w k ss false []) (sym (at_drop_all (λ x. x) w.setups k all)) (refl, refl) in (
-      so.done ++ [],
-      subst (λ v. AreFooledFrom w 0 w.setups v (so.done ++ [])) (or-none any) (so.rest false [] none),
-      subst (λ x. Appends o n x) (sym (append-nil so.done)) so.put,
-    )
+pub nodes_end : (w : World) (k : ℕ) (any : Bool) (o n : Option (List ℕ)) → k ≡ length w.setups → NodesSoFar w k any o n → PutsFooled w any o n
+nodes_end w k any o n all so = (
+  so.done ++ [],
+  subst (λ v. AreFooledFrom w 0 (length w.setups) v (so.done ++ [])) (or-none any) (so.rest 0 false [] (omega (arith, all)) (refl, refl)),
+  subst (λ x. Appends o n x) (sym (append-nil so.done)) so.put,
+)
 
 -- ---- nobody is left out
 
@@ -120,27 +117,28 @@ no_row w a own (s ∷ rs) any text h none (suc k) r at f =
     let both = both-false h.0 h.1 (sym h.6 ∙ none) in
     no_row w a own rs h.1 h.3 h.5 both.1 k r at f
 
-of_node : (w : World) (i : ℕ) (ss : List Setup) (any : Bool) (text : List ℕ) → AreFooledFrom w i ss any text → any ≡ false → (k : ℕ) → k < length ss
-    → (own : Name) × (here : List ℕ) × AreFooledOf w (i + k) own (node_of w (i + k)) false here
-of_node w i [] any text h none k few = absurd (omega arith)
-of_node w i (s ∷ ss) any text h none zero few =
+of_node : (w : World) (i count : ℕ) (any : Bool) (text : List ℕ) → AreFooledFrom w i count any text → any ≡ false → (k : ℕ) → k < count
+    → (here : List ℕ) × AreFooledOf w (i + k) (node_of w (i + k)) false here
+of_node w i zero any text h none k few = absurd (omega arith)
+of_node w i (suc count) any text h none zero few =
     let both = both-false h.0 h.1 (sym h.6 ∙ none) in
     let here : i ≡ i + 0 = omega arith in
-    (s.name, h.2, subst (λ x. AreFooledOf w x s.name (node_of w x) false h.2) here (subst (λ v. AreFooledOf w i s.name (node_of w i) v h.2) both.0 h.4))
-of_node w i (s ∷ ss) any text h none (suc k) few =
+    (h.2, subst (λ x. AreFooledOf w x (node_of w x) false h.2) here (subst (λ v. AreFooledOf w i (node_of w i) v h.2) both.0 h.4))
+of_node w i (suc count) any text h none (suc k) few =
     let both = both-false h.0 h.1 (sym h.6 ∙ none) in
-    let o = of_node w (suc i) ss h.1 h.3 h.5 both.1 k (omega arith) in
+    let o = of_node w (suc i) count h.1 h.3 h.5 both.1 k (omega arith) in
     let here : suc i + k ≡ i + suc k = omega arith in
-    (o.0, o.1, subst (λ x. AreFooledOf w x o.0 (node_of w x) false o.1) here o.2)
+    (o.0, subst (λ x. AreFooledOf w x (node_of w x) false o.0) here o.1)
 
-pub fools_nobody : (w : World) (any : Bool) (text : List ℕ) → AreFooledFrom w 0 w.setups any text → any ≡ false → FoolsNobody w
+pub fools_nobody : (w : World) (any : Bool) (text : List ℕ) → AreFooledFrom w 0 (length w.setups) any text → any ≡ false → FoolsNobody w
 fools_nobody w any text h none a b few f =
     let u = f.0 in
-    let o = of_node w 0 w.setups any text h none a few in
+    let o = of_node w 0 (length w.setups) any text h none a few in
     let n = u.life.node in
     let p = u.other.name in
-    let lines : AreFooledLines w a o.0 (map.entries (table_of n.ends)) false o.1 = subst (λ x. AreFooledOf w a o.0 x false o.1) (counting w a b u) o.2 in
+    let rows = map.entries (table_of n.ends) in
+    let lines : AreFooledLines w a n.setup.name rows false o.0 = subst (λ x. AreFooledOf w a x false o.0) (counting w a b u) o.1 in
     let e = entry_there n.ends p u.id u.kept u.is_up u.peer in
-    let found : find name_cmp p (map.entries (table_of n.ends)) ≡ Some e.0 = sym (get-entries (table_of n.ends) p) ∙ get-table n.ends p ∙ e.1 in
-    let r = found_at p e.0 (map.entries (table_of n.ends)) found in
-    no_row w a o.0 (map.entries (table_of n.ends)) false o.1 lines refl r.0 (r.1, e.0) r.2 (b, u.other, u.named, one_lem p r.1 r.3, f)
+    let found : find name_cmp p rows ≡ Some e.0 = sym (get-entries (table_of n.ends) p) ∙ get-table n.ends p ∙ e.1 in
+    let r = found_at p e.0 rows found in
+    no_row w a n.setup.name rows false o.0 lines refl r.0 (r.1, e.0) r.2 (b, u.other, u.named, one_lem p r.1 r.3, f)

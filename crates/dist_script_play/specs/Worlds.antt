@@ -1,5 +1,6 @@
 -- WHAT IS PRINTED OF A WORLD at the end: its nodes, and what each two of them have in common. The lines stand in Lines.antt.
-use Rattle.std.specs.Prelude.{◌≡◌, ◌<◌, ⊥, ◌↔◌, ◌||◌, if◌then◌else◌, IsTrue, Bool, false, ℕ, zero, suc, List, [], ◌∷◌, ◌++◌, map, length, Option, Some, None, slice_get}
+use Rattle.std.specs.Prelude.{◌≡◌, ◌<◌, ⊥, ◌↔◌, ◌||◌, if◌then◌else◌, IsTrue, Bool, false, ℕ, zero, suc, List, [], ◌∷◌, ◌++◌, map, length}
+use Rattle.std.specs.Prelude.{Option, Some, None, slice_get}
 use Rattle.std.specs.Io.KnownBytes.{Appends}
 use Rattle.std.specs.FinMap as rows
 use Rattle.dist_names.specs.Order.{Name}
@@ -88,20 +89,20 @@ AreFooledLines w a own (r ∷ rs) any text =
     × (any ≡ (is || others)) × (text ≡ line ++ rest)
 
 -- the same of the table of its running incarnation
-abbrev pub AreFooledOf : World → ℕ → Name → Option NodeState → Bool → List ℕ → Type 0
-AreFooledOf w a own None any text = (any ≡ false) × (text ≡ [])
-AreFooledOf w a own (Some n) any text = AreFooledLines w a own (rows.entries (table_of n.ends)) any text
+abbrev pub AreFooledOf : World → ℕ → Option NodeState → Bool → List ℕ → Type 0
+AreFooledOf w a None any text = (any ≡ false) × (text ≡ [])
+AreFooledOf w a (Some n) any text = AreFooledLines w a n.setup.name (rows.entries (table_of n.ends)) any text
 
--- the same of these nodes, of which the first has place i
-abbrev pub AreFooledFrom : World → ℕ → List Setup → Bool → List ℕ → Type 0
-AreFooledFrom w i [] any text = (any ≡ false) × (text ≡ [])
-AreFooledFrom w i (s ∷ setups) any text =
-    (is others : Bool) × (here rest : List ℕ) × AreFooledOf w i s.name (node_of w i) is here × AreFooledFrom w (suc i) setups others rest
+-- the same of so many nodes, of which the first has place i
+abbrev pub AreFooledFrom : World → ℕ → ℕ → Bool → List ℕ → Type 0
+AreFooledFrom w i zero any text = (any ≡ false) × (text ≡ [])
+AreFooledFrom w i (suc count) any text =
+    (is others : Bool) × (here rest : List ℕ) × AreFooledOf w i (node_of w i) is here × AreFooledFrom w (suc i) count others rest
     × (any ≡ (is || others)) × (text ≡ here ++ rest)
 
 -- WHO TAKES SOMEBODY OUTSIDE FOR WHOM, in a world: whether a node does so, and the lines of all nodes, in the order of their places
 abbrev pub AreFooled : World → Bool → List ℕ → Type 0
-AreFooled w any text = AreFooledFrom w 0 w.setups any text
+AreFooled w any text = AreFooledFrom w 0 (length w.setups) any text
 
 -- these are written behind what stood
 abbrev pub PutsFooled : World → Bool → Option (List ℕ) → Option (List ℕ) → Type 0

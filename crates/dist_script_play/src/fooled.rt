@@ -1,12 +1,12 @@
 //! Which nodes of a world take somebody outside for another node.
 
-ghost use Rattle.std.specs.Prelude.{◌↔◌, ◌≡◌, ℕ, List, IsTrue, false, length, IfOk};
+ghost use Rattle.std.specs.Prelude.{◌↔◌, ◌≡◌, if◌then◌else◌, ℕ, List, [], IsTrue, false, length, IfOk, OnOk};
 ghost use Rattle.std.specs.Io.KnownBytes.Appends;
 ghost use Rattle.std.specs.FinMap as map;
 ghost use Rattle.dist_core_ends.specs.Ends.{table_of};
 ghost use Rattle.dist_world.specs.Asking.{node_of};
-ghost use Rattle.dist_script_play.specs.Worlds.{IsFooledAbout, IsFooledLine, AreFooledLines, AreFooledOf, PutsFooled, FoolsNobody};
-ghost use Rattle.dist_script_play.specs.Later.{ArePlaces};
+ghost use Rattle.dist_script_play.specs.Worlds.{IsFooledAbout, AreFooledLines, AreFooledOf, PutsFooled, FoolsNobody};
+ghost use Rattle.dist_script_play.specs.{Later.ArePlaces, Lines.fooled_line};
 
 use crate::agreements::places;
 use crate::print;
@@ -34,43 +34,40 @@ fn is_fooled_about(
     }
 }
 
-// The line of a peer, if the node takes somebody outside for it. Returns whether it does.
+// The line of a node that takes somebody outside for this peer, if it does.
 fn print_peer<W: Write>(
-    world: &World,
-    place: usize,
+    out: &mut W,
     name: &NodeName,
     peer: &NodeName,
-    places: &BTreeMap<NodeName, usize>,
-    out: &mut W,
-) -> Result<bool, ScriptFault>
-    requires { ArePlaces places.now world.now.setups (length world.now.setups) }
-    ensures { IfOk result (λ is. (line : List ℕ) × IsFooledLine world.now place name.now peer.now is line
-        × Appends (W.contents out.old) (W.contents out.new) line) }
+    is_fooled: bool,
+) -> Result<(), ScriptFault>
+    ensures { OnOk result (Appends (W.contents out.old) (W.contents out.new) (if is_fooled then fooled_line name.now peer.now else [])) }
 {
-    let is_fooled = is_fooled_about(world, place, peer, places);
     if is_fooled {
-        print::fooled(out, name, peer)?;
+        return print::fooled_node(out, name, peer);
     }
-    Ok(is_fooled)
+    Ok(())
 }
 
 // The lines of all peers in the table of a node. Returns whether there is one.
 fn print_table<W: Write>(
     world: &World,
     place: usize,
-    name: &NodeName,
     node: &Node,
     places: &BTreeMap<NodeName, usize>,
     out: &mut W,
 ) -> Result<bool, ScriptFault>
     requires { ArePlaces places.now world.now.setups (length world.now.setups) }
-    ensures { IfOk result (λ any. (text : List ℕ) × AreFooledLines world.now place name.now (map.entries (table_of node.now.ends)) any text
+    ensures { IfOk result (λ any. (text : List ℕ)
+        × AreFooledLines world.now place node.now.setup.name (map.entries (table_of node.now.ends)) any text
         × Appends (W.contents out.old) (W.contents out.new) text) }
 {
     let mut any = false;
     for row in 0..node.entries() {
         if let Some((peer, _)) = node.entry_at(row) {
-            any |= print_peer(world, place, name, peer, places, out)?;
+            let is_fooled = is_fooled_about(world, place, peer, places);
+            print_peer(out, node.name(), peer, is_fooled)?;
+            any |= is_fooled;
         }
     }
     Ok(any)
@@ -80,16 +77,15 @@ fn print_table<W: Write>(
 fn print_node<W: Write>(
     world: &World,
     place: usize,
-    name: &NodeName,
     places: &BTreeMap<NodeName, usize>,
     out: &mut W,
 ) -> Result<bool, ScriptFault>
     requires { ArePlaces places.now world.now.setups (length world.now.setups) }
-    ensures { IfOk result (λ any. (text : List ℕ) × AreFooledOf world.now place name.now (node_of world.now place) any text
+    ensures { IfOk result (λ any. (text : List ℕ) × AreFooledOf world.now place (node_of world.now place) any text
         × Appends (W.contents out.old) (W.contents out.new) text) }
 {
     match world.node(place) {
-        Some(node) => print_table(world, place, name, node, places, out),
+        Some(node) => print_table(world, place, node, places, out),
         None => Ok(false),
     }
 }
@@ -108,7 +104,7 @@ pub fn print_fooled<W: Write>(
     let places = places(alloc, setups)?;
     let mut any = false;
     for place in 0..setups.len() {
-        any |= print_node(world, place, &setups[place].name, &places, out)?;
+        any |= print_node(world, place, &places, out)?;
     }
     Ok(any)
 }

@@ -382,7 +382,7 @@ pub fn agreement<'n, W: Write>(
 }
 
 /// That a node takes somebody outside the world for another one.
-pub fn fooled<'n, W: Write>(
+pub fn fooled_node<'n, W: Write>(
     out: &mut W,
     a: &'n NodeName,
     b: &'n NodeName,

@@ -45,7 +45,8 @@ fn head_text(alloc: Global, status: &str, length: usize) -> Result<String, Alloc
     ensures { IfOk result (λ text. string_bytes text ≡ head_text status.now length) }
 {
     format!(in alloc;
-        "HTTP/1.1 {status}\r\nContent-Type: text/plain; version=0.0.4; charset=utf-8\r\nContent-Length: {length}\r\nAllow: GET, HEAD\r\nConnection: close\r\n\r\n"
+        "HTTP/1.1 {status}\r\nContent-Type: text/plain; version=0.0.4; charset=utf-8\r\nContent-Length: {length}\r\n\
+         Allow: GET, HEAD\r\nConnection: close\r\n\r\n"
     )
 }
 
