@@ -1,5 +1,5 @@
 -- WHAT IS PRINTED OF A WORLD at the end: its nodes, and what each two of them have in common. The lines stand in Lines.antt.
-use Rattle.std.specs.Prelude.{◌≡◌, ◌<◌, ⊥, ◌↔◌, ◌||◌, if◌then◌else◌, IsTrue, Bool, false, ℕ, zero, suc, List, [], ◌∷◌, ◌++◌, map, length}
+use Rattle.std.specs.Prelude.{◌≡◌, ◌<◌, ◌||◌, is_some, Bool, false, ℕ, zero, suc, List, [], ◌∷◌, ◌++◌, map, length}
 use Rattle.std.specs.Prelude.{Option, Some, None, slice_get}
 use Rattle.std.specs.Io.KnownBytes.{Appends}
 use Rattle.std.specs.FinMap as rows
@@ -77,16 +77,22 @@ PutsAgreements w old new = (text : List ℕ) × AreAgreements w text × Appends 
 abbrev pub IsFooledAbout : World → ℕ → Name → Type 0
 IsFooledAbout w a p = (b : ℕ) × (s : Setup) × (slice_get w.setups b ≡ Some s) × (s.name ≡ p) × IsFooled w a b
 
--- whether it does so of this peer, and the line of that; own is the name of node a
-abbrev pub IsFooledLine : World → ℕ → Name → Name → Bool → List ℕ → Type 0
-IsFooledLine w a own p is text = (IsTrue is ↔ IsFooledAbout w a p) × (text ≡ (if is then fooled_line own p else []))
+-- this peer, if it does
+abbrev pub IsFooledPeer : World → ℕ → Name → Option Name → Type 0
+IsFooledPeer w a p None = IsFooledAbout w a p → ⊥
+IsFooledPeer w a p (Some q) = IsFooledAbout w a p × (q ≡ p)
 
--- whether it does so of a peer in these rows of its table, and their lines, one behind the other
+-- the line of such a peer; own is the name of node a
+abbrev pub peer_line : Name → Option Name → List ℕ
+peer_line own None = []
+peer_line own (Some p) = fooled_line own p
+
+-- whether there is such a peer in these rows of its table, and the lines of all, one behind the other
 abbrev pub AreFooledLines : World → ℕ → Name → List (Name × Entry) → Bool → List ℕ → Type 0
 AreFooledLines w a own [] any text = (any ≡ false) × (text ≡ [])
 AreFooledLines w a own (r ∷ rs) any text =
-    (is others : Bool) × (line rest : List ℕ) × IsFooledLine w a own r.0 is line × AreFooledLines w a own rs others rest
-    × (any ≡ (is || others)) × (text ≡ line ++ rest)
+    (peer : Option Name) × (others : Bool) × (rest : List ℕ) × IsFooledPeer w a r.0 peer × AreFooledLines w a own rs others rest
+    × (any ≡ (is_some peer || others)) × (text ≡ peer_line own peer ++ rest)
 
 -- the same of the table of its running incarnation
 abbrev pub AreFooledOf : World → ℕ → Option NodeState → Bool → List ℕ → Type 0

@@ -1,12 +1,14 @@
 //! Which nodes of a world take somebody outside for another node.
 
-ghost use Rattle.std.specs.Prelude.{◌↔◌, ◌≡◌, if◌then◌else◌, ℕ, List, [], IsTrue, false, length, IfOk, OnOk};
-ghost use Rattle.std.specs.Io.KnownBytes.Appends;
+ghost use Rattle.std.specs.Prelude.{◌↔◌, ◌≡◌, ℕ, List, Some, IsTrue, false, is_some, length, option_copied, slice_get, IfOk};
+ghost use Rattle.std.specs.Io.KnownBytes.{Appends};
 ghost use Rattle.std.specs.FinMap as map;
+ghost use Rattle.dist_names.specs.Order.{Name};
+ghost use Rattle.dist_peers.specs.declared.entry.Entry.{Entry};
 ghost use Rattle.dist_core_ends.specs.Ends.{table_of};
 ghost use Rattle.dist_world.specs.Asking.{node_of};
-ghost use Rattle.dist_script_play.specs.Worlds.{IsFooledAbout, AreFooledLines, AreFooledOf, PutsFooled, FoolsNobody};
-ghost use Rattle.dist_script_play.specs.{Later.ArePlaces, Lines.fooled_line};
+ghost use Rattle.dist_script_play.specs.Worlds.{IsFooledAbout, IsFooledPeer, peer_line, AreFooledLines, AreFooledOf, PutsFooled, FoolsNobody};
+ghost use Rattle.dist_script_play.specs.Later.{ArePlaces};
 
 use crate::agreements::places;
 use crate::print;
@@ -34,22 +36,45 @@ fn is_fooled_about(
     }
 }
 
-// The line of a node that takes somebody outside for this peer, if it does.
+// The peer in this row of the node's table, if the node takes somebody outside for it.
+fn fooled_peer<'n>(
+    world: &World,
+    place: usize,
+    node: &'n Node,
+    row: usize,
+    places: &BTreeMap<NodeName, usize>,
+) -> Option<&'n NodeName>
+    requires { ArePlaces places.now world.now.setups (length world.now.setups) }
+    ensures { (r : Name × Entry) → slice_get (map.entries (table_of node.now.ends)) row ≡ Some r
+        → IsFooledPeer world.now place r.0 (option_copied result) }
+{
+    let (peer, _) = node.entry_at(row)?;
+    if is_fooled_about(world, place, peer, places) {
+        Some(peer)
+    } else {
+        None
+    }
+}
+
+// The line of such a peer, if there is one. Returns whether there is.
 fn print_peer<W: Write>(
     out: &mut W,
     name: &NodeName,
-    peer: &NodeName,
-    is_fooled: bool,
-) -> Result<(), ScriptFault>
-    ensures { OnOk result (Appends (W.contents out.old) (W.contents out.new) (if is_fooled then fooled_line name.now peer.now else [])) }
+    peer: Option<&NodeName>,
+) -> Result<bool, ScriptFault>
+    ensures { IfOk result (λ is. (is ≡ is_some (option_copied peer.entry))
+        × Appends (W.contents out.old) (W.contents out.new) (peer_line name.now (option_copied peer.entry))) }
 {
-    if is_fooled {
-        return print::fooled_node(out, name, peer);
+    match peer {
+        Some(peer) => {
+            print::fooled_node(out, name, peer)?;
+            Ok(true)
+        }
+        None => Ok(false),
     }
-    Ok(())
 }
 
-// The lines of all peers in the table of a node. Returns whether there is one.
+// The lines of all such peers of a node. Returns whether there is one.
 fn print_table<W: Write>(
     world: &World,
     place: usize,
@@ -64,11 +89,8 @@ fn print_table<W: Write>(
 {
     let mut any = false;
     for row in 0..node.entries() {
-        if let Some((peer, _)) = node.entry_at(row) {
-            let is_fooled = is_fooled_about(world, place, peer, places);
-            print_peer(out, node.name(), peer, is_fooled)?;
-            any |= is_fooled;
-        }
+        let peer = fooled_peer(world, place, node, row, places);
+        any |= print_peer(out, node.name(), peer)?;
     }
     Ok(any)
 }

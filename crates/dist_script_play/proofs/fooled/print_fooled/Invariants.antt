@@ -1,4 +1,4 @@
-use Rattle.dist_script_play.proofs.Fooled.{NodesSoFar}
+use Rattle.dist_script_play.proofs.Outside.{NodesSoFar}
 use Rattle.dist_script_play.proofs.fooled.print_fooled.Given as goal
 
 -- the lines of the nodes so far

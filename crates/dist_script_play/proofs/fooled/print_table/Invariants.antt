@@ -1,4 +1,4 @@
-use Rattle.dist_script_play.proofs.{Words.table_of, Fooled.RowsSoFar}
+use Rattle.dist_script_play.proofs.{Words.table_of, Outside.RowsSoFar}
 use Rattle.dist_script_play.proofs.fooled.print_table.Given as goal
 use Rattle.std.specs.FinMap as map
 

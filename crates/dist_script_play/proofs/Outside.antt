@@ -2,12 +2,12 @@
 use Rattle.dist_script_play.proofs.Words.{◌≡◌, ℕ, zero, suc, ◌+◌, ◌<◌, ◌≤◌, Bool, true, false, List, [], ◌∷◌, ◌++◌, length, drop, get_or, slice_get, Some, None, Option}
 use Rattle.dist_script_play.proofs.Words.{sym, refl, ap, ◌∙◌, subst, append_assoc, append-nil, arith, at_drop_all, Appends, Appends-nil, Appends-trans}
 use Rattle.dist_script_play.proofs.Words.{Name, Entry, Setup, NodeState, World, IsFooled, node_of}
-use Rattle.dist_script_play.proofs.Words.{◌↔◌, find, name_cmp, table_of, get-table, one_lem}
+use Rattle.dist_script_play.proofs.Words.{BTreeMap, get, slice_get_within, ArePlaces, find, name_cmp, table_of, get-table, one_lem}
 use Rattle.dist_script_play.proofs.Finding.{counting, entry_there, found_at}
-use Rattle.dist_script_play.specs.Worlds.{AreFooledFrom, AreFooledLines, AreFooledOf, FoolsNobody, IsFooledAbout, IsFooledLine, PutsFooled}
+use Rattle.dist_script_play.specs.Worlds.{AreFooledFrom, AreFooledLines, AreFooledOf, FoolsNobody, IsFooledAbout, IsFooledPeer, peer_line, PutsFooled}
 use Rattle.dist_core.proofs.Words.{get-entries}
 use Rattle.std.specs.FinMap as map
-use Rattle.std.specs.Prelude.{◌||◌, ⊥, IsTrue}
+use Rattle.std.specs.Prelude.{◌||◌, ◌↔◌, is_some, IsTrue}
 
 or-assoc : (a b c : Bool) → ((a || b) || c) ≡ (a || (b || c))
 or-assoc false b c = refl
@@ -24,26 +24,27 @@ pub record RowsSoFar (w : World) (a : ℕ) (own : Name) (rows : List (Name × En
 pub rows_begin : (w : World) (a : ℕ) (own : Name) (rows : List (Name × Entry)) (o : Option (List ℕ)) → RowsSoFar w a own rows 0 false o o
 rows_begin w a own rows o = record { done = []; put = Appends-nil o; rest = λ others t r. r }
 
-one_row : (w : World) (a : ℕ) (own : Name) (rows : List (Name × Entry)) (k : ℕ) (r : Name × Entry) (is others : Bool) (line t : List ℕ) → slice_get rows k ≡ Some r
-    → IsFooledLine w a own r.0 is line → AreFooledLines w a own (drop (suc k) rows) others t → AreFooledLines w a own (drop k rows) (is || others) (line ++ t)
-one_row w a own [] k r is others line t at here rest = absurd cc
-one_row w a own (s ∷ rs) zero r is others line t at here rest =
-    let same : s ≡ r = cc in
-    (is, others, line, t, subst (λ (x : Name × Entry). IsFooledLine w a own x.0 is line) (sym same) here, rest, refl, refl)
-one_row w a own (s ∷ rs) (suc k) r is others line t at here rest = one_row w a own rs k r is others line t at here rest
+one_row : (w : World) (a : ℕ) (own : Name) (rows : List (Name × Entry)) (k : ℕ) (peer : Option Name) (others : Bool) (t : List ℕ) → k < length rows
+    → ((r : Name × Entry) → slice_get rows k ≡ Some r → IsFooledPeer w a r.0 peer) → AreFooledLines w a own (drop (suc k) rows) others t
+    → AreFooledLines w a own (drop k rows) (is_some peer || others) (peer_line own peer ++ t)
+one_row w a own [] k peer others t few is rest = absurd (omega arith)
+one_row w a own (s ∷ rs) zero peer others t few is rest = (peer, others, t, is s refl, rest, refl, refl)
+one_row w a own (s ∷ rs) (suc k) peer others t few is rest = one_row w a own rs k peer others t (omega arith) is rest
 
-pub rows_go_on : (w : World) (a : ℕ) (own : Name) (rows : List (Name × Entry)) (k : ℕ) (r : Name × Entry) (any is : Bool) (o m n : Option (List ℕ)) (line : List ℕ)
-    → RowsSoFar w a own rows k any o m → slice_get rows k ≡ Some r → IsFooledLine w a own r.0 is line → Appends m n line → RowsSoFar w a own rows (k + 1) (any || is) o n
-rows_go_on w a own rows k r any is o m n line so at here put =
+pub rows_go_on : (w : World) (a : ℕ) (own : Name) (rows : List (Name × Entry)) (k : ℕ) (any is : Bool) (peer : Option Name) (o m n : Option (List ℕ))
+    → RowsSoFar w a own rows k any o m → k < length rows → ((r : Name × Entry) → slice_get rows k ≡ Some r → IsFooledPeer w a r.0 peer)
+    → is ≡ is_some peer → Appends m n (peer_line own peer) → RowsSoFar w a own rows (k + 1) (any || is) o n
+rows_go_on w a own rows k any is peer o m n so few here same put =
     let next : suc k ≡ k + 1 = omega arith in
-    subst (λ x. RowsSoFar w a own rows x (any || is) o n) next (record {
+    let line = peer_line own peer in
+    subst (λ v. RowsSoFar w a own rows (k + 1) (any || v) o n) (sym same) (subst (λ x. RowsSoFar w a own rows x (any || is_some peer) o n) next (record {
       done = so.done ++ line;
       put = Appends-trans o m n so.done line so.put put;
       rest = λ others t more.
-          subst (λ v. AreFooledLines w a own rows v ((so.done ++ line) ++ t)) (sym (or-assoc any is others))
-          (subst (AreFooledLines w a own rows (any || (is || others))) (sym (append_assoc so.done line t))
-          (so.rest (is || others) (line ++ t) (one_row w a own rows k r is others line t at here more)));
-    })
+          subst (λ v. AreFooledLines w a own rows v ((so.done ++ line) ++ t)) (sym (or-assoc any (is_some peer) others))
+          (subst (AreFooledLines w a own rows (any || (is_some peer || others))) (sym (append_assoc so.done line t))
+          (so.rest (is_some peer || others) (line ++ t) (one_row w a own rows k peer others t few here more)));
+    }))
 
 or-none : (a : Bool) → (a || false) ≡ a
 or-none false = refl
@@ -102,20 +103,20 @@ both-false false false e = (refl, refl)
 both-false false true e = absurd cc
 both-false true b e = absurd cc
 
-is-not : (P : Type 0) (is : Bool) → is ≡ false → (IsTrue is ↔ P) → P → ⊥
-is-not P true e h p = absurd cc
-is-not P false e h p = let t = h.1 p in absurd cc
+not-peer : (w : World) (a : ℕ) (p : Name) (peer : Option Name) → is_some peer ≡ false → IsFooledPeer w a p peer → IsFooledAbout w a p → ⊥
+not-peer w a p None e h f = h f
+not-peer w a p (Some q) e h f = absurd cc
 
 no_row : (w : World) (a : ℕ) (own : Name) (rows : List (Name × Entry)) (any : Bool) (text : List ℕ) → AreFooledLines w a own rows any text → any ≡ false
     → (k : ℕ) (r : Name × Entry) → slice_get rows k ≡ Some r → IsFooledAbout w a r.0 → ⊥
 no_row w a own [] any text h none k r at f = absurd cc
 no_row w a own (s ∷ rs) any text h none zero r at f =
     let same : s ≡ r = cc in
-    let both = both-false h.0 h.1 (sym h.6 ∙ none) in
-    is-not (IsFooledAbout w a s.0) h.0 both.0 h.4.0 (subst (λ (x : Name × Entry). IsFooledAbout w a x.0) (sym same) f)
+    let both = both-false (is_some h.0) h.1 (sym h.5 ∙ none) in
+    not-peer w a s.0 h.0 both.0 h.3 (subst (λ (x : Name × Entry). IsFooledAbout w a x.0) (sym same) f)
 no_row w a own (s ∷ rs) any text h none (suc k) r at f =
-    let both = both-false h.0 h.1 (sym h.6 ∙ none) in
-    no_row w a own rs h.1 h.3 h.5 both.1 k r at f
+    let both = both-false (is_some h.0) h.1 (sym h.5 ∙ none) in
+    no_row w a own rs h.1 h.2 h.4 both.1 k r at f
 
 of_node : (w : World) (i count : ℕ) (any : Bool) (text : List ℕ) → AreFooledFrom w i count any text → any ≡ false → (k : ℕ) → k < count
     → (here : List ℕ) × AreFooledOf w (i + k) (node_of w (i + k)) false here
@@ -137,8 +138,34 @@ fools_nobody w any text h none a b few f =
     let n = u.life.node in
     let p = u.other.name in
     let rows = map.entries (table_of n.ends) in
-    let lines : AreFooledLines w a n.setup.name rows false o.0 = subst (λ x. AreFooledOf w a x false o.0) (counting w a b u) o.1 in
+    let here : 0 + a ≡ a = omega arith in
+    let of : AreFooledOf w a (node_of w a) false o.0 = subst (λ x. AreFooledOf w x (node_of w x) false o.0) here o.1 in
+    let lines : AreFooledLines w a n.setup.name rows false o.0 = subst (λ x. AreFooledOf w a x false o.0) (counting w a b u) of in
     let e = entry_there n.ends p u.id u.kept u.is_up u.peer in
     let found : find name_cmp p rows ≡ Some e.0 = sym (get-entries (table_of n.ends) p) ∙ get-table n.ends p ∙ e.1 in
     let r = found_at p e.0 rows found in
     no_row w a n.setup.name rows false o.0 lines refl r.0 (r.1, e.0) r.2 (b, u.other, u.named, one_lem p r.1 r.3, f)
+
+-- ---- who is looked up by name
+
+pub about : (w : World) (a : ℕ) (p : Name) (places : BTreeMap Name ℕ) → ArePlaces places w.setups (length w.setups) → (b : ℕ) → get name_cmp places p ≡ Some b
+    → (v : Bool) → (IsTrue v ↔ IsFooled w a b) → IsTrue v ↔ IsFooledAbout w a p
+about w a p places are b here v h = (
+  (λ t. let f = h.0 t in let u = f.0 in (b, u.other, u.named, are.named p b u.other here u.named, f)),
+  (λ k.
+      let s = k.1 in
+      let there : get name_cmp places p ≡ Some k.0 =
+      ap (get name_cmp places) (sym k.3) ∙ are.known k.0 s (slice_get_within w.setups k.0 s k.2) k.2 in
+      let same : k.0 ≡ b = let e : Some k.0 ≡ Some b = sym there ∙ here in cc in
+      h.1 (subst (λ x. IsFooled w a x) same k.4)),
+)
+
+pub about_nobody : (w : World) (a : ℕ) (p : Name) (places : BTreeMap Name ℕ) → ArePlaces places w.setups (length w.setups) → get name_cmp places p ≡ None
+    → IsTrue false ↔ IsFooledAbout w a p
+about_nobody w a p places are none = (
+  (λ t. absurd cc),
+  (λ k.
+      let s = k.1 in
+      let there : None ≡ Some k.0 = sym none ∙ ap (get name_cmp places) (sym k.3) ∙ are.known k.0 s (slice_get_within w.setups k.0 s k.2) k.2 in
+      absurd cc),
+)
