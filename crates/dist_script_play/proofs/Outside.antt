@@ -1,7 +1,7 @@
 -- The lines of who takes somebody outside for another node, one behind the other; and that no such node is left out.
-use Rattle.dist_script_play.proofs.Words.{◌≡◌, ℕ, zero, suc, ◌+◌, ◌<◌, ◌≤◌, Bool, true, false, List, [], ◌∷◌, ◌++◌, length, drop, get_or, slice_get, Some, None, Option}
+use Rattle.dist_script_play.proofs.Words.{◌≡◌, ℕ, zero, suc, ◌+◌, ◌<◌, ◌≤◌, Bool, true, false, List, [], ◌∷◌, ◌++◌, length, drop, slice_get, Some, None, Option}
 use Rattle.dist_script_play.proofs.Words.{sym, refl, ap, ◌∙◌, subst, append_assoc, append-nil, arith, at_drop_all, Appends, Appends-nil, Appends-trans}
-use Rattle.dist_script_play.proofs.Words.{Name, Entry, Setup, NodeState, World, IsFooled, node_of}
+use Rattle.dist_script_play.proofs.Words.{Name, Entry, World, IsFooled, node_of}
 use Rattle.dist_script_play.proofs.Words.{BTreeMap, get, slice_get_within, ArePlaces, find, name_cmp, table_of, get-table, one_lem}
 use Rattle.dist_script_play.proofs.Finding.{counting, entry_there, found_at}
 use Rattle.dist_script_play.specs.Worlds.{AreFooledFrom, AreFooledLines, AreFooledOf, FoolsNobody, IsFooledAbout, IsFooledPeer, peer_line, PutsFooled}
