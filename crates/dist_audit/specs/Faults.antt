@@ -64,27 +64,28 @@ comes_unopened all = list_any (λ t. is_unopened all (let l = t.line in l.event)
 abbrev pub nodes_unpaired : List Closed → Bool
 nodes_unpaired cs = nat_lt 1048576 (length cs) || names_repeat (setups_of cs)
 
--- a link is dialled twice, or comes twice, or comes and is not dialled
-abbrev pub links_unpaired : List NodeLine → Bool
-links_unpaired all = links_repeat all || comes_unopened all
+-- a link is dialled twice, or comes twice, or, where no others took part, comes and is not dialled
+abbrev pub links_unpaired : Bool → List NodeLine → Bool
+links_unpaired false all = links_repeat all || comes_unopened all
+links_unpaired true all = links_repeat all
 
--- NODES OR LINKS ARE NOT IN PAIRS
-abbrev pub is_unpaired : List Closed → Bool
-is_unpaired cs = nodes_unpaired cs || links_unpaired (lines_by_node cs)
+-- NODES OR LINKS ARE NOT IN PAIRS, by whether others took part
+abbrev pub is_unpaired : Bool → List Closed → Bool
+is_unpaired others cs = nodes_unpaired cs || links_unpaired others (lines_by_node cs)
 
--- THE FIRST FAULT, in this order
-abbrev pub fault_of : List Closed → Option AuditError
-fault_of cs =
+-- THE FIRST FAULT, in this order, by whether others took part
+abbrev pub fault_of : Bool → List Closed → Option AuditError
+fault_of others cs =
     if falls cs then Some error.TicketFalls
     else (if twice cs then Some error.TicketTwice
-    else (if is_unpaired cs then Some error.Unpaired else None))
+    else (if is_unpaired others cs then Some error.Unpaired else None))
 
 -- a refusal names the first fault, and nothing where memory ran out
-abbrev pub IsFault : AuditError → List Closed → Type 0
-IsFault error.NoMemory cs = Unit {0}
-IsFault error.NotSent cs = ⊥
-IsFault error.OtherReply cs = ⊥
-IsFault e cs = fault_of cs ≡ Some e
+abbrev pub IsFault : AuditError → Bool → List Closed → Type 0
+IsFault error.NoMemory others cs = Unit {0}
+IsFault error.NotSent others cs = ⊥
+IsFault error.OtherReply others cs = ⊥
+IsFault e others cs = fault_of others cs ≡ Some e
 
 -- a refusal says that this is so, and nothing where memory ran out
 abbrev pub Unpairs : AuditError → Bool → Type 0

@@ -1,5 +1,6 @@
 pub mod Lines
 pub mod Links
+pub mod Outside
 pub mod Happenings
 pub mod Faults
 pub mod Kept

@@ -1,7 +1,7 @@
 //! Links: the numbers by which those who carried a connection knew it.
 ghost use Rattle.std.specs.Prelude.{◌≡◌, ℕ, if◌then◌else◌, [], Some, false, IfOk, IfErr, OnOk};
 ghost use Rattle.std.specs.{List.list_any, Ordering.nat_cmp, BTreeMap.get};
-ghost use Rattle.dist_audit.specs.Links.{link_in, comes, dialled_end, dialled_in, comes_in, or_else, target_of};
+ghost use Rattle.dist_audit.specs.Links.{link_in, inner_link, comes, dialled_end, dialled_in, comes_in, or_else, target_of};
 ghost use Rattle.dist_audit.specs.{Faults.links_repeat, Faults.comes_unopened, Faults.Unpairs, Kept.Knows, Kept.is_again, Kept.is_unknown};
 
 use crate::audit_error::AuditError;
@@ -20,6 +20,13 @@ pub fn link_in(event: &Event) -> Option<u64>
         Event::Incoming { link } => Some(*link),
         _ => None,
     }
+}
+
+/// The link of a connection between these nodes that an event mentions, by whether somebody outside did it.
+pub fn inner_link(outside: bool, event: &Event) -> Option<u64>
+    ensures { result ≡ inner_link outside event.now }
+{
+    if outside { None } else { link_in(event) }
 }
 
 /// Where a link leads to: the node to which it came, or one that is not known to have seen it.

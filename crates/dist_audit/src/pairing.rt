@@ -1,6 +1,7 @@
-//! All lines, whose links are in pairs.
-ghost use Rattle.std.specs.Prelude.{◌≡◌, false, IfOk, IfErr, OnOk};
-ghost use Rattle.dist_audit.specs.{Lines.lines_by_node, Lines.AreLinesOf, Links.dialler_of, Links.acceptor_of, Faults.links_unpaired, Faults.Unpairs};
+//! All lines, in the order of their tickets.
+ghost use Rattle.std.specs.Prelude.{◌≡◌, true, false, IfOk, IfErr, OnOk};
+ghost use Rattle.dist_audit.specs.{Lines.lines_by_node, Links.dialler_of, Links.acceptor_of, Faults.links_unpaired, Faults.Unpairs};
+ghost use Rattle.dist_audit.specs.{Audit.AreTold, Outside.marked};
 
 use crate::audit_error::AuditError;
 use crate::lines::{NodeLine, lines_of};
@@ -9,6 +10,8 @@ use dist_locked_book::Closed;
 use dist_peers::EndId;
 use std::alloc::Global;
 use std::marker::Model;
+
+mod outside;
 
 /// All lines in the order of their tickets, and what they say of each link.
 #[derive(Drop)]
@@ -54,8 +57,8 @@ impl<'a> Lines<'a> {
 // These lines, whose links are in pairs.
 fn pair(alloc: Global, noted: Vec<NodeLine>) -> Result<Lines, AuditError>
     ensures ok { IfOk result (λ lines. lines ≡ noted.entry.items) }
-    ensures paired { OnOk result (links_unpaired noted.entry.items ≡ false) }
-    ensures err { IfErr result (λ e. Unpairs e (links_unpaired noted.entry.items)) }
+    ensures paired { OnOk result (links_unpaired false noted.entry.items ≡ false) }
+    ensures err { IfErr result (λ e. Unpairs e (links_unpaired false noted.entry.items)) }
 {
     let links = link_table(alloc, &noted)?;
     if links.comes_unopened(&noted) {
@@ -64,12 +67,29 @@ fn pair(alloc: Global, noted: Vec<NodeLine>) -> Result<Lines, AuditError>
     Ok(Lines { noted, links })
 }
 
-/// All lines of these nodes, in the order of their tickets, whose links are in pairs.
-pub fn paired_lines(alloc: Global, closed: &[Closed]) -> Result<Lines, AuditError>
-    ensures ok { IfOk result (λ lines. AreLinesOf closed.now lines) }
-    ensures paired { OnOk result (links_unpaired (lines_by_node closed.now) ≡ false) }
-    ensures err { IfErr result (λ e. Unpairs e (links_unpaired (lines_by_node closed.now))) }
+// These lines, of which no two are of one kind and one link, each by whether somebody outside did what it says.
+fn mark(alloc: Global, noted: Vec<NodeLine>) -> Result<Lines, AuditError>
+    ensures ok { IfOk result (λ lines. lines ≡ marked noted.entry.items) }
+    ensures paired { OnOk result (links_unpaired true noted.entry.items ≡ false) }
+    ensures err { IfErr result (λ e. Unpairs e (links_unpaired true noted.entry.items)) }
+{
+    let links = link_table(alloc, &noted)?;
+    let mut lines = Lines { noted, links };
+    lines.mark(alloc)?;
+    Ok(lines)
+}
+
+/// All lines of these nodes, in the order of their tickets, whose links are in pairs; where others took part, by whether somebody outside
+/// did what each says.
+pub fn told_lines(alloc: Global, closed: &[Closed], others: bool) -> Result<Lines, AuditError>
+    ensures ok { IfOk result (λ lines. AreTold others closed.now lines) }
+    ensures paired { OnOk result (links_unpaired others (lines_by_node closed.now) ≡ false) }
+    ensures err { IfErr result (λ e. Unpairs e (links_unpaired others (lines_by_node closed.now))) }
 {
     let noted = lines_of(alloc, closed)?;
-    pair(alloc, noted)
+    if others {
+        mark(alloc, noted)
+    } else {
+        pair(alloc, noted)
+    }
 }
