@@ -5,8 +5,8 @@ use Rattle.dist_audit.proofs.Words.{eqb-true, or_parts, list_any, Creation, firs
 use Rattle.dist_audit.proofs.Words.{after_delivery, body_taken, change_to, conns_after_saying, says, spoken_on, text_to, at_place, first_where, one_where, run}
 use Rattle.dist_audit.proofs.Words.{Conn, Life, Text, World, empty, end_at, row_at, running, runs, runs_for, Happening, if_holds, if_ok, if_there, Closed}
 use Rattle.dist_audit.proofs.Words.{AllApply, AreFollowed, AreOfOneWorld, ComeHome, ComesHere, EachLinkComesHome, UnlessOutside, after, is_unopened}
-use Rattle.dist_audit.proofs.Words.{links_repeat, repeats, before, begins, own, reach, reach_first, setups_of, with_mentions, NodeLine}
-use Rattle.dist_audit.proofs.Words.{acceptor_of, comes, comes_in, conn_of, dialled_end, dialled_in, dialler_of, inner_link, is_among, mention, opens, opens_in}
+use Rattle.dist_audit.proofs.Words.{links_repeat, repeats, stands_twice, before, begins, own, reach, reach_first, setups_of, with_mentions, NodeLine}
+use Rattle.dist_audit.proofs.Words.{acceptor_of, comes, comes_in, conn_of, dialled_end, dialled_in, dialler_of, inner_link, is_among, mention, mentions, opens, opens_in}
 use Rattle.dist_audit.proofs.Words.{or_else, target_of}
 use Rattle.dist_core.specs.declared.event.Event.TheVariants as event
 use Rattle.dist_world_model.specs.Happenings.{accept, begin, deliver, is_outside, notify_opened, notify_outside, take_frame, reach as happening_reach}
@@ -268,14 +268,17 @@ comes-incoming k (event.Frame id body) o = absurd cc
 comes-incoming k (event.Lost id w) o = absurd cc
 comes-incoming k (event.Tick id) o = absurd cc
 
-acceptor-mine : (k : ℕ) (pre ts : List NodeLine) (t : NodeLine) → links_repeat (pre ++ t ∷ ts) ≡ false → comes_in k t ≡ true → acceptor_of k (pre ++ t ∷ ts) ≡ Some t.node
+acceptor-mine : (k : ℕ) (pre ts : List NodeLine) (t : NodeLine) → stands_twice k (pre ++ t ∷ ts) ≡ false → comes_in k t ≡ true → acceptor_of k (pre ++ t ∷ ts) ≡ Some t.node
 acceptor-mine k [] ts t once c = ap (λ b. cond b (Some t.node) (acceptor_of k ts)) c
 acceptor-mine k (x ∷ pre) ts t once c = elim (comes_in k x) as (λ b. comes_in k x ≡ b → cond b (Some x.node) (acceptor_of k (pre ++ t ∷ ts)) ≡ Some t.node) [
   | true ↦ λ h.
       let is : (let l = x.line in l.event) ≡ event.Incoming k = comes-incoming k (let l = x.line in l.event) h in
-      let first : repeats (event.Incoming k) (pre ++ t ∷ ts) ≡ false = ap (λ e. repeats e (pre ++ t ∷ ts)) (sym is) ∙ (or_parts (repeats (let l = x.line in l.event) (pre ++ t ∷ ts)) (links_repeat (pre ++ t ∷ ts)) once).0 in
-      absurd (let f : true ≡ false = sym (any-at (comes_in k) pre ts t c) ∙ first in cc)
-  | false ↦ λ h. acceptor-mine k pre ts t (or_parts (repeats (let l = x.line in l.event) (pre ++ t ∷ ts)) (links_repeat (pre ++ t ∷ ts)) once).1 c
+      let rest = pre ++ t ∷ ts in
+      let here : (repeats (let l = x.line in l.event) rest && mentions k (let l = x.line in l.event)) ≡ false = (or_parts (repeats (let l = x.line in l.event) rest && mentions k (let l = x.line in l.event)) (stands_twice k rest) once).0 in
+      let both : (repeats (event.Incoming k) rest && mentions k (event.Incoming k)) ≡ false = ap (λ e. repeats e rest && mentions k e) (sym is) ∙ here in
+      let so : (repeats (event.Incoming k) rest && mentions k (event.Incoming k)) ≡ true = (λ i. any-at (comes_in k) pre ts t c i && eq-eqb k k refl i) in
+      absurd (let f : true ≡ false = sym so ∙ both in cc)
+  | false ↦ λ h. acceptor-mine k pre ts t (or_parts (repeats (let l = x.line in l.event) (pre ++ t ∷ ts) && mentions k (let l = x.line in l.event)) (stands_twice k (pre ++ t ∷ ts)) once).1 c
 ] refl
 
 -- ---- a line
@@ -296,9 +299,9 @@ Fine all i (event.Opened id k) = HasDialler all k
 Fine all i (event.Incoming k) = HasDialler all k × (acceptor_of k all ≡ Some i)
 Fine all i _ = Unit {0}
 
--- a link that comes has a dialler
+-- a link that comes has a dialler, and does not stand twice
 abbrev pub IsKnown : List NodeLine → Event → Type 0
-IsKnown all (event.Incoming k) = HasDialler all k
+IsKnown all (event.Incoming k) = HasDialler all k × (stands_twice k all ≡ false)
 IsKnown all _ = Unit {0}
 
 -- so in each of these lines that nobody outside did
@@ -306,38 +309,47 @@ abbrev pub AllKnown : List NodeLine → List NodeLine → Type 0
 AllKnown all [] = Unit {0}
 AllKnown all (t ∷ ts) = UnlessOutside t.outside (IsKnown all (let l = t.line in l.event)) × AllKnown all ts
 
-known-event : (all : List NodeLine) (e : Event) → is_unopened all e ≡ false → IsKnown all e
-known-event all (event.Incoming k) none =
-    has-dialler k all (elim (list_any (opens_in k) all) as (λ b. not b ≡ false → b ≡ true) [ true ↦ λ q. refl | false ↦ λ q. absurd cc ] none)
-known-event all (event.Dial p o) none = tt
-known-event all (event.Opened id k) none = tt
-known-event all (event.Frame id body) none = tt
-known-event all (event.Lost id w) none = tt
-known-event all (event.Tick id) none = tt
+once-stands : (k : ℕ) (ts : List NodeLine) → links_repeat ts ≡ false → stands_twice k ts ≡ false
+once-stands k [] e = refl
+once-stands k (t ∷ ts) e =
+    let l = t.line in
+    let p = or_parts (repeats l.event ts) (links_repeat ts) e in
+    (λ i. (p.0 i && mentions k l.event) || once-stands k ts p.1 i)
 
--- where no link comes that is not dialled
-pub all-known : (all ts : List NodeLine) → list_any (λ t. is_unopened all (let l = t.line in l.event)) ts ≡ false → AllKnown all ts
-all-known all [] e = tt
-all-known all (t ∷ ts) e =
+known-event : (all : List NodeLine) → links_repeat all ≡ false → (e : Event) → is_unopened all e ≡ false → IsKnown all e
+known-event all once (event.Incoming k) none = (
+  has-dialler k all (elim (list_any (opens_in k) all) as (λ b. not b ≡ false → b ≡ true) [ true ↦ λ q. refl | false ↦ λ q. absurd cc ] none),
+  once-stands k all once,
+)
+known-event all once (event.Dial p o) none = tt
+known-event all once (event.Opened id k) none = tt
+known-event all once (event.Frame id body) none = tt
+known-event all once (event.Lost id w) none = tt
+known-event all once (event.Tick id) none = tt
+
+-- where links are in pairs
+pub all-known : (all ts : List NodeLine) → links_repeat all ≡ false → list_any (λ t. is_unopened all (let l = t.line in l.event)) ts ≡ false → AllKnown all ts
+all-known all [] once e = tt
+all-known all (t ∷ ts) once e =
     let l = t.line in
     let p = or_parts (is_unopened all l.event) (list_any (λ u. is_unopened all (let m = u.line in m.event)) ts) e in
-    (unless t.outside (known-event all l.event p.0), all-known all ts p.1)
+    (unless t.outside (known-event all once l.event p.0), all-known all ts once p.1)
 
-fine : (all pre ts : List NodeLine) (t : NodeLine) → all ≡ pre ++ t ∷ ts → links_repeat all ≡ false → (e : Event) → (let l = t.line in l.event) ≡ e → IsKnown all e → Fine all t.node e
-fine all pre ts t is once (event.Opened id k) e known =
+fine : (all pre ts : List NodeLine) (t : NodeLine) → all ≡ pre ++ t ∷ ts → (e : Event) → (let l = t.line in l.event) ≡ e → IsKnown all e → Fine all t.node e
+fine all pre ts t is (event.Opened id k) e known =
     let mine : opens_in k t ≡ true = ap (opens k) e ∙ eq-eqb k k refl in
     has-dialler k all (ap (list_any (opens_in k)) is ∙ any-at (opens_in k) pre ts t mine)
-fine all pre ts t is once (event.Incoming k) e known =
+fine all pre ts t is (event.Incoming k) e known =
     let here : comes_in k t ≡ true = ap (comes k) e ∙ eq-eqb k k refl in
-    (known, ap (acceptor_of k) is ∙ acceptor-mine k pre ts t (ap links_repeat (sym is) ∙ once) here)
-fine all pre ts t is once (event.Dial p o) e known = tt
-fine all pre ts t is once (event.Frame id body) e known = tt
-fine all pre ts t is once (event.Lost id w) e known = tt
-fine all pre ts t is once (event.Tick id) e known = tt
+    (known.0, ap (acceptor_of k) is ∙ acceptor-mine k pre ts t (ap (stands_twice k) (sym is) ∙ known.1) here)
+fine all pre ts t is (event.Dial p o) e known = tt
+fine all pre ts t is (event.Frame id body) e known = tt
+fine all pre ts t is (event.Lost id w) e known = tt
+fine all pre ts t is (event.Tick id) e known = tt
 
-fine-unless : (all pre ts : List NodeLine) (t : NodeLine) → all ≡ pre ++ t ∷ ts → links_repeat all ≡ false → (b : Bool) → UnlessOutside b (IsKnown all (let l = t.line in l.event)) → UnlessOutside b (Fine all t.node (let l = t.line in l.event))
-fine-unless all pre ts t is once true known = tt
-fine-unless all pre ts t is once false known = fine all pre ts t is once (let l = t.line in l.event) refl known
+fine-unless : (all pre ts : List NodeLine) (t : NodeLine) → all ≡ pre ++ t ∷ ts → (b : Bool) → UnlessOutside b (IsKnown all (let l = t.line in l.event)) → UnlessOutside b (Fine all t.node (let l = t.line in l.event))
+fine-unless all pre ts t is true known = tt
+fine-unless all pre ts t is false known = fine all pre ts t is (let l = t.line in l.event) refl known
 
 goes-frame : (all : List NodeLine) (count : ℕ) (w x : World) (ks : List ℕ) → SameFrame w x → Goes all count w ks → Goes all count x ks
 goes-frame all count w x ks f g = subst (λ ps. Matches (running x) (home all count) ks ps) (sym f.lead_same) (matches-same (running w) (running x) (home all count) f.run_same ks (targets w.conns) g)
@@ -387,13 +399,13 @@ line-goes all count w ks false i (event.Tick id) fresh f g a = (tt, goes-frame a
 
 -- ---- ALL LINES
 
-come-home : (all : List NodeLine) (count : ℕ) (ks : List ℕ) (w : World) (pre ts : List NodeLine) → all ≡ pre ++ ts → links_repeat all ≡ false → AllKnown all ts → Goes all count w ks → AreFollowed all count ks w ts → ComeHome all count ks w ts
-come-home all count ks w pre [] is once known g f = tt
-come-home all count ks w pre (t ∷ ts) is once known g f =
+come-home : (all : List NodeLine) (count : ℕ) (ks : List ℕ) (w : World) (pre ts : List NodeLine) → all ≡ pre ++ ts → AllKnown all ts → Goes all count w ks → AreFollowed all count ks w ts → ComeHome all count ks w ts
+come-home all count ks w pre [] is known g f = tt
+come-home all count ks w pre (t ∷ ts) is known g f =
     let h = f.0 in
     let l = t.line in
-    let x = line-goes all count w ks t.outside t.node l.event l.fresh (fine-unless all pre ts t is once t.outside known.0) g h.before in
-    (x.0, come-home all count (with_mentions ks t) (after all count ks w t) (pre ++ t ∷ []) ts (is ∙ sym (append_assoc pre (t ∷ []) ts)) once known.1 x.1 f.1)
+    let x = line-goes all count w ks t.outside t.node l.event l.fresh (fine-unless all pre ts t is t.outside known.0) g h.before in
+    (x.0, come-home all count (with_mentions ks t) (after all count ks w t) (pre ++ t ∷ []) ts (is ∙ sym (append_assoc pre (t ∷ []) ts)) known.1 x.1 f.1)
 
 same-conns : (w : World) (i : ℕ) (c : Creation) → IfSome (begin w i c) (λ x. x.conns ≡ w.conns)
 same-conns w i c = let P : World → Type 0 = λ x. x.conns ≡ w.conns in
@@ -418,7 +430,7 @@ conns-begins w i (s ∷ ss) =
     by false = tt
 
 -- in histories of one world each link comes to the node of its line
-pub all-come-home : (cs : List Closed) (all : List NodeLine) → links_repeat all ≡ false → AllKnown all all → AreOfOneWorld cs all → EachLinkComesHome cs all
-all-come-home cs all once known f =
+pub all-come-home : (cs : List Closed) (all : List NodeLine) → AllKnown all all → AreOfOneWorld cs all → EachLinkComesHome cs all
+all-come-home cs all known f =
     let none : targets (let x = audit.world_before_lines cs in x.conns) ≡ [] = ap targets (conns-begins (empty (setups_of cs)) 0 (setups_of cs)) in
-    come-home all (length cs) [] (audit.world_before_lines cs) [] all refl once known (subst (λ ps. Matches (running (audit.world_before_lines cs)) (home all (length cs)) [] ps) (sym none) tt) f.followed
+    come-home all (length cs) [] (audit.world_before_lines cs) [] all refl known (subst (λ ps. Matches (running (audit.world_before_lines cs)) (home all (length cs)) [] ps) (sym none) tt) f.followed

@@ -117,10 +117,8 @@ comes-alike xs ys p =
     list_any-IsPermutation (λ t. is_unopened xs (event_of t)) xs ys p
     ∙ any-same (λ t. is_unopened xs (event_of t)) (λ t. is_unopened ys (event_of t)) (λ t. unopened-alike xs ys p (event_of t)) ys
 
-repeat-alike : (xs ys : List NodeLine) → IsPermutation xs ys → links_repeat xs ≡ links_repeat ys
-repeat-alike xs ys p = both-or-none (links_repeat xs) (links_repeat ys) (not-repeat xs ys p) (not-repeat ys xs (IsPermutation-sym xs ys p))
-
 -- lines in another order have links in pairs or not all the same
-pub unpaired-alike : (others : Bool) (xs ys : List NodeLine) → IsPermutation xs ys → links_unpaired others xs ≡ links_unpaired others ys
-unpaired-alike false xs ys p = (λ i. repeat-alike xs ys p i || comes-alike xs ys p i)
-unpaired-alike true xs ys p = repeat-alike xs ys p
+pub unpaired-alike : (xs ys : List NodeLine) → IsPermutation xs ys → links_unpaired xs ≡ links_unpaired ys
+unpaired-alike xs ys p =
+    let repeat : links_repeat xs ≡ links_repeat ys = both-or-none (links_repeat xs) (links_repeat ys) (not-repeat xs ys p) (not-repeat ys xs (IsPermutation-sym xs ys p)) in
+    (λ i. repeat i || comes-alike xs ys p i)

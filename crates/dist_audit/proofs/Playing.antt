@@ -2,7 +2,7 @@
 use Rattle.dist_audit.proofs.Words.{◌≡◌, Bool, false, List, [], length, IsTrue, None, sym, ap, ◌∙◌, subst, inr, run, World, empty, run-append, Closed, AllApply}
 use Rattle.dist_audit.proofs.Words.{AreFollowed, AreOfOneWorld, AreRefused, AreTold, HasTables, PlayUpTo, world_before_lines, world_of, fault_of, nodes_unpaired}
 use Rattle.dist_audit.proofs.Words.{begins, of_lines, setups_of, NodeLine}
-use Rattle.dist_audit.proofs.{Beginning.all-begin, Faultless.few-nodes, Faultless.paired, Homing.all-come-home, Marking.told-once, Walking.all-apply}
+use Rattle.dist_audit.proofs.{Beginning.all-begin, Faultless.few-nodes, Faultless.paired, Homing.all-come-home, Marking.told-known, Walking.all-apply}
 use Rattle.dist_audit.proofs.{Quiet.FramesAlone, Quiet.all-take-theirs, Unchanged.KeepsSetups, Unchanged.own-digests, Unchanged.own-setups}
 use Rattle.dist_audit.specs.declared.audit_error.AuditError.TheVariants as error
 
@@ -40,13 +40,12 @@ module _ (cs : List Closed) (first second last : World) (lines : List NodeLine) 
 pub plays-up : FramesAlone → KeepsSetups → (others : Bool) (cs : List Closed) (w : World) (ts : List NodeLine) → fault_of others cs ≡ None → AreTold others cs ts → w ≡ world_of cs ts → AreOfOneWorld cs ts → PlayUpTo others cs w ts
 plays-up alone keeps others cs w ts none told is one =
     let pairs = paired others cs none in
-    let once = told-once others cs ts told pairs.1 in
     record {
       lines = told;
       world = is;
       applied = all-apply cs ts (all-begin (setups_of cs) (few-nodes cs pairs.0)) one;
       one_world = one;
-      links = all-come-home cs ts once.0 once.1 one;
+      links = all-come-home cs ts (told-known others cs ts told pairs.1) one;
       bodies = all-take-theirs alone cs ts one;
       setups = own-setups keeps cs ts w is;
       digests = own-digests keeps cs ts w is;

@@ -24,7 +24,7 @@ pub use Rattle.dist_audit.specs.Faults.{links_unpaired, nodes_unpaired, repeats,
 pub use Rattle.dist_audit.specs.Happenings.{ahead, before, begins, happenings, itself, of_lines, own, reach, reach_first, setups_of, with_mentions}
 pub use Rattle.dist_audit.specs.{Kept.AreNumbers, Kept.Knows, Kept.is_again, Kept.is_unknown, Kept.number_of, declared.audit_error.AuditError.AuditError}
 pub use Rattle.dist_audit.specs.Lines.{AreLinesOf, NodeLine, line_of_node, lines_at, lines_by_node, lines_from, ticket_of}
-pub use Rattle.dist_audit.specs.Links.{acceptor_of, comes, comes_in, conn_of, dialled_end, dialled_in, dialler_of, inner_link, is_among, link_in, mention, opens, opens_in}
+pub use Rattle.dist_audit.specs.Links.{acceptor_of, comes, comes_in, conn_of, dialled_end, dialled_in, dialler_of, inner_link, is_among, link_in, mention, mentions, opens, opens_in}
 pub use Rattle.dist_audit.specs.Links.{or_else, target_of}
-pub use Rattle.dist_audit.specs.Outside.{end_number, is_done_outside, is_paired, is_strange, is_strange_at, marked, marked_line, marked_lines}
+pub use Rattle.dist_audit.specs.Outside.{end_number, is_done_outside, is_paired, is_strange, is_strange_at, marked, marked_line, marked_lines, stands_twice}
 pub use Rattle.dist_audit.specs.Outside.{meets_stranger, strangers}

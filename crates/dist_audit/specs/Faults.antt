@@ -64,14 +64,13 @@ comes_unopened all = list_any (λ t. is_unopened all (let l = t.line in l.event)
 abbrev pub nodes_unpaired : List Closed → Bool
 nodes_unpaired cs = nat_lt 1048576 (length cs) || names_repeat (setups_of cs)
 
--- a link is dialled twice, or comes twice, or, where no others took part, comes and is not dialled
-abbrev pub links_unpaired : Bool → List NodeLine → Bool
-links_unpaired false all = links_repeat all || comes_unopened all
-links_unpaired true all = links_repeat all
+-- a link is dialled twice, or comes twice, or comes and is not dialled
+abbrev pub links_unpaired : List NodeLine → Bool
+links_unpaired all = links_repeat all || comes_unopened all
 
--- NODES OR LINKS ARE NOT IN PAIRS, by whether others took part
+-- NODES OR LINKS ARE NOT IN PAIRS; where others took part, links need not be
 abbrev pub is_unpaired : Bool → List Closed → Bool
-is_unpaired others cs = nodes_unpaired cs || links_unpaired others (lines_by_node cs)
+is_unpaired others cs = nodes_unpaired cs || (not others && links_unpaired (lines_by_node cs))
 
 -- THE FIRST FAULT, in this order, by whether others took part
 abbrev pub fault_of : Bool → List Closed → Option AuditError

@@ -27,6 +27,12 @@ abbrev pub comes : ℕ → Event → Bool
 comes k (event.Incoming j) = j == k
 comes k _ = false
 
+-- the event is of this link
+abbrev pub mentions : ℕ → Event → Bool
+mentions k (event.Opened id j) = j == k
+mentions k (event.Incoming j) = j == k
+mentions k _ = false
+
 -- in the line the dialling end learns of this link
 abbrev pub opens_in : ℕ → NodeLine → Bool
 opens_in k t = let l = t.line in opens k l.event

@@ -1,17 +1,22 @@
--- WHAT SOMEBODY OUTSIDE DID: the lines of connections that just one of these nodes knows.
-use Rattle.std.specs.Prelude.{ℕ, ◌+◌, ◌*◌, ◌==◌, ◌&&◌, Bool, false, not, is_some, List, [], ◌∷◌, Option, Some, None}
+-- WHAT SOMEBODY OUTSIDE DID: the lines of connections that are not known to be between two of these nodes.
+use Rattle.std.specs.Prelude.{ℕ, ◌+◌, ◌*◌, ◌==◌, ◌&&◌, ◌||◌, Bool, false, not, is_some, List, [], ◌∷◌, Option, Some, None}
 use Rattle.std.specs.List.{list_any}
 use Rattle.dist_peers.specs.declared.entry.EndId.{EndId}
 use Rattle.dist_core_ends.specs.Change.{one_if}
 use Rattle.dist_core.specs.declared.event.Event.{Event}
 use Rattle.dist_core.specs.declared.event.Event.TheVariants as event
-use Rattle.dist_audit.specs.{Lines.NodeLine, Links.link_in, Links.dialler_of, Links.acceptor_of}
+use Rattle.dist_audit.specs.{Lines.NodeLine, Links.link_in, Links.mentions, Links.dialler_of, Links.acceptor_of, Faults.repeats}
 
--- two of these nodes know the link: one that dialled it, and one to which it came
+-- this link stands in two lines of one kind
+abbrev pub stands_twice : ℕ → List NodeLine → Bool
+stands_twice k [] = false
+stands_twice k (t ∷ ts) = let l = t.line in (repeats l.event ts && mentions k l.event) || stands_twice k ts
+
+-- the link is that of a connection between two of these nodes: dialled in one line, and come in one line
 abbrev pub is_paired : List NodeLine → ℕ → Bool
-is_paired all k = is_some (dialler_of k all) && is_some (acceptor_of k all)
+is_paired all k = is_some (dialler_of k all) && is_some (acceptor_of k all) && not (stands_twice k all)
 
--- there is a link, and just one of these nodes knows it
+-- there is a link, and it is not one of these
 abbrev pub is_strange : List NodeLine → Option ℕ → Bool
 is_strange all None = false
 is_strange all (Some k) = not (is_paired all k)

@@ -31,17 +31,26 @@ fn meets_stranger(noted: &NodeLine) -> usize
 }
 
 impl<'a> Lines<'a> {
-    // There is a link, and just one of the nodes knows it.
+    // The link is that of a connection between two of the nodes.
+    fn is_paired(&self, link: u64) -> bool
+        ensures { result ≡ is_paired self.now link }
+    {
+        self.dialler_of(link).is_some()
+            && self.acceptor_of(link).is_some()
+            && !self.links.doubled.contains(&link)
+    }
+
+    // There is a link, and it is not that of a connection between two of the nodes.
     fn is_strange(&self, link: Option<u64>) -> bool
         ensures { result ≡ is_strange self.now link }
     {
         match link {
-            Some(link) => self.dialler_of(link).is_none() || self.acceptor_of(link).is_none(),
+            Some(link) => !self.is_paired(link),
             None => false,
         }
     }
 
-    // Adds the end of a line, if just one of the nodes knows its link.
+    // Adds the end of a line, if it has such a link.
     fn add_end(&self, ends: &mut BTreeSet<u128>, noted: &NodeLine) -> Result<(), AllocError>
         ensures { OnOk result ((n : ℕ) → contains nat_cmp ends.new n ≡ (is_strange_at self.now n noted.now || contains nat_cmp ends.old n)) }
     {
