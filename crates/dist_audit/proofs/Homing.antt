@@ -369,7 +369,7 @@ goes-first all count w ks k d g = subst (λ o. AllApply (option_to_list (cond (i
 
 line-goes : (all : List NodeLine) (count : ℕ) (w : World) (ks : List ℕ) (b : Bool) (i : ℕ) (e : Event) (fresh : ℕ) → UnlessOutside b (Fine all i e) → Goes all count w ks → AllApply (option_to_list (before all count ks b i e)) w
     → UnlessOutside b (ComesHere (run (option_to_list (before all count ks b i e)) w) (mention ks (inner_link b e)) i e)
-      × Goes all count (run (own (mention ks (inner_link b e)) b i e fresh ∷ []) (run (option_to_list (before all count ks b i e)) w)) (mention ks (inner_link b e))
+    × Goes all count (run (own (mention ks (inner_link b e)) b i e fresh ∷ []) (run (option_to_list (before all count ks b i e)) w)) (mention ks (inner_link b e))
 line-goes all count w ks true i (event.Dial p o) fresh f g a = (tt, goes-frame all count w _ ks (frame-happens w (happening.Dial i p o) (frame-node (without_closing w) i (event.Dial p o))) g)
 line-goes all count w ks true i (event.Opened id k) fresh f g a = (tt, goes-frame all count w _ ks (frame-happens w (happening.Outside i (event.Opened id k) fresh) (frame-outside (without_closing w) i (event.Opened id k) fresh)) g)
 line-goes all count w ks true i (event.Incoming k) fresh f g a = (tt, goes-frame all count w _ ks (frame-happens w (happening.Outside i (event.Incoming most_connections) fresh) (frame-outside (without_closing w) i (event.Incoming most_connections) fresh)) g)

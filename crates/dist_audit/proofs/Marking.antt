@@ -1,15 +1,19 @@
 -- Lines by whether somebody outside did what they say: they say the same, and a link that comes in one of the others is dialled.
 use Rattle.dist_audit.proofs.Words.{◌≡◌, ℕ, Bool, true, false, cond, not, ◌&&◌, ◌||◌, List, [], ◌∷◌, is_some, Some, None, Option, sym, refl, ap, ◌∙◌, subst}
-use Rattle.dist_audit.proofs.Words.{list_any, or_parts, EndId, Event, Closed, UnlessOutside, AreTold, comes_unopened, links_repeat, links_unpaired, repeats, stands_twice}
+use Rattle.dist_audit.proofs.Words.{list_any, or_parts, EndId, Event, Closed, BTreeMap, BTreeSet, Knows, UnlessOutside, AreTold, comes_unopened, links_repeat, links_unpaired, repeats, stands_twice}
 use Rattle.dist_audit.proofs.Words.{NodeLine, AreLinesOf, lines_by_node, acceptor_of, comes_in, dialled_in, dialler_of, mentions, opens_in, or_else}
 use Rattle.dist_audit.proofs.Words.{is_paired, is_done_outside, marked, marked_line, marked_lines}
 use Rattle.dist_audit.proofs.{Homing.AllKnown, Homing.HasDialler, Homing.IsKnown, Homing.all-known, Outside.nothing, Pairs.unpaired-alike}
 use Rattle.dist_core.specs.declared.event.Event.TheVariants as event
 
 module _ (all : List NodeLine) where
-  pub dialler-marked : (k : ℕ) (ts : List NodeLine) → dialler_of k (marked_lines all ts) ≡ dialler_of k ts
+  dialler-marked : (k : ℕ) (ts : List NodeLine) → dialler_of k (marked_lines all ts) ≡ dialler_of k ts
   dialler-marked k [] = refl
   dialler-marked k (t ∷ ts) = ap (λ (o : Option (ℕ × EndId)). or_else t.node (dialled_in k t) o) (dialler-marked k ts)
+
+  acceptor-marked : (k : ℕ) (ts : List NodeLine) → acceptor_of k (marked_lines all ts) ≡ acceptor_of k ts
+  acceptor-marked k [] = refl
+  acceptor-marked k (t ∷ ts) = ap (λ (o : Option ℕ). cond (comes_in k t) (Some t.node) o) (acceptor-marked k ts)
 
   opens-marked : (k : ℕ) (ts : List NodeLine) → list_any (opens_in k) (marked_lines all ts) ≡ list_any (opens_in k) ts
   opens-marked k [] = refl
@@ -30,6 +34,14 @@ module _ (all : List NodeLine) where
   twice-marked : (k : ℕ) (ts : List NodeLine) → stands_twice k (marked_lines all ts) ≡ stands_twice k ts
   twice-marked k [] = refl
   twice-marked k (t ∷ ts) = let l = t.line in (λ i. (repeats-marked l.event ts i && mentions k l.event) || twice-marked k ts i)
+
+  -- what is known of the lines is known of them so
+  pub knows-marked : (d : BTreeMap ℕ (ℕ × EndId)) (a : BTreeMap ℕ ℕ) (s : BTreeSet ℕ) → Knows d a s all → Knows d a s (marked all)
+  knows-marked d a s h = record {
+    dialled = λ k. h.dialled k ∙ sym (dialler-marked k all);
+    came = λ k. h.came k ∙ sym (acceptor-marked k all);
+    twice = λ k. h.twice k ∙ sym (twice-marked k all);
+  }
 
   there-is : (o : Option (ℕ × EndId)) → is_some o ≡ true → (x : ℕ × EndId) × (o ≡ Some x)
   there-is None e = absurd cc

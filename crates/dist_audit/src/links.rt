@@ -107,7 +107,7 @@ impl LinkTable {
             ≡ (if comes_in k noted.now then Some noted.now.node else get nat_cmp self.old.acceptors k)) }
         ensures doubled { OnOk result ((k : ℕ) → contains nat_cmp self.new.doubled k
             ≡ ((is_again self.old.diallers self.old.acceptors (let l = noted.now.line in l.event) && mentions k (let l = noted.now.line in l.event))
-              || contains nat_cmp self.old.doubled k)) }
+            || contains nat_cmp self.old.doubled k)) }
         ensures repeats { OnOk result (self.new.repeats
             ≡ (is_again self.old.diallers self.old.acceptors (let l = noted.now.line in l.event) || self.old.repeats)) }
     {

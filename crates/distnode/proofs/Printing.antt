@@ -69,6 +69,10 @@ nobody w text none a b la lb fooled =
     let e : false ≡ true = pair.1.0.1 fooled in
     cc
 
+-- none yet
+pub none_yet : (Is : ℕ → Bool → List ℕ → Type 0) (a : Option (List ℕ)) → Puts (InTurn Is 0 false) a a
+none_yet Is a = ([], (refl, refl), Appends-nil a)
+
 -- one number more
 pub one_more : (Is : ℕ → Bool → List ℕ → Type 0) (k : ℕ) (was is : Bool) (a b c : Option (List ℕ)) → Puts (InTurn Is k was) a b → Puts (Is k is) b c → Puts (InTurn Is (k + 1) (was || is)) a c
 one_more Is k was is a b c p q = rw (add-one k) (p.0 ++ q.0, (was, is, p.0, q.0, p.1, q.1, refl, refl), Appends-trans a b c p.0 q.0 p.2 q.2)

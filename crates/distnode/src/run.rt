@@ -1,11 +1,12 @@
 //! The command `run`: runs the nodes of a nodes file on this host.
 
-ghost use Rattle.std.specs.Prelude.{◌≡◌, ◌≤◌, ℕ, List, Option, Some, None, IfOk, IfErr, OnOk, codes, slice_get};
+ghost use Rattle.std.specs.Prelude.{◌≡◌, ◌≤◌, ℕ, true, List, Option, Some, None, IfOk, IfErr, OnOk, codes, slice_get};
 ghost use Rattle.std.specs.Io.KnownBytes.{Appends};
 ghost use Rattle.dist_script.specs.Texts.{PutsFront};
 ghost use Rattle.distnode.specs.RunPrinted.{order_line, orders_text, closed_text, refused_line, refusal_text, strangers_line, fooled_line, fooled_text, fooled_end};
 ghost use Rattle.distnode.specs.RunPrinted.{Puts, IsHeld, IsFooledPair, AreFooledBy, AreFooled, IsAmong, IsAudited, IsOfRun, PrintsRun};
 ghost use Rattle.distnode.specs.RunPrinted.{PrintsRunOf};
+ghost use Rattle.dist_audit.specs.Audit.{Reports, ReportsFirst};
 ghost use Rattle.distnode.specs.{Stopped.EndsByFault, RunStopped.IsNoNodesFile, RunStopped.StopsPrinting, RunStopped.StopsRun, RunStopped.StopsRunOf};
 ghost use Rattle.dist_run_plan.specs.Plans as plans;
 
@@ -180,6 +181,7 @@ fn print_pair<W: Write>(
 }
 
 // Prints for which nodes a node takes somebody outside. Returns whether there is one.
+#[tactic(auto, using(crate::proofs::Printing::none_yet, crate::proofs::Printing::one_more))]
 fn print_fooled_by<W: Write>(out: &mut W, world: &World, a: usize) -> Result<bool, ScriptFault>
     ensures { IfOk result (λ is. Puts (AreFooledBy world.now a is) (W.contents out.old) (W.contents out.new)) }
 {
@@ -191,6 +193,7 @@ fn print_fooled_by<W: Write>(out: &mut W, world: &World, a: usize) -> Result<boo
 }
 
 // Prints of each node for which nodes it takes somebody outside. Returns whether there is one.
+#[tactic(auto, using(crate::proofs::Printing::none_yet, crate::proofs::Printing::one_more))]
 fn print_fooled<W: Write>(out: &mut W, world: &World) -> Result<bool, ScriptFault>
     ensures { IfOk result (λ is. Puts (AreFooled world.now is) (W.contents out.old) (W.contents out.new)) }
 {
@@ -212,6 +215,7 @@ fn print_nobody<W: Write>(out: &mut W, is_fooled: bool) -> Result<(), ScriptFaul
 }
 
 // Prints the world, in how many connections others took part, and for which nodes they are taken. Returns whether there is one.
+#[tactic(auto, using(crate::proofs::Printing::among))]
 fn print_among<W: Write>(
     alloc: Global,
     out: &mut W,
@@ -227,6 +231,7 @@ fn print_among<W: Write>(
 }
 
 // Prints that the audit refused closed nodes. Returns that as a fault.
+#[tactic(auto, using(crate::proofs::Printing::says_refused))]
 fn print_refused<W: Write>(
     out: &mut W,
     all: &[Closed],
@@ -242,6 +247,7 @@ fn print_refused<W: Write>(
 }
 
 // Audits closed nodes among which others took part, and prints the result. Returns what is against them, if anything is.
+#[tactic(auto, using(crate::proofs::Printing::says_among, crate::proofs::Printing::says_fooled))]
 fn audit_others<W: Write>(
     alloc: Global,
     out: &mut W,
@@ -260,6 +266,7 @@ fn audit_others<W: Write>(
 
 // Audits closed nodes, and prints the result: as if no others took part, and else, unless memory ran out, as others did. Returns what is
 // against them, if anything is.
+#[tactic(auto, using(crate::proofs::Printing::says_held))]
 fn print_audit<W: Write>(
     alloc: Global,
     out: &mut W,
@@ -293,7 +300,7 @@ fn print_ran<W: Write>(
 }
 
 // Prints the result of a run. A refused audit is a fault, once it is printed.
-#[tactic(auto, using(crate::proofs::RunStopped::cut_run))]
+#[tactic(auto, using(crate::proofs::RunStopped::cut_run, crate::proofs::RunStopped::against_run))]
 fn put_ran<W: Write>(alloc: Global, ran: &Ran, out: &mut W) -> Result<(), Fault>
     ensures printed { OnOk result (Puts (IsOfRun None ran.now.faults.items ran.now.closed.items) (W.contents out.old) (W.contents out.new)) }
     ensures stopped { IfErr result (StopsPrinting ran.now.faults.items ran.now.closed.items (W.contents out.old) (W.contents out.new)) }

@@ -6,7 +6,7 @@ returns-clause-world c =
     let p = c.in_ok-strangers.ensures.played in (
       p.0,
       plays-up (record { front = c.frame_in_front.ensures.alone; behind = c.frame_in_front.ensures.nothing })
-      (record { unchanged = c.setups_are_own.ensures.unchanged; digests = c.setups_are_own.ensures.digests })
-      true c.args.closed.now _ p.0 c.in_ok-strangers.ensures.faultless p.1 p.2 p.3,
+          (record { unchanged = c.setups_are_own.ensures.unchanged; digests = c.setups_are_own.ensures.digests })
+          true c.args.closed.now _ p.0 c.in_ok-strangers.ensures.faultless p.1 p.2 p.3,
       p.4,
     )
