@@ -79,12 +79,12 @@ fault_of others cs =
     else (if twice cs then Some error.TicketTwice
     else (if is_unpaired others cs then Some error.Unpaired else None))
 
--- a refusal names the first fault, and nothing where memory ran out
-abbrev pub IsFault : AuditError → Bool → List Closed → Type 0
-IsFault error.NoMemory others cs = Unit {0}
-IsFault error.NotSent others cs = ⊥
-IsFault error.OtherReply others cs = ⊥
-IsFault e others cs = fault_of others cs ≡ Some e
+-- a refusal names the first fault, whether others took part or not, and nothing where memory ran out
+abbrev pub IsFault : AuditError → List Closed → Type 0
+IsFault error.NoMemory cs = Unit {0}
+IsFault error.NotSent cs = ⊥
+IsFault error.OtherReply cs = ⊥
+IsFault e cs = (others : Bool) → fault_of others cs ≡ Some e
 
 -- a refusal says that this is so, and nothing where memory ran out
 abbrev pub Unpairs : AuditError → Bool → Type 0

@@ -1,5 +1,5 @@
 //! The audit.
-ghost use Rattle.std.specs.Prelude.{◌≡◌, ◌↔◌, List, Bool, None, Some, IsTrue, true, false, IfOk, IfErr, OnOk};
+ghost use Rattle.std.specs.Prelude.{◌≡◌, ◌↔◌, List, None, Some, IsTrue, true, false, IfOk, IfErr, OnOk};
 ghost use Rattle.dist_world_model.specs.{World.empty, Run.run};
 ghost use Rattle.dist_audit.specs.Faults.{falls, twice, fault_of, nodes_unpaired, Unpairs, IsFault};
 ghost use Rattle.dist_audit.specs.Audit.{AllApply, AreOfOneWorld, AreRefused, AreTold, IsWorldOf, IsWorldAmong, Refutes, Reports, ReportsFirst, UnlessShort, world_of};
@@ -41,7 +41,7 @@ fn opening_world(alloc: Global, closed: &[Closed]) -> Result<World, AuditError>
 fn check_tickets(alloc: Global, closed: &[Closed]) -> Result<(), AuditError>
     ensures rise { OnOk result (falls closed.now ≡ false) }
     ensures once { OnOk result (twice closed.now ≡ false) }
-    ensures err { (others : Bool) → IfErr result (λ e. IsFault e others closed.now) }
+    ensures err { IfErr result (λ e. IsFault e closed.now) }
 {
     if falls(closed) {
         return Err(AuditError::TicketFalls);

@@ -1,5 +1,5 @@
 //! Links: the numbers by which those who carried a connection knew it.
-ghost use Rattle.std.specs.Prelude.{◌≡◌, ℕ, ◌==◌, ◌&&◌, ◌||◌, if◌then◌else◌, [], Some, IfOk, OnOk};
+ghost use Rattle.std.specs.Prelude.{◌≡◌, ℕ, ◌==◌, ◌&&◌, ◌||◌, if◌then◌else◌, [], Some, false, IfOk, OnOk};
 ghost use Rattle.std.specs.{List.list_any, Ordering.nat_cmp, BTreeMap.get, BTreeSet.contains};
 ghost use Rattle.dist_audit.specs.Links.{link_in, inner_link, mentions, comes, dialled_end, dialled_in, comes_in, or_else, target_of};
 ghost use Rattle.dist_audit.specs.{Faults.links_repeat, Faults.comes_unopened, Kept.Knows, Kept.is_again, Kept.is_unknown};
@@ -39,6 +39,23 @@ pub fn target_of(count: usize, node: usize, acceptor: Option<usize>) -> usize
     }
 }
 
+// Notes a link, if it was known from another event of its kind.
+fn note_again(
+    doubled: &mut BTreeSet<u64>,
+    repeats: &mut bool,
+    link: u64,
+    known: bool,
+) -> Result<(), AllocError>
+    ensures doubled { OnOk result ((k : ℕ) → contains nat_cmp doubled.new k ≡ ((known && (link == k)) || contains nat_cmp doubled.old k)) }
+    ensures repeats { OnOk result (repeats.new ≡ (known || repeats.old)) }
+{
+    if known {
+        *repeats = true;
+        doubled.insert(link)?;
+    }
+    Ok(())
+}
+
 /// For each link the node and the end that learned of it when they had dialled, and the node to which it came; which links stand in two
 /// lines of one kind, and whether one does.
 #[derive(Drop)]
@@ -62,20 +79,6 @@ impl LinkTable {
         }
     }
 
-    // Learns whether a link was known from another event of its kind.
-    fn learn_again(&mut self, link: u64, known: bool) -> Result<(), AllocError>
-        ensures diallers { self.new.diallers ≡ self.old.diallers }
-        ensures acceptors { self.new.acceptors ≡ self.old.acceptors }
-        ensures doubled { OnOk result ((k : ℕ) → contains nat_cmp self.new.doubled k ≡ ((known && (link == k)) || contains nat_cmp self.old.doubled k)) }
-        ensures repeats { OnOk result (self.new.repeats ≡ (known || self.old.repeats)) }
-    {
-        if known {
-            self.repeats = true;
-            self.doubled.insert(link)?;
-        }
-        Ok(())
-    }
-
     // Learns what an event of this node says.
     fn learn_event(&mut self, node: usize, event: &Event) -> Result<(), AllocError>
         ensures diallers { OnOk result ((k : ℕ) → get nat_cmp self.new.diallers k
@@ -89,11 +92,11 @@ impl LinkTable {
         match event {
             Event::Opened { end_, link } => {
                 let known = self.diallers.insert(*link, (node, *end_))?;
-                self.learn_again(*link, known.is_some())
+                note_again(&mut self.doubled, &mut self.repeats, *link, known.is_some())
             }
             Event::Incoming { link } => {
                 let known = self.acceptors.insert(*link, node)?;
-                self.learn_again(*link, known.is_some())
+                note_again(&mut self.doubled, &mut self.repeats, *link, known.is_some())
             }
             _ => Ok(()),
         }

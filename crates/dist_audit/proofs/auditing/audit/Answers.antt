@@ -1,3 +1,4 @@
+use Rattle.dist_audit.proofs.Words.{false}
 use Rattle.dist_audit.proofs.Playing.{plays-up}
 use Rattle.dist_audit.proofs.auditing.audit.Goals as goal
 

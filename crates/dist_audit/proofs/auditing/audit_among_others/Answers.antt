@@ -1,3 +1,4 @@
+use Rattle.dist_audit.proofs.Words.{true}
 use Rattle.dist_audit.proofs.Playing.{plays-up}
 use Rattle.dist_audit.proofs.auditing.audit_among_others.Goals as goal
 
