@@ -17,9 +17,9 @@ pub use Rattle.dist_world_model.proofs.Words.{text_to, AllLives, at_place, first
 pub use Rattle.dist_world.specs.{Asking.node_of, Asking.said_to, Asking.undelivered_text, Setups.names_repeat}
 pub use Rattle.dist_locked_book.specs.declared.{closing.Closed.Closed, line.Line.Line}
 pub use Rattle.dist_audit.specs.Audit.{AllApply, AreFollowed, AreOfOneWorld, AreRefused, AreTold, BeginsWith, ComeHome, ComesHere, EachLinkComesHome, HasTables, IsAlike}
-pub use Rattle.dist_audit.specs.Audit.{IsFollowed, IsFront, IsNext, PlayUpTo, RefusesLine, StopsAt, TakeTheirs, UnlessOutside, UnlessShort, after, come_of, entry_at, record_at}
+pub use Rattle.dist_audit.specs.Audit.{IsFront, IsNext, PlayUpTo, RefusesLine, Reports, StopsAt, TakeTheirs, UnlessOutside, UnlessShort, after, come_of, entry_at, record_at}
 pub use Rattle.dist_audit.specs.Audit.{world_before_lines, world_of}
-pub use Rattle.dist_audit.specs.Faults.{falls, Unpairs, comes_unopened, fault_of, has_ticket, has_ticket_in, is_unopened, is_unpaired, links_repeat}
+pub use Rattle.dist_audit.specs.Faults.{falls, IsFault, Unpairs, comes_unopened, fault_of, has_ticket, has_ticket_in, is_unopened, is_unpaired, links_repeat}
 pub use Rattle.dist_audit.specs.Faults.{links_unpaired, nodes_unpaired, repeats, rises, rises_in, starts_above, twice}
 pub use Rattle.dist_audit.specs.Happenings.{ahead, before, begins, happenings, itself, of_lines, own, reach, reach_first, setups_of, with_mentions}
 pub use Rattle.dist_audit.specs.{Kept.AreNumbers, Kept.Knows, Kept.is_again, Kept.is_unknown, Kept.number_of, declared.audit_error.AuditError.AuditError}

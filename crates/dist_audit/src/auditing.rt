@@ -114,6 +114,7 @@ fn play_in_order(
 /// the lines are followed in the order of their tickets, and the first that does not fit is refused; then the tables are
 /// compared. `NoMemory` may come at any point but the first, and says nothing of the histories. The cost grows as the lines
 /// and the bytes of their frames do, times a logarithm of the number of lines.
+#[tactic(auto, using(crate::proofs::Faultless::fault_reports))]
 pub fn audit(alloc: Global, closed: &[Closed]) -> Result<World, AuditError>
     ensures world { IfOk result (λ w. IsWorldOf closed.now w) }
     ensures faultless { OnOk result (fault_of false closed.now ≡ None) }
@@ -147,6 +148,7 @@ pub struct Audited {
 /// in every world (`World::run`, clauses `agree` and `strangers`).
 ///
 /// `Unpaired` is returned only for too many nodes, two of one name, and a link that was dialled twice or came twice.
+#[tactic(auto, using(crate::proofs::Faultless::fault_reports))]
 pub fn audit_among_others(alloc: Global, closed: &[Closed]) -> Result<Audited, AuditError>
     ensures world { IfOk result (λ a. IsWorldAmong closed.now a.world a.strangers) }
     ensures faultless { OnOk result (fault_of true closed.now ≡ None) }
