@@ -1,8 +1,8 @@
 -- Lines by whether somebody outside did what they say: they say the same, and a link that comes in one of the others is dialled.
 use Rattle.dist_audit.proofs.Words.{◌≡◌, ℕ, Bool, true, false, cond, not, ◌&&◌, ◌||◌, List, [], ◌∷◌, is_some, Some, None, Option, sym, refl, ap, ◌∙◌, subst}
 use Rattle.dist_audit.proofs.Words.{list_any, or_parts, EndId, Event, Closed, BTreeMap, BTreeSet, Knows, UnlessOutside, AreTold, comes_unopened, links_repeat, links_unpaired, repeats, stands_twice}
-use Rattle.dist_audit.proofs.Words.{NodeLine, AreLinesOf, lines_by_node, acceptor_of, comes_in, dialled_in, dialler_of, mentions, opens_in, or_else}
-use Rattle.dist_audit.proofs.Words.{is_paired, is_done_outside, marked, marked_line, marked_lines}
+use Rattle.dist_audit.proofs.Words.{NodeLine, lines_by_node, acceptor_of, comes_in, dialled_in, dialler_of, mentions, opens_in, or_else}
+use Rattle.dist_audit.proofs.Words.{is_paired, is_done_outside, marked, marked_lines}
 use Rattle.dist_audit.proofs.{Homing.AllKnown, Homing.HasDialler, Homing.IsKnown, Homing.all-known, Outside.nothing, Pairs.unpaired-alike}
 use Rattle.dist_core.specs.declared.event.Event.TheVariants as event
 

@@ -15,7 +15,8 @@ use Rattle.dist_world_model.specs.{Run.count_applied, Laws.AllLives, OwnSetups.H
 use Rattle.dist_world_lives.specs.Stepping.{wire_of}
 use Rattle.dist_world.specs.Asking.{node_of, said_to}
 use Rattle.dist_audit.specs.Happenings.{setups_of, begins, ahead, itself, with_mentions, happenings}
-use Rattle.dist_audit.specs.{declared.audit_error.AuditError.AuditError, Lines.NodeLine, Lines.AreLinesOf, Links.conn_of, Faults.fault_of, Outside.marked, Outside.strangers}
+use Rattle.dist_audit.specs.{declared.audit_error.AuditError.AuditError, Lines.NodeLine, Lines.AreLinesOf, Links.conn_of, Faults.fault_of}
+use Rattle.dist_audit.specs.Outside.{marked, strangers}
 use Rattle.dist_audit.specs.declared.audit_error.AuditError.TheVariants as error
 
 -- the text begins with the frame of this body

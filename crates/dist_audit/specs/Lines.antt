@@ -1,5 +1,6 @@
 -- THE LINES OF ALL HISTORIES, in the order of their tickets.
-use Rattle.std.specs.{Prelude.ℕ, Prelude.suc, Prelude.Bool, Prelude.false, Prelude.List, Prelude.[], Prelude.◌∷◌, Prelude.◌++◌, List.Sorted.IsPermutation, List.Sorted.IsNonDecreasingBy}
+use Rattle.std.specs.Prelude.{ℕ, suc, Bool, false, List, [], ◌∷◌, ◌++◌}
+use Rattle.std.specs.List.Sorted.{IsPermutation, IsNonDecreasingBy}
 use Rattle.dist_locked_book.specs.declared.{line.Line.Line, closing.Closed.Closed}
 
 -- a line, whose it is (the place of its node among all), and whether somebody outside, who is none of these nodes, did what it says

@@ -2,7 +2,8 @@
 ghost use Rattle.std.specs.Prelude.{◌≡◌, ◌↔◌, List, None, Some, IsTrue, true, false, IfOk, IfErr, OnOk};
 ghost use Rattle.dist_world_model.specs.{World.empty, Run.run};
 ghost use Rattle.dist_audit.specs.Faults.{falls, twice, fault_of, nodes_unpaired, Unpairs, IsFault};
-ghost use Rattle.dist_audit.specs.Audit.{AllApply, AreOfOneWorld, AreRefused, AreTold, IsWorldOf, IsWorldAmong, Refutes, Reports, ReportsFirst, UnlessShort, world_of};
+ghost use Rattle.dist_audit.specs.Audit.{IsWorldOf, IsWorldAmong};
+ghost use Rattle.dist_audit.specs.Audit.{AllApply, AreOfOneWorld, AreRefused, AreTold, Refutes, Reports, ReportsFirst, UnlessShort, world_of};
 ghost use Rattle.dist_audit.specs.{Lines.NodeLine, Outside.strangers, Happenings.setups_of, Happenings.begins};
 
 use crate::audit_error::AuditError;

@@ -29,7 +29,7 @@ impl<'a> Model for Lines<'a> {
 
     ghost view = { λ l. l.noted.items };
 
-    ghost invariant = { λ l. kept.Knows (let t = l.links in t.diallers) (let t = l.links in t.acceptors) (let t = l.links in t.doubled) l.noted.items };
+    ghost invariant = { λ l. let t = l.links in kept.Knows t.diallers t.acceptors t.doubled l.noted.items };
 }
 
 impl<'a> Lines<'a> {

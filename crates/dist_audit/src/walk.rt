@@ -2,7 +2,8 @@
 ghost use Rattle.std.specs.Prelude.{◌≡◌, ◌↔◌, ◌∷◌, [], length, IsTrue, IfOk, IfErr, OnOk, OnErr, option_to_list};
 ghost use Rattle.dist_world_model.specs.Run.{run};
 ghost use Rattle.dist_world.specs.Asking.{node_of};
-ghost use Rattle.dist_audit.specs.Audit.{AllApply, Says, IsNext, Replies, IsFollowed, AreFollowed, after, Refutes, RefusesLine, StopsAt, UnlessOutside, UnlessShort};
+ghost use Rattle.dist_audit.specs.Audit.{AllApply, Says, IsNext, Replies, IsFollowed, AreFollowed, after, Refutes, RefusesLine, StopsAt};
+ghost use Rattle.dist_audit.specs.Audit.{UnlessOutside, UnlessShort};
 ghost use Rattle.dist_audit.specs.{Happenings.with_mentions, Happenings.itself, Happenings.of_lines, Lines.line_of_node};
 
 use crate::audit_error::AuditError;
@@ -147,11 +148,14 @@ fn follow_line(
     links: &mut Mentioned,
     read: ReadLine,
 ) -> Result<(), AuditError>
-    ensures followed { OnOk result (IsFollowed lines.now count links.old world.old (line_of_node read.entry.node read.entry.line.now read.entry.outside)) }
+    ensures followed { OnOk result
+        (IsFollowed lines.now count links.old world.old (line_of_node read.entry.node read.entry.line.now read.entry.outside)) }
     ensures after { OnOk result (world.new ≡ after lines.now count links.old world.old (line_of_node read.entry.node read.entry.line.now read.entry.outside)) }
     ensures links { OnOk result (links.new ≡ with_mentions links.old (line_of_node read.entry.node read.entry.line.now read.entry.outside)) }
-    ensures err { IfErr result (λ e. Refutes e (IsFollowed lines.now count links.old world.old (line_of_node read.entry.node read.entry.line.now read.entry.outside))) }
-    ensures which { IfErr result (λ e. UnlessShort e (RefusesLine e lines.now count links.old world.old (line_of_node read.entry.node read.entry.line.now read.entry.outside))) }
+    ensures err { IfErr result
+        (λ e. Refutes e (IsFollowed lines.now count links.old world.old (line_of_node read.entry.node read.entry.line.now read.entry.outside))) }
+    ensures which { IfErr result
+        (λ e. UnlessShort e (RefusesLine e lines.now count links.old world.old (line_of_node read.entry.node read.entry.line.now read.entry.outside))) }
 {
     if !may_be_next(alloc, world, read)? {
         return Err(AuditError::NotSent);

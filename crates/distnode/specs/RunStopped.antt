@@ -9,8 +9,7 @@ use Rattle.distnode.specs.declared.fault.Fault.TheVariants.{BadNodesFile, RunEnd
 use Rattle.distnode.specs.{declared.fault.Fault.Fault, RunPrinted.Puts, RunPrinted.IsOfRun, RunPrinted.PrintsRun}
 
 -- what stops the printing of a run with this result: the audit refused, or a node takes somebody outside for another one, and that was
--- printed whole; or a write failed, after a prefix of
--- the text; or memory ran out for the text
+-- printed whole; or a write failed, after a prefix of the text; or memory ran out for the text
 abbrev pub StopsPrinting : List OrderFault → List Closed → Option (List ℕ) → Option (List ℕ) → Fault → Type 0
 StopsPrinting faults closed old new (AuditRefused error) = Puts (IsOfRun (Some (AuditRefused error)) faults closed) old new
 StopsPrinting faults closed old new Fooled = Puts (IsOfRun (Some Fooled) faults closed) old new
@@ -20,7 +19,8 @@ StopsPrinting faults closed old new NoMemory = new ≡ old
 StopsPrinting faults closed old new other = ⊥
 
 -- WHAT STOPS A RUN of the nodes file with this text: it is not a nodes file; or its run ended early; or the audit refused it, with just
--- this error, or a node takes somebody outside for another one, and what such a run prints was printed; or a write failed, after a prefix of what the run prints; or memory ran out
+-- this error, or a node takes somebody outside for another one, and what such a run prints was printed; or a write failed, after a
+-- prefix of what the run prints; or memory ran out
 abbrev pub StopsRun : List ℕ → Option (List ℕ) → Option (List ℕ) → Fault → Type 0
 StopsRun file old new BadNodesFile = (plan_of file ≡ None) × (new ≡ old)
 StopsRun file old new (RunEnded error) = (plan : Plan) × (plan_of file ≡ Some plan) × (new ≡ old)

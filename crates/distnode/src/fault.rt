@@ -109,7 +109,8 @@ impl Fault {
             Fault::NoAnswer(error) => error.name(),
             Fault::AnswerCut => "Ended",
             Fault::AuditRefused(error) => error.name(),
-            Fault::Fooled => "Fooled: a node outside the file is up under the name of one of its nodes",
+            Fault::Fooled =>
+                "Fooled: a node outside the file is up under the name of one of its nodes",
             Fault::NoMemory => "NoMemory",
         }
     }

@@ -3,7 +3,8 @@
 ghost use Rattle.std.specs.Prelude.{◌≡◌, ◌≤◌, ℕ, true, List, Option, Some, None, IfOk, IfErr, OnOk, codes, slice_get};
 ghost use Rattle.std.specs.Io.KnownBytes.{Appends};
 ghost use Rattle.dist_script.specs.Texts.{PutsFront};
-ghost use Rattle.distnode.specs.RunPrinted.{order_line, orders_text, closed_text, refused_line, refusal_text, strangers_line, fooled_line, fooled_text, fooled_end};
+ghost use Rattle.distnode.specs.RunPrinted.{order_line, orders_text, closed_text, refused_line, refusal_text};
+ghost use Rattle.distnode.specs.RunPrinted.{strangers_line, fooled_line, fooled_text, fooled_end};
 ghost use Rattle.distnode.specs.RunPrinted.{Puts, IsHeld, IsFooledPair, AreFooledBy, AreFooled, IsAmong, IsAudited, IsOfRun, PrintsRun};
 ghost use Rattle.distnode.specs.RunPrinted.{PrintsRunOf};
 ghost use Rattle.dist_audit.specs.Audit.{Reports, ReportsFirst};
@@ -165,12 +166,7 @@ fn print_nodes_of<W: Write>(
 }
 
 // The same, where it is so. Returns whether it is.
-fn print_pair<W: Write>(
-    out: &mut W,
-    world: &World,
-    a: usize,
-    b: usize,
-) -> Result<bool, ScriptFault>
+fn print_pair<W: Write>(out: &mut W, world: &World, a: usize, b: usize) -> Result<bool, ScriptFault>
     ensures { IfOk result (λ is. Puts (IsFooledPair world.now a b is) (W.contents out.old) (W.contents out.new)) }
 {
     if !world.is_fooled(a, b) {
@@ -216,11 +212,7 @@ fn print_nobody<W: Write>(out: &mut W, is_fooled: bool) -> Result<(), ScriptFaul
 
 // Prints the world, in how many connections others took part, and for which nodes they are taken. Returns whether there is one.
 #[tactic(auto, using(crate::proofs::Printing::among))]
-fn print_among<W: Write>(
-    alloc: Global,
-    out: &mut W,
-    found: &Audited,
-) -> Result<bool, ScriptFault>
+fn print_among<W: Write>(alloc: Global, out: &mut W, found: &Audited) -> Result<bool, ScriptFault>
     ensures { IfOk result (λ is. Puts (IsAmong found.now.world found.now.strangers is) (W.contents out.old) (W.contents out.new)) }
 {
     print_world(alloc, out, &found.world)?;
@@ -285,11 +277,7 @@ fn print_audit<W: Write>(
 }
 
 // Prints the orders that made no dial, and the audit of the nodes. Returns what is against them, if anything is.
-fn print_ran<W: Write>(
-    alloc: Global,
-    out: &mut W,
-    ran: &Ran,
-) -> Result<Option<Fault>, ScriptFault>
+fn print_ran<W: Write>(alloc: Global, out: &mut W, ran: &Ran) -> Result<Option<Fault>, ScriptFault>
     ensures { IfOk result (λ refusal. Puts (IsOfRun refusal ran.now.faults.items ran.now.closed.items) (W.contents out.old) (W.contents out.new)) }
 {
     let Ok(()) = print_faults(out, ran.faults.as_slice()) else {

@@ -1,6 +1,7 @@
 //! What somebody outside did.
 ghost use Rattle.std.specs.{Prelude.◌≡◌, Prelude.ℕ, Prelude.◌||◌, Prelude.IfOk, Prelude.OnOk, List.list_any, Ordering.nat_cmp, BTreeSet.contains};
-ghost use Rattle.dist_audit.specs.Outside.{is_paired, is_strange, end_number, is_strange_at, is_done_outside, marked_line, marked, meets_stranger, strangers};
+ghost use Rattle.dist_audit.specs.Outside.{is_paired, is_strange, end_number, is_strange_at, is_done_outside, marked_line, marked};
+ghost use Rattle.dist_audit.specs.Outside.{meets_stranger, strangers};
 
 use super::Lines;
 use crate::lines::NodeLine;
