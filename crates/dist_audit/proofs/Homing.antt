@@ -4,15 +4,17 @@ use Rattle.dist_audit.proofs.Words.{slice_get, Some, None, Option, option_map, o
 use Rattle.dist_audit.proofs.Words.{eqb-true, or_parts, list_any, Creation, first_body, Side, Acceptor, Dialler, EndId, is_dialing, Setup, step, Event}
 use Rattle.dist_audit.proofs.Words.{after_delivery, body_taken, change_to, conns_after_saying, says, spoken_on, text_to, at_place, first_where, one_where, run}
 use Rattle.dist_audit.proofs.Words.{Conn, Life, Text, World, empty, end_at, row_at, running, runs, runs_for, Happening, if_holds, if_ok, if_there, Closed}
-use Rattle.dist_audit.proofs.Words.{AllApply, AreFollowed, AreOfOneWorld, ComeHome, ComesHere, EachLinkComesHome, after, comes_unopened, is_unopened}
-use Rattle.dist_audit.proofs.Words.{links_repeat, links_unpaired, repeats, before, begins, own, reach, reach_first, setups_of, with_mentions, NodeLine}
-use Rattle.dist_audit.proofs.Words.{acceptor_of, comes, comes_in, conn_of, dialled_end, dialled_in, dialler_of, is_among, link_in, mention, opens, opens_in}
+use Rattle.dist_audit.proofs.Words.{AllApply, AreFollowed, AreOfOneWorld, ComeHome, ComesHere, EachLinkComesHome, UnlessOutside, after, is_unopened}
+use Rattle.dist_audit.proofs.Words.{links_repeat, repeats, stands_twice, before, begins, own, reach, reach_first, setups_of, with_mentions, NodeLine}
+use Rattle.dist_audit.proofs.Words.{acceptor_of, comes, comes_in, conn_of, dialled_end, dialled_in, dialler_of, inner_link, is_among, mention, mentions, opens, opens_in}
 use Rattle.dist_audit.proofs.Words.{or_else, target_of}
 use Rattle.dist_core.specs.declared.event.Event.TheVariants as event
-use Rattle.dist_world_model.specs.Happenings.{accept, begin, deliver, notify_opened, take_frame, reach as happening_reach}
+use Rattle.dist_world_model.specs.Happenings.{accept, begin, deliver, is_outside, notify_opened, notify_outside, take_frame, reach as happening_reach}
+use Rattle.dist_world_model.specs.Rows.{most_connections}
 use Rattle.dist_world_model.specs.declared.happening.Happening.TheVariants as happening
 use Rattle.dist_world_model.proofs.Words.{accepted_by, applied_at, conn_of as wire_number, happens, is_nonempty, is_open_end, life_after, new_conn, next_end}
 use Rattle.dist_world_model.proofs.Words.{notify, notify_node, reached_life, ticked_on, without_closing, world_after, EndRow}
+use Rattle.dist_audit.proofs.Outside.{unless}
 use Rattle.dist_audit.specs.Audit as audit
 
 -- ---- the incarnations that connections lead to
@@ -90,6 +92,12 @@ module _ (w : World) where
       if_there (SameFrame w) (running w node) _ (λ i at.
       if_there (SameFrame w) (wire_number (row_at w i id.0)) _ (λ c on.
       frame-noted i (event.Opened id c) 0))
+
+  frame-outside : (node : ℕ) (v : Event) (fresh : ℕ) → IfSome (notify_outside w node v fresh) (SameFrame w)
+  frame-outside node v fresh =
+      if_there (SameFrame w) (running w node) _ (λ i at.
+      if_holds (SameFrame w) (is_outside w i v) _ (λ out.
+      frame-noted i v fresh))
 
 -- an event given in a world whose connections lead to the same
 frame-by : (w v : World) → ((j : ℕ) → running v j ≡ running w j) → targets v.conns ≡ targets w.conns → (o : Option World) → IfSome o (SameFrame v) → IfSome o (SameFrame w)
@@ -223,13 +231,7 @@ any-at : (test : NodeLine → Bool) (pre ts : List NodeLine) (t : NodeLine) → 
 any-at test [] ts t e = ap (λ b. b || list_any test ts) e
 any-at test (x ∷ pre) ts t e = elim (test x) as (λ b. (b || list_any test (pre ++ t ∷ ts)) ≡ true) [ true ↦ refl | false ↦ any-at test pre ts t e ]
 
-none-at : (test : NodeLine → Bool) (pre ts : List NodeLine) (t : NodeLine) → list_any test (pre ++ t ∷ ts) ≡ false → test t ≡ false
-none-at test pre ts t e = elim (test t) as (λ b. test t ≡ b → b ≡ false) [
-  | true ↦ λ h. let f : true ≡ false = sym (any-at test pre ts t h) ∙ e in cc
-  | false ↦ λ h. refl
-] refl
-
-abbrev HasDialler : List NodeLine → ℕ → Type 0
+abbrev pub HasDialler : List NodeLine → ℕ → Type 0
 HasDialler all k = (x : ℕ × EndId) × (dialler_of k all ≡ Some x)
 
 opens-dialled : (k : ℕ) (e : Event) → opens k e ≡ true → dialled_end k e ≡ None → ⊥
@@ -266,14 +268,17 @@ comes-incoming k (event.Frame id body) o = absurd cc
 comes-incoming k (event.Lost id w) o = absurd cc
 comes-incoming k (event.Tick id) o = absurd cc
 
-acceptor-mine : (k : ℕ) (pre ts : List NodeLine) (t : NodeLine) → links_repeat (pre ++ t ∷ ts) ≡ false → comes_in k t ≡ true → acceptor_of k (pre ++ t ∷ ts) ≡ Some t.node
+acceptor-mine : (k : ℕ) (pre ts : List NodeLine) (t : NodeLine) → stands_twice k (pre ++ t ∷ ts) ≡ false → comes_in k t ≡ true → acceptor_of k (pre ++ t ∷ ts) ≡ Some t.node
 acceptor-mine k [] ts t once c = ap (λ b. cond b (Some t.node) (acceptor_of k ts)) c
 acceptor-mine k (x ∷ pre) ts t once c = elim (comes_in k x) as (λ b. comes_in k x ≡ b → cond b (Some x.node) (acceptor_of k (pre ++ t ∷ ts)) ≡ Some t.node) [
   | true ↦ λ h.
       let is : (let l = x.line in l.event) ≡ event.Incoming k = comes-incoming k (let l = x.line in l.event) h in
-      let first : repeats (event.Incoming k) (pre ++ t ∷ ts) ≡ false = ap (λ e. repeats e (pre ++ t ∷ ts)) (sym is) ∙ (or_parts (repeats (let l = x.line in l.event) (pre ++ t ∷ ts)) (links_repeat (pre ++ t ∷ ts)) once).0 in
-      absurd (let f : true ≡ false = sym (any-at (comes_in k) pre ts t c) ∙ first in cc)
-  | false ↦ λ h. acceptor-mine k pre ts t (or_parts (repeats (let l = x.line in l.event) (pre ++ t ∷ ts)) (links_repeat (pre ++ t ∷ ts)) once).1 c
+      let rest = pre ++ t ∷ ts in
+      let here : (repeats (let l = x.line in l.event) rest && mentions k (let l = x.line in l.event)) ≡ false = (or_parts (repeats (let l = x.line in l.event) rest && mentions k (let l = x.line in l.event)) (stands_twice k rest) once).0 in
+      let both : (repeats (event.Incoming k) rest && mentions k (event.Incoming k)) ≡ false = ap (λ e. repeats e rest && mentions k e) (sym is) ∙ here in
+      let so : (repeats (event.Incoming k) rest && mentions k (event.Incoming k)) ≡ true = (λ i. any-at (comes_in k) pre ts t c i && eq-eqb k k refl i) in
+      absurd (let f : true ≡ false = sym so ∙ both in cc)
+  | false ↦ λ h. acceptor-mine k pre ts t (or_parts (repeats (let l = x.line in l.event) (pre ++ t ∷ ts) && mentions k (let l = x.line in l.event)) (stands_twice k (pre ++ t ∷ ts)) once).1 c
 ] refl
 
 -- ---- a line
@@ -294,22 +299,57 @@ Fine all i (event.Opened id k) = HasDialler all k
 Fine all i (event.Incoming k) = HasDialler all k × (acceptor_of k all ≡ Some i)
 Fine all i _ = Unit {0}
 
-fine : (all pre ts : List NodeLine) (t : NodeLine) → all ≡ pre ++ t ∷ ts → links_unpaired all ≡ false → (e : Event) → (let l = t.line in l.event) ≡ e → Fine all t.node e
-fine all pre ts t is paired (event.Opened id k) e =
+-- a link that comes has a dialler, and does not stand twice
+abbrev pub IsKnown : List NodeLine → Event → Type 0
+IsKnown all (event.Incoming k) = HasDialler all k × (stands_twice k all ≡ false)
+IsKnown all _ = Unit {0}
+
+-- so in each of these lines that nobody outside did
+abbrev pub AllKnown : List NodeLine → List NodeLine → Type 0
+AllKnown all [] = Unit {0}
+AllKnown all (t ∷ ts) = UnlessOutside t.outside (IsKnown all (let l = t.line in l.event)) × AllKnown all ts
+
+once-stands : (k : ℕ) (ts : List NodeLine) → links_repeat ts ≡ false → stands_twice k ts ≡ false
+once-stands k [] e = refl
+once-stands k (t ∷ ts) e =
+    let l = t.line in
+    let p = or_parts (repeats l.event ts) (links_repeat ts) e in
+    (λ i. (p.0 i && mentions k l.event) || once-stands k ts p.1 i)
+
+known-event : (all : List NodeLine) → links_repeat all ≡ false → (e : Event) → is_unopened all e ≡ false → IsKnown all e
+known-event all once (event.Incoming k) none = (
+  has-dialler k all (elim (list_any (opens_in k) all) as (λ b. not b ≡ false → b ≡ true) [ true ↦ λ q. refl | false ↦ λ q. absurd cc ] none),
+  once-stands k all once,
+)
+known-event all once (event.Dial p o) none = tt
+known-event all once (event.Opened id k) none = tt
+known-event all once (event.Frame id body) none = tt
+known-event all once (event.Lost id w) none = tt
+known-event all once (event.Tick id) none = tt
+
+-- where links are in pairs
+pub all-known : (all ts : List NodeLine) → links_repeat all ≡ false → list_any (λ t. is_unopened all (let l = t.line in l.event)) ts ≡ false → AllKnown all ts
+all-known all [] once e = tt
+all-known all (t ∷ ts) once e =
+    let l = t.line in
+    let p = or_parts (is_unopened all l.event) (list_any (λ u. is_unopened all (let m = u.line in m.event)) ts) e in
+    (unless t.outside (known-event all once l.event p.0), all-known all ts once p.1)
+
+fine : (all pre ts : List NodeLine) (t : NodeLine) → all ≡ pre ++ t ∷ ts → (e : Event) → (let l = t.line in l.event) ≡ e → IsKnown all e → Fine all t.node e
+fine all pre ts t is (event.Opened id k) e known =
     let mine : opens_in k t ≡ true = ap (opens k) e ∙ eq-eqb k k refl in
     has-dialler k all (ap (list_any (opens_in k)) is ∙ any-at (opens_in k) pre ts t mine)
-fine all pre ts t is paired (event.Incoming k) e =
-    let once : links_repeat (pre ++ t ∷ ts) ≡ false = ap links_repeat (sym is) ∙ (or_parts (links_repeat all) (comes_unopened all) paired).0 in
-    let opened-all : comes_unopened all ≡ false = (or_parts (links_repeat all) (comes_unopened all) paired).1 in
-    let test : NodeLine → Bool = λ x. is_unopened all (let l = x.line in l.event) in
-    let mine : is_unopened all (event.Incoming k) ≡ false = ap (is_unopened all) (sym e) ∙ none-at test pre ts t (ap (list_any test) (sym is) ∙ opened-all) in
-    let some : list_any (opens_in k) all ≡ true = elim (list_any (opens_in k) all) as (λ b. not b ≡ false → b ≡ true) [ true ↦ λ q. refl | false ↦ λ q. absurd cc ] mine in
+fine all pre ts t is (event.Incoming k) e known =
     let here : comes_in k t ≡ true = ap (comes k) e ∙ eq-eqb k k refl in
-    (has-dialler k all some, ap (acceptor_of k) is ∙ acceptor-mine k pre ts t once here)
-fine all pre ts t is paired (event.Dial p o) e = tt
-fine all pre ts t is paired (event.Frame id body) e = tt
-fine all pre ts t is paired (event.Lost id w) e = tt
-fine all pre ts t is paired (event.Tick id) e = tt
+    (known.0, ap (acceptor_of k) is ∙ acceptor-mine k pre ts t (ap (stands_twice k) (sym is) ∙ known.1) here)
+fine all pre ts t is (event.Dial p o) e known = tt
+fine all pre ts t is (event.Frame id body) e known = tt
+fine all pre ts t is (event.Lost id w) e known = tt
+fine all pre ts t is (event.Tick id) e known = tt
+
+fine-unless : (all pre ts : List NodeLine) (t : NodeLine) → all ≡ pre ++ t ∷ ts → (b : Bool) → UnlessOutside b (IsKnown all (let l = t.line in l.event)) → UnlessOutside b (Fine all t.node (let l = t.line in l.event))
+fine-unless all pre ts t is true known = tt
+fine-unless all pre ts t is false known = fine all pre ts t is (let l = t.line in l.event) refl known
 
 goes-frame : (all : List NodeLine) (count : ℕ) (w x : World) (ks : List ℕ) → SameFrame w x → Goes all count w ks → Goes all count x ks
 goes-frame all count w x ks f g = subst (λ ps. Matches (running x) (home all count) ks ps) (sym f.lead_same) (matches-same (running w) (running x) (home all count) f.run_same ks (targets w.conns) g)
@@ -327,14 +367,21 @@ goes-ready all count w ks k x e false g a =
 goes-first : (all : List NodeLine) (count : ℕ) (w : World) (ks : List ℕ) (k : ℕ) → HasDialler all k → Goes all count w ks → AllApply (option_to_list (reach_first all count ks k)) w → Goes all count (run (option_to_list (reach_first all count ks k)) w) (mention ks (Some k))
 goes-first all count w ks k d g = subst (λ o. AllApply (option_to_list (cond (is_among k ks) None (reach all count k o))) w → Goes all count (run (option_to_list (cond (is_among k ks) None (reach all count k o))) w) (mention ks (Some k))) (sym d.1) (goes-ready all count w ks k d.0 d.1 (is_among k ks) g)
 
-line-goes : (all : List NodeLine) (count : ℕ) (w : World) (ks : List ℕ) (i : ℕ) (e : Event) (fresh : ℕ) → Fine all i e → Goes all count w ks → AllApply (option_to_list (before all count ks i e)) w
-    → ComesHere (run (option_to_list (before all count ks i e)) w) (mention ks (link_in e)) i e × Goes all count (run (own (mention ks (link_in e)) i e fresh ∷ []) (run (option_to_list (before all count ks i e)) w)) (mention ks (link_in e))
-line-goes all count w ks i (event.Dial p o) fresh f g a = (tt, goes-frame all count w _ ks (frame-happens w (happening.Dial i p o) (frame-node (without_closing w) i (event.Dial p o))) g)
-line-goes all count w ks i (event.Opened id k) fresh f g a =
+line-goes : (all : List NodeLine) (count : ℕ) (w : World) (ks : List ℕ) (b : Bool) (i : ℕ) (e : Event) (fresh : ℕ) → UnlessOutside b (Fine all i e) → Goes all count w ks → AllApply (option_to_list (before all count ks b i e)) w
+    → UnlessOutside b (ComesHere (run (option_to_list (before all count ks b i e)) w) (mention ks (inner_link b e)) i e)
+    × Goes all count (run (own (mention ks (inner_link b e)) b i e fresh ∷ []) (run (option_to_list (before all count ks b i e)) w)) (mention ks (inner_link b e))
+line-goes all count w ks true i (event.Dial p o) fresh f g a = (tt, goes-frame all count w _ ks (frame-happens w (happening.Dial i p o) (frame-node (without_closing w) i (event.Dial p o))) g)
+line-goes all count w ks true i (event.Opened id k) fresh f g a = (tt, goes-frame all count w _ ks (frame-happens w (happening.Outside i (event.Opened id k) fresh) (frame-outside (without_closing w) i (event.Opened id k) fresh)) g)
+line-goes all count w ks true i (event.Incoming k) fresh f g a = (tt, goes-frame all count w _ ks (frame-happens w (happening.Outside i (event.Incoming most_connections) fresh) (frame-outside (without_closing w) i (event.Incoming most_connections) fresh)) g)
+line-goes all count w ks true i (event.Frame id body) fresh f g a = (tt, goes-frame all count w _ ks (frame-happens w (happening.Outside i (event.Frame id body) fresh) (frame-outside (without_closing w) i (event.Frame id body) fresh)) g)
+line-goes all count w ks true i (event.Lost id y) fresh f g a = (tt, goes-frame all count w _ ks (frame-happens w (happening.Lose i id y) (frame-node (without_closing w) i (event.Lost id y))) g)
+line-goes all count w ks true i (event.Tick id) fresh f g a = (tt, goes-frame all count w _ ks (frame-happens w (happening.Tick i id) (frame-node (without_closing w) i (event.Tick id))) g)
+line-goes all count w ks false i (event.Dial p o) fresh f g a = (tt, goes-frame all count w _ ks (frame-happens w (happening.Dial i p o) (frame-node (without_closing w) i (event.Dial p o))) g)
+line-goes all count w ks false i (event.Opened id k) fresh f g a =
     let x = run (option_to_list (reach_first all count ks k)) w in
     let q : Goes all count x (mention ks (Some k)) = goes-first all count w ks k f g a in
     (tt, goes-frame all count x _ (mention ks (Some k)) (frame-happens x (happening.Opened i id) (frame-opened (without_closing x) i id)) q)
-line-goes all count w ks i (event.Incoming k) fresh f g a =
+line-goes all count w ks false i (event.Incoming k) fresh f g a =
     let x = run (option_to_list (reach_first all count ks k)) w in
     let js = mention ks (Some k) in
     let q : Goes all count x js = goes-first all count w ks k f.0 g a in
@@ -343,22 +390,22 @@ line-goes all count w ks i (event.Incoming k) fresh f g a =
       targets-get x.conns (conn_of k js) ∙ (matches-at (running x) (home all count) k js (targets x.conns) (among-mention k ks) q ∙ ap (running x) mine),
       goes-frame all count x _ js (frame-happens x (happening.Accept (conn_of k js)) (frame-accepted (without_closing x) (conn_of k js))) q,
     )
-line-goes all count w ks i (event.Frame id body) fresh f g a =
+line-goes all count w ks false i (event.Frame id body) fresh f g a =
     let x = happens w (happening.Deliver i id (2 + length body)) in
     let s : SameFrame w x = frame-happens w (happening.Deliver i id (2 + length body)) (frame-deliver (without_closing w) i id (2 + length body)) in
     (tt, goes-frame all count x _ ks (frame-happens x (happening.Take i id fresh) (frame-take (without_closing x) i id fresh)) (goes-frame all count w x ks s g))
-line-goes all count w ks i (event.Lost id y) fresh f g a = (tt, goes-frame all count w _ ks (frame-happens w (happening.Lose i id y) (frame-node (without_closing w) i (event.Lost id y))) g)
-line-goes all count w ks i (event.Tick id) fresh f g a = (tt, goes-frame all count w _ ks (frame-happens w (happening.Tick i id) (frame-node (without_closing w) i (event.Tick id))) g)
+line-goes all count w ks false i (event.Lost id y) fresh f g a = (tt, goes-frame all count w _ ks (frame-happens w (happening.Lose i id y) (frame-node (without_closing w) i (event.Lost id y))) g)
+line-goes all count w ks false i (event.Tick id) fresh f g a = (tt, goes-frame all count w _ ks (frame-happens w (happening.Tick i id) (frame-node (without_closing w) i (event.Tick id))) g)
 
 -- ---- ALL LINES
 
-come-home : (all : List NodeLine) (count : ℕ) (ks : List ℕ) (w : World) (pre ts : List NodeLine) → all ≡ pre ++ ts → links_unpaired all ≡ false → Goes all count w ks → AreFollowed all count ks w ts → ComeHome all count ks w ts
-come-home all count ks w pre [] is paired g f = tt
-come-home all count ks w pre (t ∷ ts) is paired g f =
+come-home : (all : List NodeLine) (count : ℕ) (ks : List ℕ) (w : World) (pre ts : List NodeLine) → all ≡ pre ++ ts → AllKnown all ts → Goes all count w ks → AreFollowed all count ks w ts → ComeHome all count ks w ts
+come-home all count ks w pre [] is known g f = tt
+come-home all count ks w pre (t ∷ ts) is known g f =
     let h = f.0 in
     let l = t.line in
-    let x = line-goes all count w ks t.node l.event l.fresh (fine all pre ts t is paired l.event refl) g h.before in
-    (x.0, come-home all count (with_mentions ks t) (after all count ks w t) (pre ++ t ∷ []) ts (is ∙ sym (append_assoc pre (t ∷ []) ts)) paired x.1 f.1)
+    let x = line-goes all count w ks t.outside t.node l.event l.fresh (fine-unless all pre ts t is t.outside known.0) g h.before in
+    (x.0, come-home all count (with_mentions ks t) (after all count ks w t) (pre ++ t ∷ []) ts (is ∙ sym (append_assoc pre (t ∷ []) ts)) known.1 x.1 f.1)
 
 same-conns : (w : World) (i : ℕ) (c : Creation) → IfSome (begin w i c) (λ x. x.conns ≡ w.conns)
 same-conns w i c = let P : World → Type 0 = λ x. x.conns ≡ w.conns in
@@ -383,7 +430,7 @@ conns-begins w i (s ∷ ss) =
     by false = tt
 
 -- in histories of one world each link comes to the node of its line
-pub all-come-home : (cs : List Closed) (all : List NodeLine) → links_unpaired all ≡ false → AreOfOneWorld cs all → EachLinkComesHome cs all
-all-come-home cs all paired f =
+pub all-come-home : (cs : List Closed) (all : List NodeLine) → AllKnown all all → AreOfOneWorld cs all → EachLinkComesHome cs all
+all-come-home cs all known f =
     let none : targets (let x = audit.world_before_lines cs in x.conns) ≡ [] = ap targets (conns-begins (empty (setups_of cs)) 0 (setups_of cs)) in
-    come-home all (length cs) [] (audit.world_before_lines cs) [] all refl paired (subst (λ ps. Matches (running (audit.world_before_lines cs)) (home all (length cs)) [] ps) (sym none) tt) f.followed
+    come-home all (length cs) [] (audit.world_before_lines cs) [] all refl known (subst (λ ps. Matches (running (audit.world_before_lines cs)) (home all (length cs)) [] ps) (sym none) tt) f.followed

@@ -1,5 +1,6 @@
 pub mod Words
 pub mod Either
+pub mod Outside
 pub mod Sorting
 pub mod Pairs
 pub mod Tickets
@@ -13,3 +14,4 @@ pub mod Playing
 pub mod Sameness
 pub mod Quiet
 pub mod Homing
+pub mod Marking

@@ -1,8 +1,8 @@
 -- What lines say of links.
-use Rattle.dist_audit.proofs.Words.{or-false, or-true, ◌≡◌, ℕ, zero, suc, ◌-◌, ◌<◌, ◌≤◌, Bool, true, false, cond, not, ◌||◌, eqb, List, [], ◌∷◌, length, get_or}
-use Rattle.dist_audit.proofs.Words.{drop, is_some, Some, None, Option, nat_cmp, BTreeMap, sym, refl, ap, ◌∙◌, subst, arith, drop-cons, get, list_any, EndId}
+use Rattle.dist_audit.proofs.Words.{◌≡◌, ℕ, suc, ◌-◌, ◌<◌, ◌≤◌, Bool, true, false, cond, not, ◌&&◌, ◌||◌, eqb, List, [], ◌∷◌, length, get_or}
+use Rattle.dist_audit.proofs.Words.{drop, is_some, Some, None, Option, nat_cmp, BTreeMap, BTreeSet, contains, sym, refl, ap, ◌∙◌, subst, arith, drop-cons, get, list_any, EndId}
 use Rattle.dist_audit.proofs.Words.{Event, comes_unopened, is_unopened, links_repeat, repeats, Knows, is_again, is_unknown, NodeLine, acceptor_of, comes_in}
-use Rattle.dist_audit.proofs.Words.{dialled_end, dialled_in, dialler_of, opens, opens_in, or_else}
+use Rattle.dist_audit.proofs.Words.{dialled_end, dialled_in, dialler_of, mentions, opens, opens_in, or_else}
 use Rattle.dist_audit.proofs.Either.{any-same}
 use Rattle.dist_core.specs.declared.event.Event.TheVariants as event
 
@@ -31,7 +31,7 @@ has-acceptor : (k : ℕ) (ts : List NodeLine) → is_some (acceptor_of k ts) ≡
 has-acceptor k [] = refl
 has-acceptor k (t ∷ ts) = some-cond (comes_in k t) t.node (acceptor_of k ts) ∙ ap (λ b. comes_in k t || b) (has-acceptor k ts)
 
-module _ (d : BTreeMap ℕ (ℕ × EndId)) (a : BTreeMap ℕ ℕ) (ts : List NodeLine) (h : Knows d a ts) where
+module _ (d : BTreeMap ℕ (ℕ × EndId)) (a : BTreeMap ℕ ℕ) (s : BTreeSet ℕ) (ts : List NodeLine) (h : Knows d a s ts) where
   pub again-is : (e : Event) → is_again d a e ≡ repeats e ts
   again-is (event.Dial p o) = refl
   again-is (event.Opened id j) = ap (λ (o : Option (ℕ × EndId)). is_some o) (h.dialled j) ∙ has-dialler j ts
@@ -49,36 +49,29 @@ module _ (d : BTreeMap ℕ (ℕ × EndId)) (a : BTreeMap ℕ ℕ) (ts : List Nod
   unknown-is (event.Tick id) = refl
 
 -- what no dialler is known of is what was not opened
-pub all_unknown : (d : BTreeMap ℕ (ℕ × EndId)) (a : BTreeMap ℕ ℕ) (ts : List NodeLine) → Knows d a ts → list_any (λ (t : NodeLine). is_unknown d (let l = t.line in l.event)) ts ≡ comes_unopened ts
-all_unknown d a ts h = any-same (λ (t : NodeLine). is_unknown d (let l = t.line in l.event)) (λ (t : NodeLine). is_unopened ts (let l = t.line in l.event)) (λ t. unknown-is d a ts h (let l = t.line in l.event)) ts
+pub all_unknown : (d : BTreeMap ℕ (ℕ × EndId)) (a : BTreeMap ℕ ℕ) (s : BTreeSet ℕ) (ts : List NodeLine) → Knows d a s ts → list_any (λ (t : NodeLine). is_unknown d (let l = t.line in l.event)) ts ≡ comes_unopened ts
+all_unknown d a s ts h = any-same (λ (t : NodeLine). is_unknown d (let l = t.line in l.event)) (λ (t : NodeLine). is_unopened ts (let l = t.line in l.event)) (λ t. unknown-is d a s ts h (let l = t.line in l.event)) ts
 
--- what is true of a part of the lines is true of all
-repeat-drop : (i : ℕ) (ts : List NodeLine) → links_repeat (drop i ts) ≡ true → links_repeat ts ≡ true
-repeat-drop zero ts e = e
-repeat-drop (suc i) [] e = e
-repeat-drop (suc i) (t ∷ ts) e = ap (λ b. repeats (let l = t.line in l.event) ts || b) (repeat-drop i ts e) ∙ or-true (repeats (let l = t.line in l.event) ts)
-
--- what the lines from number j on say is known, and no link of them stands twice
-module _ (all : List NodeLine) (j : ℕ) (t : NodeLine) (d : BTreeMap ℕ (ℕ × EndId)) (a : BTreeMap ℕ ℕ) (pos : 0 < j) (few : j ≤ length all) (is : t ≡ get_or all (j - 1) t) (h : Knows d a (drop j all)) where
+-- what the lines from number j on say is known
+module _ (all : List NodeLine) (j : ℕ) (t : NodeLine) (d : BTreeMap ℕ (ℕ × EndId)) (a : BTreeMap ℕ ℕ) (s : BTreeSet ℕ) (pos : 0 < j) (few : j ≤ length all) (is : t ≡ get_or all (j - 1) t) (h : Knows d a s (drop j all)) where
   split : drop (j - 1) all ≡ t ∷ drop j all
   split =
       let few_too : j - 1 < length all = omega arith in
       let next : suc (j - 1) ≡ j = omega arith in
       drop-cons all (j - 1) t few_too ∙ (λ i. sym is i ∷ drop (next i) all)
 
-  pub knows_more : (e : BTreeMap ℕ (ℕ × EndId)) (b : BTreeMap ℕ ℕ) → ((k : ℕ) → get nat_cmp e k ≡ or_else t.node (dialled_in k t) (get nat_cmp d k)) → ((k : ℕ) → get nat_cmp b k ≡ cond (comes_in k t) (Some t.node) (get nat_cmp a k)) → Knows e b (drop (j - 1) all)
-  knows_more e b dialled_end came =
-      let at : Knows e b (t ∷ drop j all) = record {
+  again : is_again d a (let l = t.line in l.event) ≡ repeats (let l = t.line in l.event) (drop j all)
+  again = again-is d a s (drop j all) h (let l = t.line in l.event)
+
+  pub knows_more : (e : BTreeMap ℕ (ℕ × EndId)) (b : BTreeMap ℕ ℕ) (r : BTreeSet ℕ) → ((k : ℕ) → get nat_cmp e k ≡ or_else t.node (dialled_in k t) (get nat_cmp d k)) → ((k : ℕ) → get nat_cmp b k ≡ cond (comes_in k t) (Some t.node) (get nat_cmp a k))
+      → ((k : ℕ) → contains nat_cmp r k ≡ ((is_again d a (let l = t.line in l.event) && mentions k (let l = t.line in l.event)) || contains nat_cmp s k)) → Knows e b r (drop (j - 1) all)
+  knows_more e b r dialled_end came doubled =
+      let at : Knows e b r (t ∷ drop j all) = record {
         dialled = λ k. dialled_end k ∙ ap (λ (o : Option (ℕ × EndId)). or_else t.node (dialled_in k t) o) (h.dialled k);
         came = λ k. came k ∙ ap (λ (o : Option ℕ). cond (comes_in k t) (Some t.node) o) (h.came k);
+        twice = λ k. doubled k ∙ (λ i. (again i && mentions k (let l = t.line in l.event)) || h.twice k i);
       } in
-      subst (λ (ts : List NodeLine). Knows e b ts) (sym split) at
+      subst (λ (ts : List NodeLine). Knows e b r ts) (sym split) at
 
-  module _ (once : links_repeat (drop j all) ≡ false) (b : Bool) (again : b ≡ is_again d a (let l = t.line in l.event)) where
-    pub repeat_part : links_repeat (drop (j - 1) all) ≡ b
-    repeat_part =
-        let theirs : repeats (let l = t.line in l.event) (drop j all) ≡ b = sym (again-is d a (drop j all) h (let l = t.line in l.event)) ∙ sym again in
-        ap (λ (ts : List NodeLine). links_repeat ts) split ∙ ((λ i. theirs i || once i) ∙ or-false b)
-
-    pub repeat_found : b ≡ true → links_repeat all ≡ true
-    repeat_found e = repeat-drop (j - 1) all (repeat_part ∙ e)
+  pub repeats_more : (b c : Bool) → b ≡ (is_again d a (let l = t.line in l.event) || c) → c ≡ links_repeat (drop j all) → b ≡ links_repeat (drop (j - 1) all)
+  repeats_more b c here later = here ∙ ((λ i. again i || later i) ∙ ap (λ (ts : List NodeLine). links_repeat ts) (sym split))

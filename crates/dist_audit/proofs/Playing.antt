@@ -1,13 +1,13 @@
 -- A whole play.
-use Rattle.dist_audit.proofs.Words.{◌≡◌, false, List, [], length, IsTrue, None, sym, ap, ◌∙◌, subst, inr, run, World, empty, run-append, Closed, AllApply}
-use Rattle.dist_audit.proofs.Words.{AreFollowed, AreOfOneWorld, AreRefused, HasTables, IsWorldOf, world_before_lines, world_of, fault_of, links_unpaired}
-use Rattle.dist_audit.proofs.Words.{begins, of_lines, setups_of, AreLinesOf, NodeLine, lines_by_node}
-use Rattle.dist_audit.proofs.{Beginning.all-begin, Faultless.few-nodes, Faultless.links-paired, Homing.all-come-home, Pairs.unpaired-alike, Walking.all-apply}
+use Rattle.dist_audit.proofs.Words.{◌≡◌, Bool, false, List, [], length, IsTrue, None, sym, ap, ◌∙◌, subst, inr, run, World, empty, run-append, Closed, AllApply}
+use Rattle.dist_audit.proofs.Words.{AreFollowed, AreOfOneWorld, AreRefused, AreTold, HasTables, PlayUpTo, world_before_lines, world_of, fault_of, nodes_unpaired}
+use Rattle.dist_audit.proofs.Words.{begins, of_lines, setups_of, NodeLine}
+use Rattle.dist_audit.proofs.{Beginning.all-begin, Faultless.few-nodes, Faultless.paired, Homing.all-come-home, Marking.told-known, Walking.all-apply}
 use Rattle.dist_audit.proofs.{Quiet.FramesAlone, Quiet.all-take-theirs, Unchanged.KeepsSetups, Unchanged.own-digests, Unchanged.own-setups}
 use Rattle.dist_audit.specs.declared.audit_error.AuditError.TheVariants as error
 
 -- all nodes begin in the opening world
-pub has-begun : (cs : List Closed) (first : World) → first ≡ empty (setups_of cs) → fault_of cs ≡ None → AllApply (begins 0 first.setups) first
+pub has-begun : (cs : List Closed) (first : World) → first ≡ empty (setups_of cs) → nodes_unpaired cs ≡ false → AllApply (begins 0 first.setups) first
 has-begun cs first opening none = subst (λ (w : World). AllApply (begins 0 w.setups) w) (sym opening) (all-begin (setups_of cs) (few-nodes cs none))
 
 module _ (cs : List Closed) (first second last : World) (lines : List NodeLine) (opening : first ≡ empty (setups_of cs)) (began : second ≡ run (begins 0 first.setups) first) where
@@ -37,21 +37,16 @@ module _ (cs : List Closed) (first second last : World) (lines : List NodeLine) 
   other-tables played f unlike = inr (followed-all f, λ tables. let e : IsTrue false = unlike (subst (λ (w : World). HasTables w cs) (sym (is_played played)) tables) in cc)
 
 -- the lines were played in the order of their tickets, and the histories have no fault
-pub plays-up : FramesAlone → KeepsSetups → (cs : List Closed) (w : World) → fault_of cs ≡ None → (ts : List NodeLine) × AreLinesOf cs ts × (w ≡ world_of cs ts) × AreOfOneWorld cs ts → IsWorldOf cs w
-plays-up alone keeps cs w none p =
-    let ts = p.0 in
-    let all = p.1 in
-    let one = p.3 in
-    let paired : links_unpaired ts ≡ false = sym (unpaired-alike (lines_by_node cs) ts all.all) ∙ links-paired cs none in (
-      ts,
-      record {
-        lines = all;
-        world = p.2;
-        applied = all-apply cs ts (all-begin (setups_of cs) (few-nodes cs none)) one;
-        one_world = one;
-        links = all-come-home cs ts paired one;
-        bodies = all-take-theirs alone cs ts one;
-        setups = own-setups keeps cs ts w p.2;
-        digests = own-digests keeps cs ts w p.2;
-      },
-    )
+pub plays-up : FramesAlone → KeepsSetups → (others : Bool) (cs : List Closed) (w : World) (ts : List NodeLine) → fault_of others cs ≡ None → AreTold others cs ts → w ≡ world_of cs ts → AreOfOneWorld cs ts → PlayUpTo others cs w ts
+plays-up alone keeps others cs w ts none told is one =
+    let pairs = paired others cs none in
+    record {
+      lines = told;
+      world = is;
+      applied = all-apply cs ts (all-begin (setups_of cs) (few-nodes cs pairs.0)) one;
+      one_world = one;
+      links = all-come-home cs ts (told-known others cs ts told pairs.1) one;
+      bodies = all-take-theirs alone cs ts one;
+      setups = own-setups keeps cs ts w is;
+      digests = own-digests keeps cs ts w is;
+    }

@@ -5,14 +5,15 @@ use Rattle.dist_audit.proofs.Words.{take_at, w16, same_Some, to_be_bytes, Creati
 use Rattle.dist_audit.proofs.Words.{is_dialing, Setup, step, Event, after_delivery, body_taken, change_to, conns_after_saying, says, spoken_on, text_to}
 use Rattle.dist_audit.proofs.Words.{at_place, one_where, run, Conn, Text, World, empty, end_at, row_at, running, runs, Happening, if_holds, if_ok, if_there}
 use Rattle.dist_audit.proofs.Words.{there, place-twice, placed, at-more, at-one, said_to, undelivered_text, Closed, AllApply, AreFollowed, AreOfOneWorld}
-use Rattle.dist_audit.proofs.Words.{BeginsWith, IsFront, IsNext, TakeTheirs, after, come_of, before, begins, own, reach, reach_first, setups_of, with_mentions}
+use Rattle.dist_audit.proofs.Words.{BeginsWith, IsFront, IsNext, TakeTheirs, UnlessOutside, after, come_of, before, begins, own, reach, reach_first, setups_of, with_mentions}
 use Rattle.dist_audit.proofs.Words.{NodeLine, acceptor_of, dialler_of, is_among, target_of}
 use Rattle.dist_core.specs.declared.event.Event.TheVariants as event
 use Rattle.dist_world_model.specs.Happenings.{accept, accepted_by, applied_at, begin, happens, is_nonempty, is_open_end, new_conn, next_end, notify}
-use Rattle.dist_world_model.specs.Happenings.{notify_node, notify_opened, ticked_on, without_closing, world_after, ◌>>◌, conn_of, reach as happening_reach}
-use Rattle.dist_world_model.specs.Rows.{EndRow}
+use Rattle.dist_world_model.specs.Happenings.{is_outside, notify_node, notify_opened, notify_outside, ticked_on, without_closing, world_after, ◌>>◌, conn_of, reach as happening_reach}
+use Rattle.dist_world_model.specs.Rows.{EndRow, most_connections}
 use Rattle.dist_world_model.specs.declared.happening.Happening.TheVariants as happening
 use Rattle.dist_world_lives.specs.Stepping.{wire_of}
+use Rattle.dist_audit.proofs.Outside.{nothing}
 use Rattle.dist_audit.specs.Links.{conn_of as number_of}
 use Rattle.dist_audit.specs.Audit as audit
 
@@ -66,6 +67,12 @@ module _ (w : World) (h : QuietIn w) where
       if_there QuietIn (running w node) _ (λ i at.
       if_there QuietIn (conn_of (row_at w i id.0)) _ (λ c on.
       quiet-noted i (event.Opened id c) 0))
+
+  quiet-outside : (node : ℕ) (v : Event) (fresh : ℕ) → IfSome (notify_outside w node v fresh) QuietIn
+  quiet-outside node v fresh =
+      if_there QuietIn (running w node) _ (λ i at.
+      if_holds QuietIn (is_outside w i v) _ (λ out.
+      quiet-noted i v fresh))
 
 quiet-accepted : (w : World) → QuietIn w → (c : ℕ) → IfSome (accept w c) QuietIn
 quiet-accepted w h c =
@@ -221,8 +228,8 @@ module _ (alone : FramesAlone) (w : World) (i : ℕ) (id : EndId) (body : List �
 
 -- ---- ONE LINE: its very body is at the front, and afterwards nothing is left
 
-abbrev pub Leaves : World → ℕ → Event → World → Type 0
-Leaves w i e x = IsFront w i e × QuietIn x
+abbrev pub Leaves : World → Bool → ℕ → Event → World → Type 0
+Leaves w b i e x = UnlessOutside b (IsFront w i e) × QuietIn x
 
 quiet-reach : (w : World) → QuietIn w → (all : List NodeLine) (count k : ℕ) (o : Option (ℕ × EndId)) → AllApply (option_to_list (reach all count k o)) w → QuietIn (run (option_to_list (reach all count k o)) w)
 quiet-reach w h all count k None a = h
@@ -234,24 +241,30 @@ quiet-first : (w : World) → QuietIn w → (all : List NodeLine) (count k : ℕ
 quiet-first w h all count k true a = h
 quiet-first w h all count k false a = quiet-reach w h all count k (dialler_of k all) a
 
-pub line-leaves : FramesAlone → (w : World) → QuietIn w → (all : List NodeLine) (count : ℕ) (ks js : List ℕ) (i : ℕ) (e : Event) (fresh : ℕ)
-    → IsNext w i e → AllApply (option_to_list (before all count ks i e)) w → AllApply (own js i e fresh ∷ []) (run (option_to_list (before all count ks i e)) w)
-    → Leaves (run (option_to_list (before all count ks i e)) w) i e (run (own js i e fresh ∷ []) (run (option_to_list (before all count ks i e)) w))
-line-leaves alone w h all count ks js i (event.Dial p o) fresh n a b = (tt, quiet-happens w (happening.Dial i p o) (quiet-node (without_closing w) h i (event.Dial p o)) b)
-line-leaves alone w h all count ks js i (event.Opened id k) fresh n a b =
+pub line-leaves : FramesAlone → (w : World) → QuietIn w → (all : List NodeLine) (count : ℕ) (ks js : List ℕ) (b : Bool) (i : ℕ) (e : Event) (fresh : ℕ)
+    → UnlessOutside b (IsNext w i e) → AllApply (option_to_list (before all count ks b i e)) w → AllApply (own js b i e fresh ∷ []) (run (option_to_list (before all count ks b i e)) w)
+    → Leaves (run (option_to_list (before all count ks b i e)) w) b i e (run (own js b i e fresh ∷ []) (run (option_to_list (before all count ks b i e)) w))
+line-leaves alone w h all count ks js b i (event.Dial p o) fresh n a c = (nothing b, quiet-happens w (happening.Dial i p o) (quiet-node (without_closing w) h i (event.Dial p o)) c)
+line-leaves alone w h all count ks js true i (event.Opened id k) fresh n a c =
+    (tt, quiet-happens w (happening.Outside i (event.Opened id k) fresh) (quiet-outside (without_closing w) h i (event.Opened id k) fresh) c)
+line-leaves alone w h all count ks js false i (event.Opened id k) fresh n a c =
     let x = run (option_to_list (reach_first all count ks k)) w in
     let q : QuietIn x = quiet-first w h all count k (is_among k ks) a in
-    (tt, quiet-happens x (happening.Opened i id) (quiet-opened (without_closing x) q i id) b)
-line-leaves alone w h all count ks js i (event.Incoming k) fresh n a b =
+    (tt, quiet-happens x (happening.Opened i id) (quiet-opened (without_closing x) q i id) c)
+line-leaves alone w h all count ks js true i (event.Incoming k) fresh n a c =
+    (tt, quiet-happens w (happening.Outside i (event.Incoming most_connections) fresh) (quiet-outside (without_closing w) h i (event.Incoming most_connections) fresh) c)
+line-leaves alone w h all count ks js false i (event.Incoming k) fresh n a c =
     let x = run (option_to_list (reach_first all count ks k)) w in
     let q : QuietIn x = quiet-first w h all count k (is_among k ks) a in
-    (tt, quiet-happens x (happening.Accept (number_of k js)) (quiet-accepted (without_closing x) q (number_of k js)) b)
-line-leaves alone w h all count ks js i (event.Frame id body) fresh n a b =
+    (tt, quiet-happens x (happening.Accept (number_of k js)) (quiet-accepted (without_closing x) q (number_of k js)) c)
+line-leaves alone w h all count ks js true i (event.Frame id body) fresh n a c =
+    (tt, quiet-happens w (happening.Outside i (event.Frame id body) fresh) (quiet-outside (without_closing w) h i (event.Frame id body) fresh) c)
+line-leaves alone w h all count ks js false i (event.Frame id body) fresh n a c =
     let s = stands w i id body n.1 in
     let e = has-come alone w i id body n.0 s h a in
-    subst (λ (x : World). AllApply (happening.Take i id fresh ∷ []) x → Leaves x i (event.Frame id body) (happens x (happening.Take i id fresh))) (sym e) (λ c. (is-front alone w i id body n.0 s h, quiet-takes alone w i id body n.0 s h fresh c)) b
-line-leaves alone w h all count ks js i (event.Lost id y) fresh n a b = (tt, quiet-happens w (happening.Lose i id y) (quiet-node (without_closing w) h i (event.Lost id y)) b)
-line-leaves alone w h all count ks js i (event.Tick id) fresh n a b = (tt, quiet-happens w (happening.Tick i id) (quiet-node (without_closing w) h i (event.Tick id)) b)
+    subst (λ (x : World). AllApply (happening.Take i id fresh ∷ []) x → Leaves x false i (event.Frame id body) (happens x (happening.Take i id fresh))) (sym e) (λ d. (is-front alone w i id body n.0 s h, quiet-takes alone w i id body n.0 s h fresh d)) c
+line-leaves alone w h all count ks js b i (event.Lost id y) fresh n a c = (nothing b, quiet-happens w (happening.Lose i id y) (quiet-node (without_closing w) h i (event.Lost id y)) c)
+line-leaves alone w h all count ks js b i (event.Tick id) fresh n a c = (nothing b, quiet-happens w (happening.Tick i id) (quiet-node (without_closing w) h i (event.Tick id)) c)
 
 -- ---- ALL LINES
 
@@ -278,7 +291,7 @@ take-theirs alone all count ks w [] h f = tt
 take-theirs alone all count ks w (t ∷ ts) h f =
     let g = f.0 in
     let l = t.line in
-    let x = line-leaves alone w h all count ks (with_mentions ks t) t.node l.event l.fresh g.next g.before g.applies in
+    let x = line-leaves alone w h all count ks (with_mentions ks t) t.outside t.node l.event l.fresh g.next g.before g.applies in
     (x.0, take-theirs alone all count (with_mentions ks t) (after all count ks w t) ts x.1 f.1)
 
 -- in histories of one world each line takes its very body

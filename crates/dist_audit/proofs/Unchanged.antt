@@ -32,28 +32,34 @@ reaches-first all count ks k = by (is_among k ks)
     by true = tt
     by false = reaches all count k (dialler_of k all)
 
-before-plain : (all : List NodeLine) (count : ℕ) (ks : List ℕ) (i : ℕ) (v : Event) → IsPlain (before all count ks i v)
-before-plain all count ks i (event.Dial p o) = tt
-before-plain all count ks i (event.Opened id k) = reaches-first all count ks k
-before-plain all count ks i (event.Incoming k) = reaches-first all count ks k
-before-plain all count ks i (event.Frame id body) = (tt, tt)
-before-plain all count ks i (event.Lost id w) = tt
-before-plain all count ks i (event.Tick id) = tt
+before-plain : (all : List NodeLine) (count : ℕ) (ks : List ℕ) (b : Bool) (i : ℕ) (v : Event) → IsPlain (before all count ks b i v)
+before-plain all count ks b i (event.Dial p o) = tt
+before-plain all count ks true i (event.Opened id k) = tt
+before-plain all count ks false i (event.Opened id k) = reaches-first all count ks k
+before-plain all count ks true i (event.Incoming k) = tt
+before-plain all count ks false i (event.Incoming k) = reaches-first all count ks k
+before-plain all count ks true i (event.Frame id body) = tt
+before-plain all count ks false i (event.Frame id body) = (tt, tt)
+before-plain all count ks b i (event.Lost id w) = tt
+before-plain all count ks b i (event.Tick id) = tt
 
-own-plain : (ks : List ℕ) (i : ℕ) (v : Event) (fresh : ℕ) → IsNoReset (own ks i v fresh)
-own-plain ks i (event.Dial p o) fresh = tt
-own-plain ks i (event.Opened id k) fresh = tt
-own-plain ks i (event.Incoming k) fresh = tt
-own-plain ks i (event.Frame id body) fresh = tt
-own-plain ks i (event.Lost id w) fresh = tt
-own-plain ks i (event.Tick id) fresh = tt
+own-plain : (ks : List ℕ) (b : Bool) (i : ℕ) (v : Event) (fresh : ℕ) → IsNoReset (own ks b i v fresh)
+own-plain ks b i (event.Dial p o) fresh = tt
+own-plain ks true i (event.Opened id k) fresh = tt
+own-plain ks false i (event.Opened id k) fresh = tt
+own-plain ks true i (event.Incoming k) fresh = tt
+own-plain ks false i (event.Incoming k) fresh = tt
+own-plain ks true i (event.Frame id body) fresh = tt
+own-plain ks false i (event.Frame id body) fresh = tt
+own-plain ks b i (event.Lost id w) fresh = tt
+own-plain ks b i (event.Tick id) fresh = tt
 
 lines-plain : (all : List NodeLine) (count : ℕ) (ks : List ℕ) (ts : List NodeLine) → AllByRecursion IsNoReset (of_lines all count ks ts)
 lines-plain all count ks [] = tt
 lines-plain all count ks (t ∷ ts) =
     let l = t.line in
     both (option_to_list (ahead all count ks t)) (itself ks t ∷ of_lines all count (with_mentions ks t) ts)
-    (before-plain all count ks t.node l.event) (own-plain _ t.node l.event l.fresh, lines-plain all count (with_mentions ks t) ts)
+    (before-plain all count ks t.outside t.node l.event) (own-plain _ t.outside t.node l.event l.fresh, lines-plain all count (with_mentions ks t) ts)
 
 plain : (cs : List Closed) (ts : List NodeLine) → AreNoResets (happenings cs ts)
 plain cs ts = both (begins 0 (setups_of cs)) (of_lines ts (length cs) [] ts) (all-begin 0 (setups_of cs)) (lines-plain ts (length cs) [] ts)

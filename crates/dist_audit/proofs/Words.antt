@@ -16,13 +16,15 @@ pub use Rattle.dist_world_model.proofs.Words.{table_of, Setup, NodeState, step, 
 pub use Rattle.dist_world_model.proofs.Words.{text_to, AllLives, at_place, first_where, Conn, Life, Text, World, empty, end_at, row_at, running, runs, runs_for}
 pub use Rattle.dist_world.specs.{Asking.node_of, Asking.said_to, Asking.undelivered_text, Setups.names_repeat}
 pub use Rattle.dist_locked_book.specs.declared.{closing.Closed.Closed, line.Line.Line}
-pub use Rattle.dist_audit.specs.Audit.{AllApply, AreFollowed, AreOfOneWorld, AreRefused, BeginsWith, ComeHome, ComesHere, EachLinkComesHome, HasTables, IsAlike}
-pub use Rattle.dist_audit.specs.Audit.{IsFront, IsNext, IsWorldOf, RefusesLine, StopsAt, TakeTheirs, UnlessShort, after, come_of, entry_at, record_at}
+pub use Rattle.dist_audit.specs.Audit.{AllApply, AreFollowed, AreOfOneWorld, AreRefused, AreTold, BeginsWith, ComeHome, ComesHere, EachLinkComesHome, HasTables, IsAlike}
+pub use Rattle.dist_audit.specs.Audit.{IsFront, IsNext, PlayUpTo, RefusesLine, Reports, StopsAt, TakeTheirs, UnlessOutside, UnlessShort, after, come_of, entry_at, record_at}
 pub use Rattle.dist_audit.specs.Audit.{world_before_lines, world_of}
-pub use Rattle.dist_audit.specs.Faults.{falls, Unpairs, comes_unopened, fault_of, has_ticket, has_ticket_in, is_unopened, is_unpaired, links_repeat}
+pub use Rattle.dist_audit.specs.Faults.{falls, IsFault, Unpairs, comes_unopened, fault_of, has_ticket, has_ticket_in, is_unopened, is_unpaired, links_repeat}
 pub use Rattle.dist_audit.specs.Faults.{links_unpaired, nodes_unpaired, repeats, rises, rises_in, starts_above, twice}
 pub use Rattle.dist_audit.specs.Happenings.{ahead, before, begins, happenings, itself, of_lines, own, reach, reach_first, setups_of, with_mentions}
 pub use Rattle.dist_audit.specs.{Kept.AreNumbers, Kept.Knows, Kept.is_again, Kept.is_unknown, Kept.number_of, declared.audit_error.AuditError.AuditError}
-pub use Rattle.dist_audit.specs.Lines.{AreLinesOf, NodeLine, lines_at, lines_by_node, lines_from, ticket_of}
-pub use Rattle.dist_audit.specs.Links.{acceptor_of, comes, comes_in, conn_of, dialled_end, dialled_in, dialler_of, is_among, link_in, mention, opens, opens_in}
+pub use Rattle.dist_audit.specs.Lines.{AreLinesOf, NodeLine, line_of_node, lines_at, lines_by_node, lines_from, ticket_of}
+pub use Rattle.dist_audit.specs.Links.{acceptor_of, comes, comes_in, conn_of, dialled_end, dialled_in, dialler_of, inner_link, is_among, link_in, mention, mentions, opens, opens_in}
 pub use Rattle.dist_audit.specs.Links.{or_else, target_of}
+pub use Rattle.dist_audit.specs.Outside.{end_number, is_done_outside, is_paired, is_strange, is_strange_at, marked, marked_line, marked_lines, stands_twice}
+pub use Rattle.dist_audit.specs.Outside.{meets_stranger, strangers}

@@ -1,5 +1,5 @@
 -- HISTORIES THAT ARE THOSE OF ONE WORLD.
-use Rattle.std.specs.Prelude.{◌≡◌, ◌⊎◌, ℕ, ◌<◌, ◌^◌, List, [], ◌∷◌, ◌++◌, length, Option, Some, None, Ok, slice_get, option_to_list}
+use Rattle.std.specs.Prelude.{◌≡◌, ◌⊎◌, ℕ, Bool, true, false, ◌<◌, ◌^◌, List, [], ◌∷◌, ◌++◌, length, Option, Some, None, Ok, slice_get, option_to_list}
 use Rattle.std.specs.{Option.option_map, Option.option_and_then, Int.w16}
 use Rattle.std.specs.FinMap as map
 use Rattle.dist_names.specs.Order.{Name}
@@ -16,6 +16,7 @@ use Rattle.dist_world_lives.specs.Stepping.{wire_of}
 use Rattle.dist_world.specs.Asking.{node_of, said_to}
 use Rattle.dist_audit.specs.Happenings.{setups_of, begins, ahead, itself, with_mentions, happenings}
 use Rattle.dist_audit.specs.{declared.audit_error.AuditError.AuditError, Lines.NodeLine, Lines.AreLinesOf, Links.conn_of, Faults.fault_of}
+use Rattle.dist_audit.specs.Outside.{marked, strangers}
 use Rattle.dist_audit.specs.declared.audit_error.AuditError.TheVariants as error
 
 -- the text begins with the frame of this body
@@ -32,6 +33,11 @@ abbrev pub IsNext : World → ℕ → Event → Type 0
 IsNext w i (event.Frame id body) = Says w i id body
 IsNext w i _ = Unit {0}
 
+-- this is so, unless somebody outside did it
+abbrev pub UnlessOutside : Bool → Type 0 → Type 0
+UnlessOutside true P = Unit {0}
+UnlessOutside false P = P
+
 -- the node gives the very reply of the line
 abbrev pub Gives : NodeState → Line → Type 0
 Gives n l = reply_of (step n l.event l.fresh) ≡ Ok l.reply
@@ -45,10 +51,10 @@ Replies (Some n) l = Gives n l
 abbrev pub AllApply : List Happening → World → Type 0
 AllApply hs w = count_applied hs w ≡ length hs
 
--- A LINE IS FOLLOWED from world w on: a frame's body is the next one sent; what is to happen before it applies; the node
--- gives that very reply; and the line itself applies
+-- A LINE IS FOLLOWED from world w on: a frame's body is the next one sent, unless somebody outside sent it; what is to happen before
+-- it applies; the node gives that very reply; and the line itself applies
 pub record IsFollowed (all : List NodeLine) (count : ℕ) (ks : List ℕ) (w : World) (t : NodeLine) : Type 0 where
-  pub next : IsNext w t.node (let l = t.line in l.event)
+  pub next : UnlessOutside t.outside (IsNext w t.node (let l = t.line in l.event))
   pub before : AllApply (option_to_list (ahead all count ks t)) w
   pub reply : Replies (node_of (run (option_to_list (ahead all count ks t)) w) t.node) t.line
   pub applies : AllApply (itself ks t ∷ []) (run (option_to_list (ahead all count ks t)) w)
@@ -108,17 +114,23 @@ Refutes error.NotSent P = P → ⊥
 Refutes error.OtherReply P = P → ⊥
 Refutes e P = ⊥
 
+-- THE LINES OF HISTORIES, in the order of their tickets: as they stand; or, where others took part, each by whether somebody outside
+-- did what it says
+abbrev pub AreTold : Bool → List Closed → List NodeLine → Type 0
+AreTold false cs ts = AreLinesOf cs ts
+AreTold true cs ts = (us : List NodeLine) × AreLinesOf cs us × (ts ≡ marked us)
+
 -- they are not, by their lines in the order of their tickets
-abbrev pub AreOfNoWorld : List Closed → Type 0
-AreOfNoWorld cs = (ts : List NodeLine) × AreLinesOf cs ts × (AreOfOneWorld cs ts → ⊥)
+abbrev pub AreOfNoWorld : Bool → List Closed → Type 0
+AreOfNoWorld others cs = (ts : List NodeLine) × AreTold others cs ts × (AreOfOneWorld cs ts → ⊥)
 
 -- WHAT A REFUSAL REPORTS: the first fault of the histories by themselves; where there is none, that they are not those of
--- one world; and nothing where memory was short
-abbrev pub Reports : AuditError → List Closed → Type 0
-Reports error.NoMemory cs = Unit {0}
-Reports error.NotSent cs = (fault_of cs ≡ None) × AreOfNoWorld cs
-Reports error.OtherReply cs = (fault_of cs ≡ None) × AreOfNoWorld cs
-Reports e cs = fault_of cs ≡ Some e
+-- one world; and nothing where memory was short. By whether others took part
+abbrev pub Reports : AuditError → Bool → List Closed → Type 0
+Reports error.NoMemory others cs = Unit {0}
+Reports error.NotSent others cs = (fault_of others cs ≡ None) × AreOfNoWorld others cs
+Reports error.OtherReply others cs = (fault_of others cs ≡ None) × AreOfNoWorld others cs
+Reports e others cs = fault_of others cs ≡ Some e
 
 -- ---- which refusal
 
@@ -130,8 +142,9 @@ UnlessShort e P = P
 -- A line is refused so: NotSent, where a frame's body is not the next one sent; OtherReply, where nothing is wrong with a
 -- frame's body, and the line is not followed all the same.
 abbrev pub RefusesLine : AuditError → List NodeLine → ℕ → List ℕ → World → NodeLine → Type 0
-RefusesLine error.NotSent all count ks w t = IsNext w t.node (let l = t.line in l.event) → ⊥
-RefusesLine error.OtherReply all count ks w t = IsNext w t.node (let l = t.line in l.event) × (IsFollowed all count ks w t → ⊥)
+RefusesLine error.NotSent all count ks w t = UnlessOutside t.outside (IsNext w t.node (let l = t.line in l.event)) → ⊥
+RefusesLine error.OtherReply all count ks w t =
+    UnlessOutside t.outside (IsNext w t.node (let l = t.line in l.event)) × (IsFollowed all count ks w t → ⊥)
 RefusesLine e all count ks w t = ⊥
 
 -- THE FIRST OF THESE LINES THAT IS NOT FOLLOWED is refused so
@@ -151,10 +164,10 @@ abbrev pub AreRefused : AuditError → List Closed → List NodeLine → Type 0
 AreRefused e cs ts = StopsAt e ts (length cs) [] (world_before_lines cs) ts ⊎ HasOtherTables e cs ts
 
 -- WHICH OF THE TWO IT IS where the histories have no fault by themselves, by their lines in the order of their tickets
-abbrev pub ReportsFirst : AuditError → List Closed → Type 0
-ReportsFirst error.NotSent cs = (ts : List NodeLine) × AreLinesOf cs ts × AreRefused error.NotSent cs ts
-ReportsFirst error.OtherReply cs = (ts : List NodeLine) × AreLinesOf cs ts × AreRefused error.OtherReply cs ts
-ReportsFirst e cs = Unit {0}
+abbrev pub ReportsFirst : AuditError → Bool → List Closed → Type 0
+ReportsFirst error.NotSent others cs = (ts : List NodeLine) × AreTold others cs ts × AreRefused error.NotSent cs ts
+ReportsFirst error.OtherReply others cs = (ts : List NodeLine) × AreTold others cs ts × AreRefused error.OtherReply cs ts
+ReportsFirst e others cs = Unit {0}
 
 -- ---- what each line takes
 
@@ -172,11 +185,12 @@ abbrev pub IsFront : World → ℕ → Event → Type 0
 IsFront w i (event.Frame id body) = option_and_then (first_body w16) (come_to w i id) ≡ Some body
 IsFront w i _ = Unit {0}
 
--- THESE LINES TAKE THEIR VERY BODIES, each once what is to happen before it has happened
+-- THESE LINES TAKE THEIR VERY BODIES, each once what is to happen before it has happened (what somebody outside sends is given to the
+-- node as it is)
 abbrev pub TakeTheirs : List NodeLine → ℕ → List ℕ → World → List NodeLine → Type 0
 TakeTheirs all count ks w [] = Unit {0}
 TakeTheirs all count ks w (t ∷ ts) =
-    IsFront (run (option_to_list (ahead all count ks t)) w) t.node (let l = t.line in l.event)
+    UnlessOutside t.outside (IsFront (run (option_to_list (ahead all count ks t)) w) t.node (let l = t.line in l.event))
     × TakeTheirs all count (with_mentions ks t) (after all count ks w t) ts
 
 -- each of these lines of histories takes its very body
@@ -194,7 +208,7 @@ ComesHere w ks i _ = Unit {0}
 abbrev pub ComeHome : List NodeLine → ℕ → List ℕ → World → List NodeLine → Type 0
 ComeHome all count ks w [] = Unit {0}
 ComeHome all count ks w (t ∷ ts) =
-    ComesHere (run (option_to_list (ahead all count ks t)) w) (with_mentions ks t) t.node (let l = t.line in l.event)
+    UnlessOutside t.outside (ComesHere (run (option_to_list (ahead all count ks t)) w) (with_mentions ks t) t.node (let l = t.line in l.event))
     × ComeHome all count (with_mentions ks t) (after all count ks w t) ts
 
 -- each link that comes to a node in these lines of histories leads to that node
@@ -203,10 +217,10 @@ EachLinkComesHome cs ts = ComeHome ts (length cs) [] (world_before_lines cs) ts
 
 -- ---- the whole
 
--- THESE LINES OF CLOSED NODES PLAY UP TO WORLD w
-pub record PlayUpTo (cs : List Closed) (w : World) (ts : List NodeLine) : Type 0 where
+-- THESE LINES OF CLOSED NODES PLAY UP TO WORLD w, by whether others took part
+pub record PlayUpTo (others : Bool) (cs : List Closed) (w : World) (ts : List NodeLine) : Type 0 where
   -- they are all lines, in the order of their tickets
-  pub lines : AreLinesOf cs ts
+  pub lines : AreTold others cs ts
   -- the world is what their happenings leave
   pub world : w ≡ world_of cs ts
   -- and each of those applies
@@ -222,6 +236,10 @@ pub record PlayUpTo (cs : List Closed) (w : World) (ts : List NodeLine) : Type 0
   -- so each end that is up holds the digest of the cookie that its closed node was set up with for the peer
   pub digests : AllLives (HasSetDigests (setups_of cs)) w
 
--- w IS THE WORLD OF THESE HISTORIES
+-- w IS THE WORLD OF THESE HISTORIES, where no others took part
 abbrev pub IsWorldOf : List Closed → World → Type 0
-IsWorldOf cs w = (ts : List NodeLine) × PlayUpTo cs w ts
+IsWorldOf cs w = (ts : List NodeLine) × PlayUpTo false cs w ts
+
+-- W IS THEIR WORLD, where others took part in this many connections
+abbrev pub IsWorldAmong : List Closed → World → ℕ → Type 0
+IsWorldAmong cs w count = (ts : List NodeLine) × PlayUpTo true cs w ts × (count ≡ strangers ts)

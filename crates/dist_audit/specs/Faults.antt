@@ -68,23 +68,23 @@ nodes_unpaired cs = nat_lt 1048576 (length cs) || names_repeat (setups_of cs)
 abbrev pub links_unpaired : List NodeLine → Bool
 links_unpaired all = links_repeat all || comes_unopened all
 
--- NODES OR LINKS ARE NOT IN PAIRS
-abbrev pub is_unpaired : List Closed → Bool
-is_unpaired cs = nodes_unpaired cs || links_unpaired (lines_by_node cs)
+-- NODES OR LINKS ARE NOT IN PAIRS; where others took part, links need not be
+abbrev pub is_unpaired : Bool → List Closed → Bool
+is_unpaired others cs = nodes_unpaired cs || (not others && links_unpaired (lines_by_node cs))
 
--- THE FIRST FAULT, in this order
-abbrev pub fault_of : List Closed → Option AuditError
-fault_of cs =
+-- THE FIRST FAULT, in this order, by whether others took part
+abbrev pub fault_of : Bool → List Closed → Option AuditError
+fault_of others cs =
     if falls cs then Some error.TicketFalls
     else (if twice cs then Some error.TicketTwice
-    else (if is_unpaired cs then Some error.Unpaired else None))
+    else (if is_unpaired others cs then Some error.Unpaired else None))
 
--- a refusal names the first fault, and nothing where memory ran out
+-- a refusal names the first fault, whether others took part or not, and nothing where memory ran out
 abbrev pub IsFault : AuditError → List Closed → Type 0
 IsFault error.NoMemory cs = Unit {0}
 IsFault error.NotSent cs = ⊥
 IsFault error.OtherReply cs = ⊥
-IsFault e cs = fault_of cs ≡ Some e
+IsFault e cs = (others : Bool) → fault_of others cs ≡ Some e
 
 -- a refusal says that this is so, and nothing where memory ran out
 abbrev pub Unpairs : AuditError → Bool → Type 0

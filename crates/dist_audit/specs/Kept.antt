@@ -1,15 +1,17 @@
 -- WHAT THE CODE KEEPS BESIDE THE LINES, so that it never searches the lines twice.
 use Rattle.std.specs.Prelude.{◌≡◌, ℕ, suc, ◌==◌, Bool, false, not, if◌then◌else◌, is_some, List, [], ◌∷◌, Option, Some, None}
-use Rattle.std.specs.{Option.option_map, Ordering.nat_cmp, BTreeMap.BTreeMap, BTreeMap.get}
+use Rattle.std.specs.{Option.option_map, Ordering.nat_cmp, BTreeMap.BTreeMap, BTreeMap.get, BTreeSet.BTreeSet, BTreeSet.contains}
 use Rattle.dist_peers.specs.declared.entry.EndId.{EndId}
 use Rattle.dist_core.specs.declared.event.Event.{Event}
 use Rattle.dist_core.specs.declared.event.Event.TheVariants as event
-use Rattle.dist_audit.specs.{Lines.NodeLine, Links.dialler_of, Links.acceptor_of}
+use Rattle.dist_audit.specs.{Lines.NodeLine, Links.dialler_of, Links.acceptor_of, Outside.stands_twice}
 
--- these maps have, for each link, the end that dialled it, with its node, and the node that accepted it
-pub record Knows (diallers : BTreeMap ℕ (ℕ × EndId)) (acceptors : BTreeMap ℕ ℕ) (ts : List NodeLine) : Type 0 where
+-- these maps have, for each link, the end that dialled it, with its node, and the node that accepted it; the set has those that stand
+-- in two lines of one kind
+pub record Knows (diallers : BTreeMap ℕ (ℕ × EndId)) (acceptors : BTreeMap ℕ ℕ) (doubled : BTreeSet ℕ) (ts : List NodeLine) : Type 0 where
   pub dialled : (k : ℕ) → get nat_cmp diallers k ≡ dialler_of k ts
   pub came : (k : ℕ) → get nat_cmp acceptors k ≡ acceptor_of k ts
+  pub twice : (k : ℕ) → contains nat_cmp doubled k ≡ stands_twice k ts
 
 -- an earlier event of this kind has the same link
 abbrev pub is_again : BTreeMap ℕ (ℕ × EndId) → BTreeMap ℕ ℕ → Event → Bool

@@ -1,24 +1,26 @@
 -- THE LINES OF ALL HISTORIES, in the order of their tickets.
-use Rattle.std.specs.{Prelude.ℕ, Prelude.suc, Prelude.List, Prelude.[], Prelude.◌∷◌, Prelude.◌++◌, List.Sorted.IsPermutation, List.Sorted.IsNonDecreasingBy}
+use Rattle.std.specs.Prelude.{ℕ, suc, Bool, false, List, [], ◌∷◌, ◌++◌}
+use Rattle.std.specs.List.Sorted.{IsPermutation, IsNonDecreasingBy}
 use Rattle.dist_locked_book.specs.declared.{line.Line.Line, closing.Closed.Closed}
 
--- a line, and whose it is: the place of its node among all
+-- a line, whose it is (the place of its node among all), and whether somebody outside, who is none of these nodes, did what it says
 pub record NodeLine : Type 0 where
   pub node : ℕ
   pub line : Line
+  pub outside : Bool
 
--- this line of node i
-abbrev pub line_of_node : ℕ → Line → NodeLine
-line_of_node i l = record { node = i; line = l }
+-- this line of node i, by whether somebody outside did it
+abbrev pub line_of_node : ℕ → Line → Bool → NodeLine
+line_of_node i l outside = record { node = i; line = l; outside = outside }
 
 -- its ticket
 abbrev pub ticket_of : NodeLine → ℕ
 ticket_of t = let l = t.line in l.ticket
 
--- the lines of node i
+-- the lines of node i, none of which is known to be somebody's outside
 abbrev pub lines_at : ℕ → List Line → List NodeLine
 lines_at i [] = []
-lines_at i (l ∷ ls) = line_of_node i l ∷ lines_at i ls
+lines_at i (l ∷ ls) = line_of_node i l false ∷ lines_at i ls
 
 -- the lines of these nodes, of which the first is node i
 abbrev pub lines_from : ℕ → List Closed → List NodeLine

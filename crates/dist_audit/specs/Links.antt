@@ -1,5 +1,5 @@
 -- LINKS: the numbers by which those who carried a connection knew it.
-use Rattle.std.specs.Prelude.{ℕ, suc, ◌==◌, Bool, false, nat_lt, if◌then◌else◌, List, [], ◌∷◌, ◌++◌, Option, Some, None}
+use Rattle.std.specs.Prelude.{ℕ, suc, ◌==◌, Bool, true, false, nat_lt, if◌then◌else◌, List, [], ◌∷◌, ◌++◌, Option, Some, None}
 use Rattle.std.specs.List.{list_any}
 use Rattle.dist_peers.specs.declared.entry.EndId.{EndId}
 use Rattle.dist_core.specs.declared.event.Event.{Event}
@@ -12,6 +12,11 @@ link_in (event.Opened id k) = Some k
 link_in (event.Incoming k) = Some k
 link_in _ = None
 
+-- the link of a connection between these nodes that an event mentions, by whether somebody outside did it
+abbrev pub inner_link : Bool → Event → Option ℕ
+inner_link true e = None
+inner_link false e = link_in e
+
 -- the dialling end learns of this link
 abbrev pub opens : ℕ → Event → Bool
 opens k (event.Opened id j) = j == k
@@ -21,6 +26,12 @@ opens k _ = false
 abbrev pub comes : ℕ → Event → Bool
 comes k (event.Incoming j) = j == k
 comes k _ = false
+
+-- the event is of this link
+abbrev pub mentions : ℕ → Event → Bool
+mentions k (event.Opened id j) = j == k
+mentions k (event.Incoming j) = j == k
+mentions k _ = false
 
 -- in the line the dialling end learns of this link
 abbrev pub opens_in : ℕ → NodeLine → Bool

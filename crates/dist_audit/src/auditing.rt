@@ -2,13 +2,14 @@
 ghost use Rattle.std.specs.Prelude.{◌≡◌, ◌↔◌, List, None, Some, IsTrue, true, false, IfOk, IfErr, OnOk};
 ghost use Rattle.dist_world_model.specs.{World.empty, Run.run};
 ghost use Rattle.dist_audit.specs.Faults.{falls, twice, fault_of, nodes_unpaired, Unpairs, IsFault};
-ghost use Rattle.dist_audit.specs.Audit.{AllApply, AreOfOneWorld, AreRefused, IsWorldOf, Refutes, Reports, ReportsFirst, UnlessShort, world_of};
-ghost use Rattle.dist_audit.specs.{Lines.NodeLine, Lines.AreLinesOf, Happenings.setups_of, Happenings.begins};
+ghost use Rattle.dist_audit.specs.Audit.{IsWorldOf, IsWorldAmong};
+ghost use Rattle.dist_audit.specs.Audit.{AllApply, AreOfOneWorld, AreRefused, AreTold, Refutes, Reports, ReportsFirst, UnlessShort, world_of};
+ghost use Rattle.dist_audit.specs.{Lines.NodeLine, Outside.strangers, Happenings.setups_of, Happenings.begins};
 
 use crate::audit_error::AuditError;
 use crate::checks::{falls, twice};
 use crate::happenings::{begins, setups_of};
-use crate::pairing::{Lines, paired_lines};
+use crate::pairing::{Lines, told_lines};
 use crate::tables::has_tables;
 use crate::walk::{follow_all, happen};
 use dist_frames::frame_in_front;
@@ -69,7 +70,7 @@ fn play(
     closed: &[Closed],
 ) -> Result<(), AuditError>
     requires opening { world.old ≡ empty (setups_of closed.now) }
-    requires faultless { fault_of closed.now ≡ None }
+    requires nodes { nodes_unpaired closed.now ≡ false }
     ensures world { OnOk result (world.new ≡ world_of closed.now lines.now) }
     ensures one_world { OnOk result (AreOfOneWorld closed.now lines.now) }
     ensures err { IfErr result (λ e. Refutes e (AreOfOneWorld closed.now lines.now)) }
@@ -85,42 +86,84 @@ fn play(
     Ok(())
 }
 
-// The lines are put in the order of their tickets, where their links are in pairs, and are played.
-fn play_in_order(alloc: Global, world: &mut World, closed: &[Closed]) -> Result<(), AuditError>
+// The lines are put in the order of their tickets, where their links are in pairs, and are played. Returns how many connections were with
+// somebody outside.
+fn play_in_order(
+    alloc: Global,
+    world: &mut World,
+    closed: &[Closed],
+    others: bool,
+) -> Result<usize, AuditError>
     requires opening { world.old ≡ empty (setups_of closed.now) }
     requires tickets { (falls closed.now ≡ false) × (twice closed.now ≡ false) }
     requires nodes { nodes_unpaired closed.now ≡ false }
-    ensures played { OnOk result ((ts : List NodeLine) × AreLinesOf closed.now ts × (world.new ≡ world_of closed.now ts) × AreOfOneWorld closed.now ts) }
-    ensures faultless { OnOk result (fault_of closed.now ≡ None) }
-    ensures err { IfErr result (λ e. Reports e closed.now) }
-    ensures first { IfErr result (λ e. ReportsFirst e closed.now) }
+    ensures played { IfOk result (λ n. (ts : List NodeLine) × AreTold others closed.now ts
+        × (world.new ≡ world_of closed.now ts) × AreOfOneWorld closed.now ts × (n ≡ strangers ts)) }
+    ensures faultless { OnOk result (fault_of others closed.now ≡ None) }
+    ensures err { IfErr result (λ e. Reports e others closed.now) }
+    ensures first { IfErr result (λ e. ReportsFirst e others closed.now) }
 {
-    let lines = paired_lines(alloc, closed)?;
+    let lines = told_lines(alloc, closed, others)?;
     play(alloc, world, &lines, closed)?;
-    Ok(())
+    Ok(lines.strangers())
 }
 
 /// The world of these histories, where they are those of one: node `i` of the world has the entries and the records of
-/// closed node `i`. Our own choice: the standard knows no such check.
+/// closed node `i`. Our own choice: the standard knows no such check. No others took part: `audit_among_others` is for that.
 ///
 /// At most 1,048,576 nodes. The histories are looked at first, for `TicketFalls`, then `TicketTwice`, then `Unpaired`; then
 /// the lines are followed in the order of their tickets, and the first that does not fit is refused; then the tables are
 /// compared. `NoMemory` may come at any point but the first, and says nothing of the histories. The cost grows as the lines
 /// and the bytes of their frames do, times a logarithm of the number of lines.
+#[tactic(auto, using(crate::proofs::Faultless::fault_reports))]
 pub fn audit(alloc: Global, closed: &[Closed]) -> Result<World, AuditError>
     ensures world { IfOk result (λ w. IsWorldOf closed.now w) }
-    ensures faultless { OnOk result (fault_of closed.now ≡ None) }
+    ensures faultless { OnOk result (fault_of false closed.now ≡ None) }
 
     // A refusal names the first fault, or says that the histories are not those of one world.
-    ensures err { IfErr result (λ e. Reports e closed.now) }
+    ensures err { IfErr result (λ e. Reports e false closed.now) }
 
     // NotSent and OtherReply are returned for the first line that is not followed, and OtherReply of tables where all are.
-    ensures first { IfErr result (λ e. ReportsFirst e closed.now) }
+    ensures first { IfErr result (λ e. ReportsFirst e false closed.now) }
 {
     frame_in_front();
     setups_are_own();
     check_tickets(alloc, closed)?;
     let mut world = opening_world(alloc, closed)?;
-    play_in_order(alloc, &mut world, closed)?;
+    play_in_order(alloc, &mut world, closed, false)?;
     Ok(world)
+}
+
+/// The world of histories among which others took part.
+#[derive(Drop)]
+pub struct Audited {
+    /// The world. `World::is_fooled` says whether a node takes one of the others for another node.
+    pub world: World,
+    /// In how many connections others took part: those that just one of the nodes knows.
+    pub strangers: usize,
+}
+
+/// The same where others took part, of whom there is no history: Erlang nodes, say, or whoever looks for open ports. What the histories
+/// say of a link that just one of the nodes knows, in an `Opened` or in an `Incoming` line, and of the frames of its end, is what
+/// somebody outside did (`Happening::Outside`). All else is looked at as `audit` does, so of two nodes of the world holds what holds
+/// in every world (`World::run`, clauses `agree` and `strangers`).
+///
+/// `Unpaired` is returned only for too many nodes, two of one name, and a link that was dialled twice or came twice.
+#[tactic(auto, using(crate::proofs::Faultless::fault_reports))]
+pub fn audit_among_others(alloc: Global, closed: &[Closed]) -> Result<Audited, AuditError>
+    ensures world { IfOk result (λ a. IsWorldAmong closed.now a.world a.strangers) }
+    ensures faultless { OnOk result (fault_of true closed.now ≡ None) }
+
+    // A refusal names the first fault, or says that the histories are not those of one world.
+    ensures err { IfErr result (λ e. Reports e true closed.now) }
+
+    // NotSent and OtherReply are returned for the first line that is not followed, and OtherReply of tables where all are.
+    ensures first { IfErr result (λ e. ReportsFirst e true closed.now) }
+{
+    frame_in_front();
+    setups_are_own();
+    check_tickets(alloc, closed)?;
+    let mut world = opening_world(alloc, closed)?;
+    let strangers = play_in_order(alloc, &mut world, closed, true)?;
+    Ok(Audited { world, strangers })
 }

@@ -8,6 +8,7 @@ use crate::pairing::Lines;
 use dist_core::{Event, Setup};
 use dist_locked_book::Closed;
 use dist_world::Happening;
+use dist_world_lives::MOST_CONNECTIONS;
 use std::alloc::{AllocError, Global};
 
 /// What all nodes were set up with.
@@ -45,20 +46,21 @@ fn reach_first(lines: &Lines, count: usize, links: &Mentioned, link: u64) -> Opt
     Some(Happening::Reach { node, end_, target })
 }
 
-/// What happens before a line of this node, where these links were mentioned before.
+/// What happens before a line of this node, where these links were mentioned before: nothing before what somebody outside did.
 pub fn before(
     lines: &Lines,
     count: usize,
     links: &Mentioned,
+    outside: bool,
     node: usize,
     event: &Event,
 ) -> Option<Happening>
-    ensures { result ≡ before lines.now count links.now node event.now }
+    ensures { result ≡ before lines.now count links.now outside node event.now }
 {
     match event {
-        Event::Opened { end_: _, link } => reach_first(lines, count, links, *link),
-        Event::Incoming { link } => reach_first(lines, count, links, *link),
-        Event::Frame { end_, body } => Some(Happening::Deliver {
+        Event::Opened { end_: _, link } if !outside => reach_first(lines, count, links, *link),
+        Event::Incoming { link } if !outside => reach_first(lines, count, links, *link),
+        Event::Frame { end_, body } if !outside => Some(Happening::Deliver {
             node,
             end_: *end_,
             bytes: 2 + body.as_slice().len(),
@@ -67,15 +69,16 @@ pub fn before(
     }
 }
 
-/// The happening of a line of this node, where these links were mentioned, its own among them.
+/// The happening of a line of this node, where these links were mentioned, its own among them, by whether somebody outside did it.
 pub fn own(
     alloc: Global,
     links: &Mentioned,
+    outside: bool,
     node: usize,
     event: &Event,
     fresh: u32,
 ) -> Result<Happening, AllocError>
-    ensures { IfOk result (λ h. h ≡ own links.now node event.now fresh) }
+    ensures { IfOk result (λ h. h ≡ own links.now outside node event.now fresh) }
 {
     Ok(match event {
         Event::Dial { peer, opening } => Happening::Dial {
@@ -83,15 +86,43 @@ pub fn own(
             peer: peer.try_clone(alloc)?,
             opening: *opening,
         },
-        Event::Opened { end_, link: _ } => Happening::Opened { node, end_: *end_ },
-        Event::Incoming { link } => Happening::Accept {
-            conn: links.conn_of(*link),
-        },
-        Event::Frame { end_, body: _ } => Happening::Take {
-            node,
-            end_: *end_,
-            fresh,
-        },
+        Event::Opened { end_, link } => {
+            if outside {
+                let event = Event::Opened {
+                    end_: *end_,
+                    link: *link,
+                };
+                Happening::Outside { node, event, fresh }
+            } else {
+                Happening::Opened { node, end_: *end_ }
+            }
+        }
+        Event::Incoming { link } => {
+            if outside {
+                let event = Event::Incoming {
+                    link: MOST_CONNECTIONS as u64,
+                };
+                Happening::Outside { node, event, fresh }
+            } else {
+                let conn = links.conn_of(*link);
+                Happening::Accept { conn }
+            }
+        }
+        Event::Frame { end_, body } => {
+            if outside {
+                let event = Event::Frame {
+                    end_: *end_,
+                    body: body.try_clone(alloc)?,
+                };
+                Happening::Outside { node, event, fresh }
+            } else {
+                Happening::Take {
+                    node,
+                    end_: *end_,
+                    fresh,
+                }
+            }
+        }
         Event::Lost { end_, why } => Happening::Lose {
             node,
             end_: *end_,

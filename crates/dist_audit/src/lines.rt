@@ -6,11 +6,12 @@ use dist_locked_book::{Closed, SharedLine};
 use std::alloc::{AllocError, Global};
 use std::marker::Model;
 
-/// A line, and the place of its node among all.
+/// A line, the place of its node among all, and whether somebody outside did what it says.
 #[derive(Drop)]
 pub struct NodeLine<'a> {
     node: usize,
     line: &'a SharedLine,
+    outside: bool,
 }
 
 impl<'a> Model for NodeLine<'a> {
@@ -18,7 +19,7 @@ impl<'a> Model for NodeLine<'a> {
 
     ghost Value = { lines.NodeLine };
 
-    ghost view = { λ t. record { node = t.node; line = t.line.now } };
+    ghost view = { λ t. record { node = t.node; line = t.line.now; outside = t.outside } };
 }
 
 impl<'a> NodeLine<'a> {
@@ -34,6 +35,24 @@ impl<'a> NodeLine<'a> {
     {
         self.line
     }
+
+    /// Somebody outside did what it says.
+    pub fn is_outside(&self) -> bool
+        ensures { result ≡ self.now.outside }
+    {
+        self.outside
+    }
+
+    /// The same line, by whether somebody outside did what it says.
+    pub fn marked(&self, outside: bool) -> NodeLine<'a>
+        ensures { result ≡ record self.now { outside = outside } }
+    {
+        NodeLine {
+            node: self.node,
+            line: self.line,
+            outside,
+        }
+    }
 }
 
 // Adds the lines of a node.
@@ -45,7 +64,11 @@ fn add_lines<'a>(
     ensures { OnOk result (lines.new.items ≡ lines.old.items ++ lines_at node history.now) }
 {
     for line in history {
-        lines.push(NodeLine { node, line })?;
+        lines.push(NodeLine {
+            node,
+            line,
+            outside: false,
+        })?;
     }
     Ok(())
 }

@@ -1,9 +1,7 @@
 //! Numbers connections for the audit: each link gets the next number when a history mentions it first.
 ghost use Rattle.std.specs.Prelude.{◌≡◌, ◌∷◌, ◌++◌, [], false, OnOk};
-ghost use Rattle.dist_audit.specs.Links.{link_in, is_among, mention, conn_of};
+ghost use Rattle.dist_audit.specs.Links.{is_among, mention, conn_of};
 
-use crate::links::link_in;
-use dist_core::Event;
 use std::alloc::{AllocError, Global};
 use std::collections::BTreeMap;
 use std::marker::Model;
@@ -71,11 +69,11 @@ impl Mentioned {
         }
     }
 
-    /// Adds the link that the event mentions, if it mentions one that is new.
-    pub fn mention(&mut self, event: &Event) -> Result<(), AllocError>
-        ensures { OnOk result (self.new ≡ mention self.old (link_in event.now)) }
+    /// Adds this link, if there is one and it is new.
+    pub fn mention(&mut self, link: Option<u64>) -> Result<(), AllocError>
+        ensures { OnOk result (self.new ≡ mention self.old link) }
     {
-        if let Some(link) = link_in(event) {
+        if let Some(link) = link {
             if !self.is_among(link) {
                 self.push(link)?;
             }

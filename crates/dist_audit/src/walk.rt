@@ -2,12 +2,14 @@
 ghost use Rattle.std.specs.Prelude.{◌≡◌, ◌↔◌, ◌∷◌, [], length, IsTrue, IfOk, IfErr, OnOk, OnErr, option_to_list};
 ghost use Rattle.dist_world_model.specs.Run.{run};
 ghost use Rattle.dist_world.specs.Asking.{node_of};
-ghost use Rattle.dist_audit.specs.Audit.{AllApply, Says, IsNext, Replies, IsFollowed, AreFollowed, after, Refutes, RefusesLine, StopsAt, UnlessShort};
-ghost use Rattle.dist_audit.specs.{Happenings.with_mentions, Happenings.own_of, Happenings.of_lines, Lines.line_of_node, Links.mention, Links.link_in};
+ghost use Rattle.dist_audit.specs.Audit.{AllApply, Says, IsNext, Replies, IsFollowed, AreFollowed, after, Refutes, RefusesLine, StopsAt};
+ghost use Rattle.dist_audit.specs.Audit.{UnlessOutside, UnlessShort};
+ghost use Rattle.dist_audit.specs.{Happenings.with_mentions, Happenings.itself, Happenings.of_lines, Lines.line_of_node};
 
 use crate::audit_error::AuditError;
 use crate::happenings::{before, own};
 use crate::lines::NodeLine;
+use crate::links::inner_link;
 use crate::mentions::Mentioned;
 use crate::pairing::Lines;
 use dist_core::{Event, StepError};
@@ -83,6 +85,24 @@ fn is_next(alloc: Global, world: &World, node: usize, event: &Event) -> Result<b
     }
 }
 
+// A line that is read, the place of its node among all, and whether somebody outside did what it says.
+#[derive(Clone, Copy)]
+struct ReadLine<'a> {
+    node: usize,
+    line: &'a Line,
+    outside: bool,
+}
+
+// The body of a frame is the next one, unless somebody outside sent it.
+fn may_be_next(alloc: Global, world: &World, read: ReadLine) -> Result<bool, AllocError>
+    ensures { IfOk result (λ b. IsTrue b ↔ UnlessOutside read.entry.outside (IsNext world.now read.entry.node read.entry.line.now.event)) }
+{
+    if read.outside {
+        return Ok(true);
+    }
+    is_next(alloc, world, read.node, &read.line.event)
+}
+
 // The running node gives the line's very reply.
 fn replies(alloc: Global, world: &World, node: usize, line: &Line) -> Result<bool, AllocError>
     ensures { IfOk result (λ b. IsTrue b ↔ Replies (node_of world.now node) line.now) }
@@ -102,23 +122,21 @@ fn happen_itself(
     alloc: Global,
     world: &mut World,
     links: &mut Mentioned,
-    node: usize,
-    line: &Line,
+    read: ReadLine,
 ) -> Result<bool, AllocError>
-    ensures after { OnOk result (world.new ≡ run (own_of links.old node line.now ∷ []) world.old) }
-    ensures links { OnOk result (links.new ≡ mention links.old (link_in line.now.event)) }
-    ensures all { IfOk result (λ b. IsTrue b ↔ AllApply (own_of links.old node line.now ∷ []) world.old) }
+    ensures after { OnOk result (world.new ≡ run (itself links.old (line_of_node read.entry.node read.entry.line.now read.entry.outside) ∷ []) world.old) }
+    ensures links { OnOk result (links.new ≡ with_mentions links.old (line_of_node read.entry.node read.entry.line.now read.entry.outside)) }
+    ensures all { IfOk result (λ b. IsTrue b
+        ↔ AllApply (itself links.old (line_of_node read.entry.node read.entry.line.now read.entry.outside) ∷ []) world.old) }
 {
-    links.mention(&line.event)?;
-    let happening = own(alloc, links, node, &line.event, line.fresh)?;
+    let ReadLine {
+        node,
+        line,
+        outside,
+    } = read;
+    links.mention(inner_link(outside, &line.event))?;
+    let happening = own(alloc, links, outside, node, &line.event, line.fresh)?;
     happen_once(world, alloc, happening)
-}
-
-// A line that is read, and the place of its node among all.
-#[derive(Clone, Copy)]
-struct ReadLine<'a> {
-    node: usize,
-    line: &'a Line,
 }
 
 // A line that is read is followed.
@@ -130,24 +148,33 @@ fn follow_line(
     links: &mut Mentioned,
     read: ReadLine,
 ) -> Result<(), AuditError>
-    ensures followed { OnOk result (IsFollowed lines.now count links.old world.old (line_of_node read.entry.node read.entry.line.now)) }
-    ensures after { OnOk result (world.new ≡ after lines.now count links.old world.old (line_of_node read.entry.node read.entry.line.now)) }
-    ensures links { OnOk result (links.new ≡ with_mentions links.old (line_of_node read.entry.node read.entry.line.now)) }
-    ensures err { IfErr result (λ e. Refutes e (IsFollowed lines.now count links.old world.old (line_of_node read.entry.node read.entry.line.now))) }
-    ensures which { IfErr result (λ e. UnlessShort e (RefusesLine e lines.now count links.old world.old (line_of_node read.entry.node read.entry.line.now))) }
+    ensures followed { OnOk result
+        (IsFollowed lines.now count links.old world.old (line_of_node read.entry.node read.entry.line.now read.entry.outside)) }
+    ensures after { OnOk result (world.new ≡ after lines.now count links.old world.old (line_of_node read.entry.node read.entry.line.now read.entry.outside)) }
+    ensures links { OnOk result (links.new ≡ with_mentions links.old (line_of_node read.entry.node read.entry.line.now read.entry.outside)) }
+    ensures err { IfErr result
+        (λ e. Refutes e (IsFollowed lines.now count links.old world.old (line_of_node read.entry.node read.entry.line.now read.entry.outside))) }
+    ensures which { IfErr result
+        (λ e. UnlessShort e (RefusesLine e lines.now count links.old world.old (line_of_node read.entry.node read.entry.line.now read.entry.outside))) }
 {
-    let ReadLine { node, line } = read;
-    if !is_next(alloc, world, node, &line.event)? {
+    if !may_be_next(alloc, world, read)? {
         return Err(AuditError::NotSent);
     }
-    let ahead = before(lines, count, links, node, &line.event);
+    let ahead = before(
+        lines,
+        count,
+        links,
+        read.outside,
+        read.node,
+        &read.line.event,
+    );
     if !happen_before(world, alloc, ahead)? {
         return Err(AuditError::OtherReply);
     }
-    if !replies(alloc, world, node, line)? {
+    if !replies(alloc, world, read.node, read.line)? {
         return Err(AuditError::OtherReply);
     }
-    if !happen_itself(alloc, world, links, node, line)? {
+    if !happen_itself(alloc, world, links, read)? {
         return Err(AuditError::OtherReply);
     }
     Ok(())
@@ -169,9 +196,12 @@ fn follow(
     ensures which { IfErr result (λ e. UnlessShort e (RefusesLine e lines.now count links.old world.old noted.now)) }
 {
     let view = noted.line().read();
-    let node = noted.node();
-    let line = view.line();
-    follow_line(alloc, world, lines, count, links, ReadLine { node, line })
+    let read = ReadLine {
+        node: noted.node(),
+        line: view.line(),
+        outside: noted.is_outside(),
+    };
+    follow_line(alloc, world, lines, count, links, read)
 }
 
 /// All lines are followed, in turn.

@@ -1,14 +1,15 @@
 -- What is printed in parts.
-use Rattle.std.proofs.Common.{◌≡◌, ◌∙◌, ℕ, zero, suc, ◌+◌, ◌<◌, List, [], ◌∷◌, ◌++◌, codes, Option, Some, None, length, take, get_or, refl, sym, ap, subst, arith, append-nil, append_assoc, add-one}
-use Rattle.std.proofs.KnownBytes.{Appends-nil, Appends-trans}
+use Rattle.std.proofs.Common.{◌≡◌, ◌∙◌, inl, inr, ℕ, zero, suc, ◌+◌, ◌<◌, Bool, true, false, ◌||◌, List, [], ◌∷◌, ◌++◌, codes, Option, Some, None, length, take, get_or, refl, sym, ap, subst, arith, append-nil, append_assoc, add-one}
+use Rattle.std.proofs.{KnownBytes.Appends-nil, KnownBytes.Appends-trans, lemmas.Bool.cases_lt}
 use Rattle.std.specs.{List.flat_map, Io.KnownBytes.Appends, Io.KnownBytes.Consumes, Io.KnownBytes.IsAtEnd}
 use Rattle.dist_world_model.specs.World.{World}
 use Rattle.dist_locked_book.specs.declared.closing.Closed.{Closed}
-use Rattle.dist_audit.specs.{declared.audit_error.AuditError.AuditError, Audit.IsWorldOf, Audit.Reports, Audit.ReportsFirst}
+use Rattle.dist_audit.specs.{declared.audit_error.AuditError.AuditError, Audit.IsWorldOf, Audit.IsWorldAmong, Audit.Reports, Audit.ReportsFirst}
 use Rattle.distnode.specs.declared.fault.Fault.{Fault}
 use Rattle.distnode.specs.declared.fault.Fault.TheVariants as fault
 use Rattle.distnode.specs.Fault.{status_of}
 use Rattle.distnode.specs.RunPrinted.{order_line, orders_text, closed_node, closed_text, refusal_text, Puts, IsHeld, IsAudited, IsOfRun, PrintsRun, PrintsRunOf}
+use Rattle.distnode.specs.RunPrinted.{strangers_line, fooled_text, fooled_end, InTurn, IsFooledPair, AreFooledBy, AreFooled, IsAmong, FoolsNobody}
 use Rattle.dist_run_plan.specs.{declared.plan.Plan.Plan, Plans.plan_of}
 use Rattle.dist_run_hosts.specs.{Setups.AreOfPlans, Orders.AreObeyed, declared.order_fault.OrderFault.OrderFault, Runs.AreInOrder}
 use Rattle.dist_script_play.specs.Worlds.{nodes_text, PutsAgreements}
@@ -42,22 +43,62 @@ held w a b c d p q r = (nodes_text w ++ q.0 ++ codes "audit holds\n", (q.0, q.1,
 
 -- where the audit holds
 pub says_held : (cs : List Closed) (w : World) (a b : Option (List ℕ)) → IsWorldOf cs w → Puts (IsHeld w) a b → Puts (IsAudited None cs) a b
-says_held cs w a b is p = (p.0, (w, is, p.1), p.2)
+says_held cs w a b is p = (p.0, inl (w, is, p.1), p.2)
 
 -- where it refuses
-pub says_refused : (cs : List Closed) (e : AuditError) (a b : Option (List ℕ)) → Reports e cs → ReportsFirst e cs → Appends a b (refusal_text e cs) → Puts (IsAudited (Some e) cs) a b
+pub says_refused : (cs : List Closed) (e : AuditError) (a b : Option (List ℕ)) → Reports e true cs → ReportsFirst e true cs → Appends a b (refusal_text e cs) → Puts (IsAudited (Some (fault.AuditRefused e)) cs) a b
 says_refused cs e a b reports first p = (refusal_text e cs, (reports, first, refl), p)
 
+-- ---- others
+
+-- none is so of a number below this one, where none is
+none-so : (Is : ℕ → Bool → List ℕ → Type 0) (k : ℕ) (text : List ℕ) → InTurn Is k false text → (j : ℕ) → j < k → (t : List ℕ) × Is j false t
+none-so Is zero text h j lt = absurd (omega (arith, lt))
+none-so Is (suc k) text (was, is, before, more, earlier, here, any, all) j lt = by was is any earlier here
+  where
+    by : (was is : Bool) → false ≡ (was || is) → InTurn Is k was before → Is k is more → (t : List ℕ) × Is j false t
+    by false false e g m = elim (cases_lt j k) [ inl less ↦ none-so Is k before g j less | inr far ↦ let same : k ≡ j = omega (arith, lt, far) in subst (λ n. (t : List ℕ) × Is n false t) same (more, m) ]
+    by false true e g m = absurd cc
+    by true is e g m = absurd cc
+
+-- where no line was printed nobody is fooled
+nobody : (w : World) (text : List ℕ) → AreFooled w false text → FoolsNobody w
+nobody w text none a b la lb fooled =
+    let row = none-so (AreFooledBy w) (length w.setups) text none a la in
+    let pair = none-so (IsFooledPair w a) (length w.setups) row.0 row.1 b lb in
+    let e : false ≡ true = pair.1.0.1 fooled in
+    cc
+
+-- none yet
+pub none_yet : (Is : ℕ → Bool → List ℕ → Type 0) (a : Option (List ℕ)) → Puts (InTurn Is 0 false) a a
+none_yet Is a = ([], (refl, refl), Appends-nil a)
+
+-- one number more
+pub one_more : (Is : ℕ → Bool → List ℕ → Type 0) (k : ℕ) (was is : Bool) (a b c : Option (List ℕ)) → Puts (InTurn Is k was) a b → Puts (Is k is) b c → Puts (InTurn Is (k + 1) (was || is)) a c
+one_more Is k was is a b c p q = rw (add-one k) (p.0 ++ q.0, (was, is, p.0, q.0, p.1, q.1, refl, refl), Appends-trans a b c p.0 q.0 p.2 q.2)
+
+-- the world, and what is printed of others
+pub among : (w : World) (count : ℕ) (any : Bool) (a b c d e : Option (List ℕ)) → Puts (IsHeld w) a b → Appends b c (strangers_line count) → Puts (AreFooled w any) c d → Appends d e (fooled_end any) → Puts (IsAmong w count any) a e
+among w count any a b c d e p q r s =
+    (p.0 ++ strangers_line count ++ r.0 ++ fooled_end any, (p.0, r.0, p.1, r.1, refl), Appends-trans a b e p.0 _ p.2 (in_three b c d e (strangers_line count) r.0 (fooled_end any) q r.2 s))
+
+-- where the audit holds among others, and nobody is fooled, and where a node is
+pub says_among : (cs : List Closed) (w : World) (count : ℕ) (a b : Option (List ℕ)) → IsWorldAmong cs w count → Puts (IsAmong w count false) a b → Puts (IsAudited None cs) a b
+says_among cs w count a b is p = (p.0, inr (w, count, is, nobody w _ (let m = p.1 in m.3), p.1), p.2)
+
+pub says_fooled : (cs : List Closed) (w : World) (count : ℕ) (a b : Option (List ℕ)) → IsWorldAmong cs w count → Puts (IsAmong w count true) a b → Puts (IsAudited (Some fault.Fooled) cs) a b
+says_fooled cs w count a b is p = (p.0, (w, count, is, p.1), p.2)
+
 -- the orders, and then what is printed
-pub of_run : (refusal : Option AuditError) (fs gs : List OrderFault) (cs ds : List Closed) (a b c : Option (List ℕ)) → gs ≡ fs → ds ≡ cs → Appends a b (orders_text gs) → Puts (IsAudited refusal ds) b c → Puts (IsOfRun refusal fs cs) a c
+pub of_run : (refusal : Option Fault) (fs gs : List OrderFault) (cs ds : List Closed) (a b c : Option (List ℕ)) → gs ≡ fs → ds ≡ cs → Appends a b (orders_text gs) → Puts (IsAudited refusal ds) b c → Puts (IsOfRun refusal fs cs) a c
 of_run refusal fs gs cs ds a b c e d p q = (orders_text fs ++ q.0, (q.0, subst (λ x. IsAudited refusal x q.0) d q.1, refl), Appends-trans a b c (orders_text fs) q.0 (subst (λ x. Appends a b (orders_text x)) e p) q.2)
 
 -- the text of a nodes file, run
-pub of_text : (file : List ℕ) (plan : Plan) (faults : List OrderFault) (closed : List Closed) (refusal : Option AuditError) (a b : Option (List ℕ)) → plan_of file ≡ Some plan → AreOfPlans plan.node closed → AreInOrder faults → AreObeyed plan faults closed → Puts (IsOfRun refusal faults closed) a b → PrintsRun file refusal a b
+pub of_text : (file : List ℕ) (plan : Plan) (faults : List OrderFault) (closed : List Closed) (refusal : Option Fault) (a b : Option (List ℕ)) → plan_of file ≡ Some plan → AreOfPlans plan.node closed → AreInOrder faults → AreObeyed plan faults closed → Puts (IsOfRun refusal faults closed) a b → PrintsRun file refusal a b
 of_text file plan faults closed refusal a b says nodes order orders put = record { plan = plan; faults = faults; closed = closed; says = says; nodes = nodes; order = order; orders = orders; text = put }
 
 -- a nodes file that was read to its end, run
-pub of_file : (before after : Option (List ℕ)) (file text : List ℕ) (refusal : Option AuditError) (a b : Option (List ℕ)) → text ≡ file → Consumes before after file → IsAtEnd after → PrintsRun text refusal a b → PrintsRunOf before after refusal a b
+pub of_file : (before after : Option (List ℕ)) (file text : List ℕ) (refusal : Option Fault) (a b : Option (List ℕ)) → text ≡ file → Consumes before after file → IsAtEnd after → PrintsRun text refusal a b → PrintsRunOf before after refusal a b
 of_file before after file text refusal a b same taken end prints = (file, taken, end, subst (λ t. PrintsRun t refusal a b) same prints)
 
 -- no fault ends with status 0

@@ -1,7 +1,6 @@
 -- How a fault ends the program, and its line on standard error.
 use Rattle.std.specs.{Prelude.ℕ, Prelude.List, Prelude.[], Prelude.◌∷◌, Prelude.codes, List.concat}
-use Rattle.dist_audit.specs.{declared.audit_error.AuditError.AuditError, Refusals.refusal_name}
-use Rattle.dist_audit.specs.declared.audit_error.AuditError.TheVariants as audit
+use Rattle.dist_audit.specs.Refusals.{refusal_name}
 use Rattle.dist_secret.specs.Answer as cookies
 use Rattle.dist_epmd_calls.specs.Refusals as lookups
 use Rattle.dist_program.specs.{declared.word_fault.WordFault.WordFault, declared.text_error.TextError.TextError, Sentences.word_fault_text}
@@ -11,19 +10,13 @@ use Rattle.dist_script.specs.declared.fault.ScriptFault.{ScriptFault}
 use Rattle.dist_script.specs.declared.fault.ScriptFault.TheVariants as script
 use Rattle.distnode.specs.declared.fault.Fault.{Fault}
 use Rattle.distnode.specs.declared.fault.Fault.TheVariants.{BadCommandLine, BadNodesFile, RunEnded, ReadFailed, WriteFailed}
-use Rattle.distnode.specs.declared.fault.Fault.TheVariants.{OpenFailed, NoCookie, ConnectFailed, NoAnswer, AnswerCut, AuditRefused, NoMemory}
+use Rattle.distnode.specs.declared.fault.Fault.TheVariants.{OpenFailed, NoCookie, ConnectFailed, NoAnswer, AnswerCut, AuditRefused, Fooled, NoMemory}
 
 -- the exit status: 2 if the user's input is at fault, else 1
 abbrev pub status_of : Fault → ℕ
 status_of BadCommandLine = 2
 status_of BadNodesFile = 2
 status_of other = 1
-
--- the text of a refused audit: its name, and what the audit needs if a node outside the file may have taken part
-abbrev pub audit_fault_text : AuditError → List ℕ
-audit_fault_text audit.Unpaired = codes "Unpaired: the audit needs the history of every node that took part, and a node outside the file keeps none"
-audit_fault_text audit.NotSent = codes "NotSent: the audit needs the history of every node that took part, and a node outside the file keeps none"
-audit_fault_text error = refusal_name error
 
 -- the text of a fault: its name, or that of the error in it
 abbrev pub fault_text : Fault → List ℕ
@@ -37,7 +30,8 @@ fault_text (NoCookie error) = cookies.error_name error
 fault_text ConnectFailed = codes "ConnectFailed"
 fault_text (NoAnswer error) = lookups.lookup_error_name error
 fault_text AnswerCut = codes "Ended"
-fault_text (AuditRefused error) = audit_fault_text error
+fault_text (AuditRefused error) = refusal_name error
+fault_text Fooled = codes "Fooled: a node outside the file is up under the name of one of its nodes"
 fault_text NoMemory = codes "NoMemory"
 
 -- THE LINE ON STANDARD ERROR: the program's name, then these words

@@ -3,7 +3,7 @@
 ghost use Rattle.std.specs.Prelude.{◌≡◌};
 ghost use Rattle.dist_program.specs.Sentences.{word_fault_status};
 ghost use Rattle.dist_script.specs.Texts.{PutsFront};
-ghost use Rattle.distnode.specs.Fault.{status_of, fault_text, audit_fault_text, line_of, fault_line, port_line, fault_of, fault_of_text};
+ghost use Rattle.distnode.specs.Fault.{status_of, fault_text, line_of, fault_line, port_line, fault_of, fault_of_text};
 ghost use Rattle.distnode.specs.declared.fault.Fault.TheVariants.{NoMemory};
 
 use dist_audit::AuditError;
@@ -40,6 +40,8 @@ pub enum Fault {
     AnswerCut,
     /// The run of the nodes was printed, and the audit refused it.
     AuditRefused(AuditError),
+    /// The run of the nodes was printed, and a node takes somebody outside for another one.
+    Fooled,
     /// No memory was left.
     NoMemory,
 }
@@ -80,21 +82,6 @@ impl From<ScriptFault> for Fault {
     }
 }
 
-// Why the audit refused a run: the refusal's name, and what the audit needs if a node outside the file may have taken part.
-fn audit_fault_text(error: AuditError) -> &'static str
-    ensures { result.now ≡ audit_fault_text error }
-{
-    match error {
-        AuditError::Unpaired => {
-            "Unpaired: the audit needs the history of every node that took part, and a node outside the file keeps none"
-        }
-        AuditError::NotSent => {
-            "NotSent: the audit needs the history of every node that took part, and a node outside the file keeps none"
-        }
-        _ => error.name(),
-    }
-}
-
 impl Fault {
     /// The exit status: 2 if the user's input is at fault, else 1.
     pub fn status(self) -> u8
@@ -106,7 +93,7 @@ impl Fault {
         }
     }
 
-    /// The text on standard error: the fault's name, or that of the error in it; of a refused audit also what the audit needs.
+    /// The text on standard error: the fault's name, or that of the error in it.
     pub fn text(self) -> &'static str
         ensures { result.now ≡ fault_text self }
     {
@@ -121,7 +108,9 @@ impl Fault {
             Fault::ConnectFailed => "ConnectFailed",
             Fault::NoAnswer(error) => error.name(),
             Fault::AnswerCut => "Ended",
-            Fault::AuditRefused(error) => audit_fault_text(error),
+            Fault::AuditRefused(error) => error.name(),
+            Fault::Fooled =>
+                "Fooled: a node outside the file is up under the name of one of its nodes",
             Fault::NoMemory => "NoMemory",
         }
     }

@@ -1,20 +1,24 @@
 //! The command `run`: runs the nodes of a nodes file on this host.
 
-ghost use Rattle.std.specs.Prelude.{◌≡◌, ◌≤◌, ℕ, List, Option, Some, None, IfOk, IfErr, OnOk, codes};
+ghost use Rattle.std.specs.Prelude.{◌≡◌, ◌≤◌, ℕ, true, List, Option, Some, None, IfOk, IfErr, OnOk, codes, slice_get};
 ghost use Rattle.std.specs.Io.KnownBytes.{Appends};
 ghost use Rattle.dist_script.specs.Texts.{PutsFront};
-ghost use Rattle.distnode.specs.RunPrinted.{order_line, orders_text, closed_text, refused_line, refusal_text, Puts, IsHeld, IsAudited, IsOfRun, PrintsRun};
+ghost use Rattle.distnode.specs.RunPrinted.{order_line, orders_text, closed_text, refused_line, refusal_text};
+ghost use Rattle.distnode.specs.RunPrinted.{strangers_line, fooled_line, fooled_text, fooled_end};
+ghost use Rattle.distnode.specs.RunPrinted.{Puts, IsHeld, IsFooledPair, AreFooledBy, AreFooled, IsAmong, IsAudited, IsOfRun, PrintsRun};
 ghost use Rattle.distnode.specs.RunPrinted.{PrintsRunOf};
+ghost use Rattle.dist_audit.specs.Audit.{Reports, ReportsFirst};
 ghost use Rattle.distnode.specs.{Stopped.EndsByFault, RunStopped.IsNoNodesFile, RunStopped.StopsPrinting, RunStopped.StopsRun, RunStopped.StopsRunOf};
 ghost use Rattle.dist_run_plan.specs.Plans as plans;
 
 use crate::fault::Fault;
 use crate::output::write_text;
-use dist_audit::{AuditError, audit};
+use dist_audit::{AuditError, Audited, audit, audit_among_others};
 use dist_locked::{Closed, Gate, Open};
+use dist_names::NodeName;
 use dist_run::{Machine, OrderFault, Ran, run_plan};
 use dist_run_plan::{Plan, PlanError, plan_of};
-use dist_script::{Piece, ScriptFault, put, read_text};
+use dist_script::{Piece, ScriptFault, put, put_bytes, read_text};
 use dist_script_play::{print, print_agreements, print_nodes};
 use dist_world::World;
 use std::alloc::Global;
@@ -111,33 +115,169 @@ fn print_refusal<W: Write>(
     print_error(out, error)
 }
 
-// Audits closed nodes, and prints the result. Returns why the audit refused them, if it did.
-#[tactic(auto, using(crate::proofs::Printing::says_held, crate::proofs::Printing::says_refused))]
+// Prints in how many connections others took part.
+fn print_strangers<W: Write>(out: &mut W, count: usize) -> Result<(), ScriptFault>
+    ensures { OnOk result (Appends (W.contents out.old) (W.contents out.new) (strangers_line count)) }
+{
+    put(
+        out,
+        &[
+            Piece::Text(b"strangers "),
+            Piece::Number(count as u64),
+            Piece::Text(b"\n"),
+        ],
+    )
+}
+
+// Prints that a node takes somebody outside for another one.
+fn print_names<'n, W: Write>(
+    out: &mut W,
+    a: &'n NodeName,
+    b: &'n NodeName,
+) -> Result<(), ScriptFault>
+    ensures { OnOk result (Appends (W.contents out.old) (W.contents out.new) (fooled_line a.now b.now)) }
+{
+    put(
+        out,
+        &[
+            Piece::Text(b"fooled "),
+            Piece::Text(a.bytes()),
+            Piece::Text(b" "),
+            Piece::Text(b.bytes()),
+            Piece::Text(b"\n"),
+        ],
+    )
+}
+
+// The same of the nodes at these places.
+fn print_nodes_of<W: Write>(
+    out: &mut W,
+    world: &World,
+    a: usize,
+    b: usize,
+) -> Result<(), ScriptFault>
+    ensures { OnOk result (Appends (W.contents out.old) (W.contents out.new) (fooled_text (slice_get world.now.setups a) (slice_get world.now.setups b))) }
+{
+    let setups = world.setups();
+    match (setups.get(a), setups.get(b)) {
+        (Some(a), Some(b)) => print_names(out, &a.name, &b.name),
+        _ => Ok(()),
+    }
+}
+
+// The same, where it is so. Returns whether it is.
+fn print_pair<W: Write>(out: &mut W, world: &World, a: usize, b: usize) -> Result<bool, ScriptFault>
+    ensures { IfOk result (λ is. Puts (IsFooledPair world.now a b is) (W.contents out.old) (W.contents out.new)) }
+{
+    if !world.is_fooled(a, b) {
+        return Ok(false);
+    }
+    print_nodes_of(out, world, a, b)?;
+    Ok(true)
+}
+
+// Prints for which nodes a node takes somebody outside. Returns whether there is one.
+#[tactic(auto, using(crate::proofs::Printing::none_yet, crate::proofs::Printing::one_more))]
+fn print_fooled_by<W: Write>(out: &mut W, world: &World, a: usize) -> Result<bool, ScriptFault>
+    ensures { IfOk result (λ is. Puts (AreFooledBy world.now a is) (W.contents out.old) (W.contents out.new)) }
+{
+    let mut any = false;
+    for b in 0..world.setups().len() {
+        any |= print_pair(out, world, a, b)?;
+    }
+    Ok(any)
+}
+
+// Prints of each node for which nodes it takes somebody outside. Returns whether there is one.
+#[tactic(auto, using(crate::proofs::Printing::none_yet, crate::proofs::Printing::one_more))]
+fn print_fooled<W: Write>(out: &mut W, world: &World) -> Result<bool, ScriptFault>
+    ensures { IfOk result (λ is. Puts (AreFooled world.now is) (W.contents out.old) (W.contents out.new)) }
+{
+    let mut any = false;
+    for a in 0..world.setups().len() {
+        any |= print_fooled_by(out, world, a)?;
+    }
+    Ok(any)
+}
+
+// Prints that there is none.
+fn print_nobody<W: Write>(out: &mut W, is_fooled: bool) -> Result<(), ScriptFault>
+    ensures { OnOk result (Appends (W.contents out.old) (W.contents out.new) (fooled_end is_fooled)) }
+{
+    if is_fooled {
+        return Ok(());
+    }
+    put_bytes(out, b"fooled nobody\n")
+}
+
+// Prints the world, in how many connections others took part, and for which nodes they are taken. Returns whether there is one.
+#[tactic(auto, using(crate::proofs::Printing::among))]
+fn print_among<W: Write>(alloc: Global, out: &mut W, found: &Audited) -> Result<bool, ScriptFault>
+    ensures { IfOk result (λ is. Puts (IsAmong found.now.world found.now.strangers is) (W.contents out.old) (W.contents out.new)) }
+{
+    print_world(alloc, out, &found.world)?;
+    print_strangers(out, found.strangers)?;
+    let is_fooled = print_fooled(out, &found.world)?;
+    print_nobody(out, is_fooled)?;
+    Ok(is_fooled)
+}
+
+// Prints that the audit refused closed nodes. Returns that as a fault.
+#[tactic(auto, using(crate::proofs::Printing::says_refused))]
+fn print_refused<W: Write>(
+    out: &mut W,
+    all: &[Closed],
+    error: AuditError,
+) -> Result<Option<Fault>, ScriptFault>
+    requires { Reports error true all.now × ReportsFirst error true all.now }
+    ensures { IfOk result (λ fault. Puts (IsAudited fault all.now) (W.contents out.old) (W.contents out.new)) }
+{
+    match print_refusal(out, all, error) {
+        Ok(()) => Ok(Some(Fault::AuditRefused(error))),
+        Err(_) => Err(ScriptFault::WriteFailed),
+    }
+}
+
+// Audits closed nodes among which others took part, and prints the result. Returns what is against them, if anything is.
+#[tactic(auto, using(crate::proofs::Printing::says_among, crate::proofs::Printing::says_fooled))]
+fn audit_others<W: Write>(
+    alloc: Global,
+    out: &mut W,
+    all: &[Closed],
+) -> Result<Option<Fault>, ScriptFault>
+    ensures { IfOk result (λ fault. Puts (IsAudited fault all.now) (W.contents out.old) (W.contents out.new)) }
+{
+    match audit_among_others(alloc, all) {
+        Ok(found) => match print_among(alloc, out, &found)? {
+            true => Ok(Some(Fault::Fooled)),
+            false => Ok(None),
+        },
+        Err(error) => print_refused(out, all, error),
+    }
+}
+
+// Audits closed nodes, and prints the result: as if no others took part, and else, unless memory ran out, as others did. Returns what is
+// against them, if anything is.
+#[tactic(auto, using(crate::proofs::Printing::says_held))]
 fn print_audit<W: Write>(
     alloc: Global,
     out: &mut W,
     all: &[Closed],
-) -> Result<Option<AuditError>, ScriptFault>
-    ensures { IfOk result (λ refusal. Puts (IsAudited refusal all.now) (W.contents out.old) (W.contents out.new)) }
+) -> Result<Option<Fault>, ScriptFault>
+    ensures { IfOk result (λ fault. Puts (IsAudited fault all.now) (W.contents out.old) (W.contents out.new)) }
 {
     match audit(alloc, all) {
         Ok(world) => {
             print_world(alloc, out, &world)?;
             Ok(None)
         }
-        Err(error) => match print_refusal(out, all, error) {
-            Ok(()) => Ok(Some(error)),
-            Err(_) => Err(ScriptFault::WriteFailed),
-        },
+        Err(AuditError::NoMemory) => print_refused(out, all, AuditError::NoMemory),
+        Err(_) => audit_others(alloc, out, all),
     }
 }
 
-// Prints the orders that made no dial, and the audit of the nodes. Returns why the audit refused them, if it did.
-fn print_ran<W: Write>(
-    alloc: Global,
-    out: &mut W,
-    ran: &Ran,
-) -> Result<Option<AuditError>, ScriptFault>
+// Prints the orders that made no dial, and the audit of the nodes. Returns what is against them, if anything is.
+fn print_ran<W: Write>(alloc: Global, out: &mut W, ran: &Ran) -> Result<Option<Fault>, ScriptFault>
     ensures { IfOk result (λ refusal. Puts (IsOfRun refusal ran.now.faults.items ran.now.closed.items) (W.contents out.old) (W.contents out.new)) }
 {
     let Ok(()) = print_faults(out, ran.faults.as_slice()) else {
@@ -148,7 +288,7 @@ fn print_ran<W: Write>(
 }
 
 // Prints the result of a run. A refused audit is a fault, once it is printed.
-#[tactic(auto, using(crate::proofs::RunStopped::cut_run))]
+#[tactic(auto, using(crate::proofs::RunStopped::cut_run, crate::proofs::RunStopped::against_run))]
 fn put_ran<W: Write>(alloc: Global, ran: &Ran, out: &mut W) -> Result<(), Fault>
     ensures printed { OnOk result (Puts (IsOfRun None ran.now.faults.items ran.now.closed.items) (W.contents out.old) (W.contents out.new)) }
     ensures stopped { IfErr result (StopsPrinting ran.now.faults.items ran.now.closed.items (W.contents out.old) (W.contents out.new)) }
@@ -162,7 +302,7 @@ fn put_ran<W: Write>(alloc: Global, ran: &Ran, out: &mut W) -> Result<(), Fault>
     };
     match refusal {
         None => Ok(()),
-        Some(error) => Err(Fault::AuditRefused(error)),
+        Some(fault) => Err(fault),
     }
 }
 

@@ -2,7 +2,7 @@
 
 use crate::seats::{close_side, sides_after};
 use crate::setting::{number, word};
-use dist_audit::audit;
+use dist_audit::{audit, audit_among_others};
 use dist_core::Event;
 use dist_locked::{Closed, Line, SharedLine};
 use dist_names::{ByteString, Creation, Flags};
@@ -44,6 +44,29 @@ fn answer(alloc: Global, all: &[Closed]) -> &'static str {
     }
 }
 
+// The result of the audit as others took part: the name of the refusal; or with how many others there was a connection, and which of
+// nodes 0 and 1 takes one of them for the other.
+fn answer_among(alloc: Global, all: &[Closed]) -> &'static str {
+    let found = match audit_among_others(alloc, all) {
+        Ok(found) => found,
+        Err(error) => return error.name(),
+    };
+    match (
+        found.strangers,
+        found.world.is_fooled(0, 1),
+        found.world.is_fooled(1, 0),
+    ) {
+        (0, false, false) => "none",
+        (1, false, false) => "one",
+        (1, true, false) => "one fools a",
+        (1, false, true) => "one fools b",
+        (2, false, false) => "two",
+        (2, true, true) => "two fool both",
+        (3, true, true) => "three fool both",
+        _ => "otherwise",
+    }
+}
+
 // Changes the first byte. The same change once more undoes it.
 fn flip(alloc: Global, text: &mut ByteString) -> Option<()> {
     let mut bytes = Vec::from_slice(alloc, text.as_slice()).ok()?;
@@ -82,22 +105,26 @@ fn alter_row(alloc: Global, all: &mut [Closed], row: &str) -> Option<()> {
     put_altered(alloc, line, word(row, 2))
 }
 
-// Whether the audit has the result that a part names, `? RESULT`; or else changes a line.
+// Whether the audit has the result that a part names, `? RESULT`, or `among RESULT` as others took part; or else changes a line.
 fn is_so(alloc: Global, all: &mut [Closed], part: &str) -> bool {
+    if let Some(wanted) = part.strip_prefix("among ") {
+        return answer_among(alloc, all) == wanted;
+    }
     match part.strip_prefix("? ") {
         Some(wanted) => answer(alloc, all) == wanted,
         None => alter_row(alloc, all, part).is_some(),
     }
 }
 
-// A ticket of the other node; two tickets exchanged; the link of the connection that came, a byte of a frame's body, and a byte of what
+// As others took part, the same but for a link that one node alone knows: then each has a connection with somebody else. A ticket of the other node; two tickets exchanged; the link of the connection that came, a byte of a frame's body, and a byte of what
 // was sent last, each undone. Then each ticket doubled plus one (shifted_tickets), that of the connection that came one below that of
 // `opened`, and one below that of the dial. Then the original tickets, without the last line.
 const ALTERED: &str = "\
-    ? agreed, 0 2 3, ? TicketTwice, 0 2 5, 0 3 4, ? TicketFalls, 0 2 4, 0 3 5, ? agreed, \
-    1 0 link, ? Unpaired, 1 0 link, 1 1 body, ? NotSent, 1 1 body, 1 2 say, ? OtherReply, 1 2 say, ? agreed, \
-    0 4 15, 0 3 11, 0 2 9, 0 1 3, 0 0 1, 1 2 13, 1 1 7, 1 0 5, ? agreed, 1 0 2, ? agreed, 1 0 0, ? OtherReply, \
-    1 0 5, 0 4 out, ? OtherReply";
+    ? agreed, among none, 0 2 3, ? TicketTwice, among TicketTwice, 0 2 5, 0 3 4, ? TicketFalls, among TicketFalls, 0 2 4, 0 3 5, ? agreed, \
+    1 0 link, ? Unpaired, among two fool both, 1 0 link, 1 1 body, ? NotSent, among NotSent, 1 1 body, \
+    1 2 say, ? OtherReply, among OtherReply, 1 2 say, ? agreed, \
+    0 4 15, 0 3 11, 0 2 9, 0 1 3, 0 0 1, 1 2 13, 1 1 7, 1 0 5, ? agreed, 1 0 2, ? agreed, 1 0 0, ? OtherReply, among OtherReply, \
+    1 0 5, 0 4 out, ? OtherReply, among OtherReply";
 
 #[test]
 fn audited_handshake(rt: HostRuntime) {
@@ -128,6 +155,44 @@ fn small_audits(rt: HostRuntime) {
     assert_eq!(rt; alone, Some("Unpaired"));
     let dialled = audit_answer(&rt, rt.alloc(), "a dial, a ended, a dial", false);
     assert_eq!(rt; dialled, Some("not agreed"));
+}
+
+// The steps of nodes a and b, what the audit finds without others, and what as others took part: both come up with one another; with
+// somebody whom b or a takes for the other; somebody comes and says nothing, or is reached; comes twice by one pair of ports, or by that
+// of their own connection.
+const AMONG: &str = "\
+a dial, a opened, b incoming, b name, a ok, a challenge, b reply, a acknowledgement => agreed, none
+b incoming, b name, b reply => Unpaired, one fools b
+a dial, a opened, a ok, a challenge, a acknowledgement => NotSent, one fools a
+b incoming => Unpaired, one
+a dial, a opened => not agreed, one
+b incoming, b ended, b incoming => Unpaired, two
+a dial, a opened, b incoming, b name, a ok, a challenge, b reply, a acknowledgement, b incoming => Unpaired, three fool both";
+
+#[test]
+fn audits_among_others(rt: HostRuntime) {
+    for row in AMONG.lines() {
+        let (steps, wanted) = row.split_once(" => ").unwrap_or((row, ""));
+        let Some(all) = histories(&rt, rt.alloc(), steps) else {
+            panic!(rt; "no history");
+        };
+        let (alone, among) = wanted.split_once(", ").unwrap_or((wanted, ""));
+        assert!(rt; answer(rt.alloc(), &all) == alone, "{row}");
+        assert!(rt; answer_among(rt.alloc(), &all) == among, "{row}");
+    }
+}
+
+// The result of the audit of node b's history as others took part, of whom one has come up under the name of node a, which is then no node
+// of the file.
+#[test]
+fn a_stranger_under_a_name_of_its_own(rt: HostRuntime) {
+    let Some(all) = histories(&rt, rt.alloc(), "b incoming, b name, b reply") else {
+        panic!(rt; "no history");
+    };
+    assert_eq!(rt;
+        answer_among(rt.alloc(), all.get(1..).unwrap_or(&[])),
+        "one"
+    );
 }
 
 // Whether an audit finds that both agree, or runs out of memory and then finds it on the next try.

@@ -1,4 +1,4 @@
-use Rattle.std.proofs.Common.{◌↔◌, ◌∷◌, [], IsTrue, IfOk, subst, sym, List}
+use Rattle.std.proofs.Common.{◌↔◌, IsTrue, IfOk, subst, List}
 use Rattle.dist_audit.specs.Audit.{AllApply}
 use Rattle.dist_world_model.specs.declared.happening.Happening.{Happening}
 use Rattle.dist_audit.proofs.walk.happen_once.Goals as goal
