@@ -2,7 +2,7 @@
 use Rattle.dist_audit.proofs.Words.{◌≡◌, ℕ, Bool, true, false, cond, not, ◌&&◌, ◌||◌, List, [], ◌∷◌, is_some, Some, None, Option, sym, refl, ap, ◌∙◌, subst}
 use Rattle.dist_audit.proofs.Words.{list_any, or_parts, EndId, Event, Closed, BTreeMap, BTreeSet, Knows, UnlessOutside, AreTold, comes_unopened, links_repeat, links_unpaired, repeats, stands_twice}
 use Rattle.dist_audit.proofs.Words.{NodeLine, lines_by_node, acceptor_of, comes_in, dialled_in, dialler_of, mentions, opens_in, or_else}
-use Rattle.dist_audit.proofs.Words.{is_paired, is_done_outside, marked, marked_lines}
+use Rattle.dist_audit.proofs.Words.{is_paired, is_done_outside, with_marks, marked_lines}
 use Rattle.dist_audit.proofs.{Homing.AllKnown, Homing.HasDialler, Homing.IsKnown, Homing.all-known, Outside.nothing, Pairs.unpaired-alike}
 use Rattle.dist_core.specs.declared.event.Event.TheVariants as event
 
@@ -36,7 +36,7 @@ module _ (all : List NodeLine) where
   twice-marked k (t ∷ ts) = let l = t.line in (λ i. (repeats-marked l.event ts i && mentions k l.event) || twice-marked k ts i)
 
   -- what is known of the lines is known of them so
-  pub knows-marked : (d : BTreeMap ℕ (ℕ × EndId)) (a : BTreeMap ℕ ℕ) (s : BTreeSet ℕ) → Knows d a s all → Knows d a s (marked all)
+  pub knows-marked : (d : BTreeMap ℕ (ℕ × EndId)) (a : BTreeMap ℕ ℕ) (s : BTreeSet ℕ) → Knows d a s all → Knows d a s (with_marks all)
   knows-marked d a s h = record {
     dialled = λ k. h.dialled k ∙ sym (dialler-marked k all);
     came = λ k. h.came k ∙ sym (acceptor-marked k all);
@@ -53,16 +53,16 @@ module _ (all : List NodeLine) where
   paired-parts true false c e = absurd cc
   paired-parts false b c e = absurd cc
 
-  paired-known : (k : ℕ) → is_paired all k ≡ true → HasDialler (marked all) k × (stands_twice k (marked all) ≡ false)
+  paired-known : (k : ℕ) → is_paired all k ≡ true → HasDialler (with_marks all) k × (stands_twice k (with_marks all) ≡ false)
   paired-known k e =
       let p = paired-parts (is_some (dialler_of k all)) (is_some (acceptor_of k all)) (stands_twice k all) e in
       let x = there-is (dialler_of k all) p.0 in
       ((x.0, dialler-marked k all ∙ x.1), twice-marked k all ∙ p.1)
 
-  known-marked : (i : ℕ) (e : Event) → UnlessOutside (is_done_outside all i e) (IsKnown (marked all) e)
+  known-marked : (i : ℕ) (e : Event) → UnlessOutside (is_done_outside all i e) (IsKnown (with_marks all) e)
   known-marked i (event.Incoming k) = by (is_paired all k) refl
     where
-      by : (b : Bool) → is_paired all k ≡ b → UnlessOutside (not b) (IsKnown (marked all) (event.Incoming k))
+      by : (b : Bool) → is_paired all k ≡ b → UnlessOutside (not b) (IsKnown (with_marks all) (event.Incoming k))
       by true e = paired-known k e
       by false e = tt
   known-marked i (event.Dial p o) = nothing (is_done_outside all i (event.Dial p o))
@@ -71,7 +71,7 @@ module _ (all : List NodeLine) where
   known-marked i (event.Lost id w) = nothing (is_done_outside all i (event.Lost id w))
   known-marked i (event.Tick id) = nothing (is_done_outside all i (event.Tick id))
 
-  all-known-marked : (ts : List NodeLine) → AllKnown (marked all) (marked_lines all ts)
+  all-known-marked : (ts : List NodeLine) → AllKnown (with_marks all) (marked_lines all ts)
   all-known-marked [] = tt
   all-known-marked (t ∷ ts) = let l = t.line in (known-marked t.node l.event, all-known-marked ts)
 

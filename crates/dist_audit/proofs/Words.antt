@@ -26,5 +26,5 @@ pub use Rattle.dist_audit.specs.{Kept.AreNumbers, Kept.Knows, Kept.is_again, Kep
 pub use Rattle.dist_audit.specs.Lines.{AreLinesOf, NodeLine, line_of_node, lines_at, lines_by_node, lines_from, ticket_of}
 pub use Rattle.dist_audit.specs.Links.{acceptor_of, comes, comes_in, conn_of, dialled_end, dialled_in, dialler_of, inner_link, is_among, link_in, mention, mentions, opens, opens_in}
 pub use Rattle.dist_audit.specs.Links.{or_else, target_of}
-pub use Rattle.dist_audit.specs.Outside.{end_number, is_done_outside, is_paired, is_strange, is_strange_at, marked, marked_line, marked_lines, stands_twice}
+pub use Rattle.dist_audit.specs.Outside.{end_number, is_done_outside, is_paired, is_strange, is_strange_at, with_marks, marked_line, marked_lines, stands_twice}
 pub use Rattle.dist_audit.specs.Outside.{meets_stranger, strangers}

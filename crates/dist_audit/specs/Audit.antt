@@ -16,7 +16,7 @@ use Rattle.dist_world_lives.specs.Stepping.{wire_of}
 use Rattle.dist_world.specs.Asking.{node_of, said_to}
 use Rattle.dist_audit.specs.Happenings.{setups_of, begins, ahead, itself, with_mentions, happenings}
 use Rattle.dist_audit.specs.{declared.audit_error.AuditError.AuditError, Lines.NodeLine, Lines.AreLinesOf, Links.conn_of, Faults.fault_of}
-use Rattle.dist_audit.specs.Outside.{marked, strangers}
+use Rattle.dist_audit.specs.Outside.{with_marks, strangers}
 use Rattle.dist_audit.specs.declared.audit_error.AuditError.TheVariants as error
 
 -- the text begins with the frame of this body
@@ -118,7 +118,7 @@ Refutes e P = ⊥
 -- did what it says
 abbrev pub AreTold : Bool → List Closed → List NodeLine → Type 0
 AreTold false cs ts = AreLinesOf cs ts
-AreTold true cs ts = (us : List NodeLine) × AreLinesOf cs us × (ts ≡ marked us)
+AreTold true cs ts = (us : List NodeLine) × AreLinesOf cs us × (ts ≡ with_marks us)
 
 -- they are not, by their lines in the order of their tickets
 abbrev pub AreOfNoWorld : Bool → List Closed → Type 0

@@ -44,8 +44,8 @@ marked_lines all [] = []
 marked_lines all (t ∷ ts) = marked_line all t ∷ marked_lines all ts
 
 -- ALL LINES, each by whether somebody outside did what it says
-abbrev pub marked : List NodeLine → List NodeLine
-marked all = marked_lines all all
+abbrev pub with_marks : List NodeLine → List NodeLine
+with_marks all = marked_lines all all
 
 -- in the line a connection with somebody outside comes to be
 abbrev pub meets_stranger : NodeLine → Bool

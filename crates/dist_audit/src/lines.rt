@@ -44,7 +44,7 @@ impl<'a> NodeLine<'a> {
     }
 
     /// The same line, by whether somebody outside did what it says.
-    pub fn marked(&self, outside: bool) -> NodeLine<'a>
+    pub fn with_outside(&self, outside: bool) -> NodeLine<'a>
         ensures { result ≡ record self.now { outside = outside } }
     {
         NodeLine {

@@ -1,7 +1,7 @@
 //! All lines, in the order of their tickets.
 ghost use Rattle.std.specs.Prelude.{◌≡◌, ◌&&◌, not, false, IfOk, IfErr, OnOk};
 ghost use Rattle.dist_audit.specs.{Lines.lines_by_node, Links.dialler_of, Links.acceptor_of, Faults.links_unpaired, Faults.Unpairs};
-ghost use Rattle.dist_audit.specs.{Audit.AreTold, Outside.marked};
+ghost use Rattle.dist_audit.specs.{Audit.AreTold, Outside.with_marks};
 
 use crate::audit_error::AuditError;
 use crate::lines::{NodeLine, lines_of};
@@ -69,7 +69,7 @@ fn pair(alloc: Global, noted: Vec<NodeLine>) -> Result<Lines, AuditError>
 
 // These lines, each by whether somebody outside did what it says.
 fn mark(alloc: Global, noted: Vec<NodeLine>) -> Result<Lines, AllocError>
-    ensures { IfOk result (λ lines. lines ≡ marked noted.entry.items) }
+    ensures { IfOk result (λ lines. lines ≡ with_marks noted.entry.items) }
 {
     let links = link_table(alloc, &noted)?;
     let mut lines = Lines { noted, links };

@@ -9,10 +9,10 @@ use Rattle.distnode.specs.declared.fault.Fault.{Fault}
 use Rattle.distnode.specs.declared.fault.Fault.TheVariants as fault
 use Rattle.distnode.specs.Fault.{status_of}
 use Rattle.distnode.specs.RunPrinted.{order_line, orders_text, closed_node, closed_text, refusal_text, Puts, IsHeld, IsAudited, IsOfRun, PrintsRun, PrintsRunOf}
-use Rattle.distnode.specs.RunPrinted.{strangers_line, fooled_text, fooled_end, InTurn, IsFooledPair, AreFooledBy, AreFooled, IsAmong, FoolsNobody}
+use Rattle.distnode.specs.RunPrinted.{strangers_line, fooled_end, IsAmong}
 use Rattle.dist_run_plan.specs.{declared.plan.Plan.Plan, Plans.plan_of}
 use Rattle.dist_run_hosts.specs.{Setups.AreOfPlans, Orders.AreObeyed, declared.order_fault.OrderFault.OrderFault, Runs.AreInOrder}
-use Rattle.dist_script_play.specs.Worlds.{nodes_text, PutsAgreements}
+use Rattle.dist_script_play.specs.Worlds.{nodes_text, FoolsNobody, PutsAgreements, PutsFooled}
 use Rattle.dist_script_play.proofs.Printing.{in_three}
 
 -- nothing more
@@ -51,40 +51,15 @@ says_refused cs e a b reports first p = (refusal_text e cs, (reports, first, ref
 
 -- ---- others
 
--- none is so of a number below this one, where none is
-none-so : (Is : ℕ → Bool → List ℕ → Type 0) (k : ℕ) (text : List ℕ) → InTurn Is k false text → (j : ℕ) → j < k → (t : List ℕ) × Is j false t
-none-so Is zero text h j lt = absurd (omega (arith, lt))
-none-so Is (suc k) text (was, is, before, more, earlier, here, any, all) j lt = by was is any earlier here
-  where
-    by : (was is : Bool) → false ≡ (was || is) → InTurn Is k was before → Is k is more → (t : List ℕ) × Is j false t
-    by false false e g m = elim (cases_lt j k) [ inl less ↦ none-so Is k before g j less | inr far ↦ let same : k ≡ j = omega (arith, lt, far) in subst (λ n. (t : List ℕ) × Is n false t) same (more, m) ]
-    by false true e g m = absurd cc
-    by true is e g m = absurd cc
-
--- where no line was printed nobody is fooled
-nobody : (w : World) (text : List ℕ) → AreFooled w false text → FoolsNobody w
-nobody w text none a b la lb fooled =
-    let row = none-so (AreFooledBy w) (length w.setups) text none a la in
-    let pair = none-so (IsFooledPair w a) (length w.setups) row.0 row.1 b lb in
-    let e : false ≡ true = pair.1.0.1 fooled in
-    cc
-
--- none yet
-pub none_yet : (Is : ℕ → Bool → List ℕ → Type 0) (a : Option (List ℕ)) → Puts (InTurn Is 0 false) a a
-none_yet Is a = ([], (refl, refl), Appends-nil a)
-
--- one number more
-pub one_more : (Is : ℕ → Bool → List ℕ → Type 0) (k : ℕ) (was is : Bool) (a b c : Option (List ℕ)) → Puts (InTurn Is k was) a b → Puts (Is k is) b c → Puts (InTurn Is (k + 1) (was || is)) a c
-one_more Is k was is a b c p q = rw (add-one k) (p.0 ++ q.0, (was, is, p.0, q.0, p.1, q.1, refl, refl), Appends-trans a b c p.0 q.0 p.2 q.2)
-
 -- the world, and what is printed of others
-pub among : (w : World) (count : ℕ) (any : Bool) (a b c d e : Option (List ℕ)) → Puts (IsHeld w) a b → Appends b c (strangers_line count) → Puts (AreFooled w any) c d → Appends d e (fooled_end any) → Puts (IsAmong w count any) a e
+pub among : (w : World) (count : ℕ) (any : Bool) (a b c d e : Option (List ℕ)) → Puts (IsHeld w) a b → Appends b c (strangers_line count) → PutsFooled w any c d → Appends d e (fooled_end any) → Puts (IsAmong w count any) a e
 among w count any a b c d e p q r s =
     (p.0 ++ strangers_line count ++ r.0 ++ fooled_end any, (p.0, r.0, p.1, r.1, refl), Appends-trans a b e p.0 _ p.2 (in_three b c d e (strangers_line count) r.0 (fooled_end any) q r.2 s))
 
 -- where the audit holds among others, and nobody is fooled, and where a node is
-pub says_among : (cs : List Closed) (w : World) (count : ℕ) (a b : Option (List ℕ)) → IsWorldAmong cs w count → Puts (IsAmong w count false) a b → Puts (IsAudited None cs) a b
-says_among cs w count a b is p = (p.0, inr (w, count, is, nobody w _ (let m = p.1 in m.3), p.1), p.2)
+pub says_among : (cs : List Closed) (w : World) (count : ℕ) (a b : Option (List ℕ)) → IsWorldAmong cs w count → FoolsNobody w → Puts (IsAmong w count false) a b
+    → Puts (IsAudited None cs) a b
+says_among cs w count a b is nobody p = (p.0, inr (w, count, is, nobody, p.1), p.2)
 
 pub says_fooled : (cs : List Closed) (w : World) (count : ℕ) (a b : Option (List ℕ)) → IsWorldAmong cs w count → Puts (IsAmong w count true) a b → Puts (IsAudited (Some fault.Fooled) cs) a b
 says_fooled cs w count a b is p = (p.0, (w, count, is, p.1), p.2)

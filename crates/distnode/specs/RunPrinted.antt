@@ -1,16 +1,13 @@
 -- WHAT `run` PRINTS.
-use Rattle.std.specs.Prelude.{◌≡◌, ◌⊎◌, ◌↔◌, ◌<◌, ◌||◌, ℕ, zero, suc, Bool, true, false, IsTrue, if◌then◌else◌, List, [], ◌∷◌, ◌++◌}
-use Rattle.std.specs.Prelude.{length, codes, decimal, Option, Some, None, slice_get}
+use Rattle.std.specs.Prelude.{◌≡◌, ◌⊎◌, ℕ, Bool, true, false, List, [], ◌∷◌, ◌++◌, codes, decimal, Option, Some, None}
 use Rattle.std.specs.{List.concat, List.flat_map, Io.KnownBytes.Appends, Io.KnownBytes.Consumes, Io.KnownBytes.IsAtEnd}
-use Rattle.dist_names.specs.Order.{Name}
-use Rattle.dist_core_setup.specs.declared.setup.Setup.{Setup}
-use Rattle.dist_world_model.specs.{World.World, Agreement.IsFooled}
+use Rattle.dist_world_model.specs.World.{World}
 use Rattle.dist_locked_book.specs.declared.closing.Closed.{Closed}
 use Rattle.dist_audit.specs.Audit.{IsWorldOf, IsWorldAmong, Reports, ReportsFirst}
 use Rattle.dist_audit.specs.{declared.audit_error.AuditError.AuditError, Refusals.refusal_name, Refusals.refusal_number}
 use Rattle.dist_run_plan.specs.{declared.plan.Plan.Plan, Plans.plan_of}
 use Rattle.dist_run_hosts.specs.{Setups.AreOfPlans, Orders.AreObeyed, Words.order_refusal_name, declared.order_fault.OrderFault.OrderFault, Runs.AreInOrder}
-use Rattle.dist_script_play.specs.{Lines.node_text, Worlds.nodes_text, Worlds.AreAgreements}
+use Rattle.dist_script_play.specs.{Lines.node_text, Worlds.nodes_text, Worlds.AreAgreements, Worlds.AreFooled, Worlds.FoolsNobody}
 use Rattle.distnode.specs.declared.fault.Fault.{Fault}
 use Rattle.distnode.specs.declared.fault.Fault.TheVariants.{AuditRefused, Fooled}
 
@@ -52,33 +49,6 @@ IsHeld w text = (agreements : List ℕ) × AreAgreements w agreements × (text �
 abbrev pub strangers_line : ℕ → List ℕ
 strangers_line count = concat (codes "strangers " ∷ decimal count ∷ codes "\n" ∷ [])
 
--- fooled A B: a takes somebody outside for b
-abbrev pub fooled_line : Name → Name → List ℕ
-fooled_line a b = concat (codes "fooled " ∷ a ∷ codes " " ∷ b ∷ codes "\n" ∷ [])
-
--- the same of two nodes, where they are there
-abbrev pub fooled_text : Option Setup → Option Setup → List ℕ
-fooled_text None b = []
-fooled_text (Some a) None = []
-fooled_text (Some a) (Some b) = fooled_line a.name b.name
-
--- whether node a takes somebody outside for node b, and the line of that
-abbrev pub IsFooledPair : World → ℕ → ℕ → Bool → List ℕ → Type 0
-IsFooledPair w a b is text = (IsTrue is ↔ IsFooled w a b) × (text ≡ (if is then fooled_text (slice_get w.setups a) (slice_get w.setups b) else []))
-
--- so of each number below this one, in turn; and whether one is so
-abbrev pub InTurn : (ℕ → Bool → List ℕ → Type 0) → ℕ → Bool → List ℕ → Type 0
-InTurn Is zero any text = (any ≡ false) × (text ≡ [])
-InTurn Is (suc k) any text =
-    (was is : Bool) × (before more : List ℕ) × InTurn Is k was before × Is k is more × (any ≡ (was || is)) × (text ≡ before ++ more)
-
--- FOR WHICH NODES a node, and then each node, TAKES SOMEBODY OUTSIDE
-abbrev pub AreFooledBy : World → ℕ → Bool → List ℕ → Type 0
-AreFooledBy w a = InTurn (IsFooledPair w a) (length w.setups)
-
-abbrev pub AreFooled : World → Bool → List ℕ → Type 0
-AreFooled w = InTurn (AreFooledBy w) (length w.setups)
-
 -- that there is none
 abbrev pub fooled_end : Bool → List ℕ
 fooled_end true = []
@@ -88,10 +58,6 @@ fooled_end false = codes "fooled nobody\n"
 abbrev pub IsAmong : World → ℕ → Bool → List ℕ → Type 0
 IsAmong w count any text =
     (held fooled : List ℕ) × IsHeld w held × AreFooled w any fooled × (text ≡ held ++ strangers_line count ++ fooled ++ fooled_end any)
-
--- no node takes somebody outside for a node
-abbrev pub FoolsNobody : World → Type 0
-FoolsNobody w = (a b : ℕ) → a < length w.setups → b < length w.setups → IsFooled w a b → ⊥
 
 -- WHAT IS PRINTED OF CLOSED NODES, by what is against them. If nothing is, it is the text of one world that has these nodes; its ends that
 -- are up hold the digests of the cookies with which these nodes were set up; and if others took part, none of them is taken for a node. A

@@ -1,13 +1,14 @@
 //! The command `run`: runs the nodes of a nodes file on this host.
 
-ghost use Rattle.std.specs.Prelude.{◌≡◌, ◌≤◌, ℕ, true, List, Option, Some, None, IfOk, IfErr, OnOk, codes, slice_get};
+ghost use Rattle.std.specs.Prelude.{◌≡◌, ◌≤◌, ℕ, true, false, List, Option, Some, None, IfOk, IfErr, OnOk, codes};
 ghost use Rattle.std.specs.Io.KnownBytes.{Appends};
 ghost use Rattle.dist_script.specs.Texts.{PutsFront};
 ghost use Rattle.distnode.specs.RunPrinted.{order_line, orders_text, closed_text, refused_line, refusal_text};
-ghost use Rattle.distnode.specs.RunPrinted.{strangers_line, fooled_line, fooled_text, fooled_end};
-ghost use Rattle.distnode.specs.RunPrinted.{Puts, IsHeld, IsFooledPair, AreFooledBy, AreFooled, IsAmong, IsAudited, IsOfRun, PrintsRun};
+ghost use Rattle.distnode.specs.RunPrinted.{strangers_line, fooled_end};
+ghost use Rattle.distnode.specs.RunPrinted.{Puts, IsHeld, IsAmong, IsAudited, IsOfRun, PrintsRun};
 ghost use Rattle.distnode.specs.RunPrinted.{PrintsRunOf};
 ghost use Rattle.dist_audit.specs.Audit.{Reports, ReportsFirst};
+ghost use Rattle.dist_script_play.specs.Worlds.{FoolsNobody};
 ghost use Rattle.distnode.specs.{Stopped.EndsByFault, RunStopped.IsNoNodesFile, RunStopped.StopsPrinting, RunStopped.StopsRun, RunStopped.StopsRunOf};
 ghost use Rattle.dist_run_plan.specs.Plans as plans;
 
@@ -15,11 +16,10 @@ use crate::fault::Fault;
 use crate::output::write_text;
 use dist_audit::{AuditError, Audited, audit, audit_among_others};
 use dist_locked::{Closed, Gate, Open};
-use dist_names::NodeName;
 use dist_run::{Machine, OrderFault, Ran, run_plan};
 use dist_run_plan::{Plan, PlanError, plan_of};
 use dist_script::{Piece, ScriptFault, put, put_bytes, read_text};
-use dist_script_play::{print, print_agreements, print_nodes};
+use dist_script_play::{print, print_agreements, print_fooled, print_nodes};
 use dist_world::World;
 use std::alloc::Global;
 use std::io::{Read, Write};
@@ -129,77 +129,6 @@ fn print_strangers<W: Write>(out: &mut W, count: usize) -> Result<(), ScriptFaul
     )
 }
 
-// Prints that a node takes somebody outside for another one.
-fn print_names<'n, W: Write>(
-    out: &mut W,
-    a: &'n NodeName,
-    b: &'n NodeName,
-) -> Result<(), ScriptFault>
-    ensures { OnOk result (Appends (W.contents out.old) (W.contents out.new) (fooled_line a.now b.now)) }
-{
-    put(
-        out,
-        &[
-            Piece::Text(b"fooled "),
-            Piece::Text(a.bytes()),
-            Piece::Text(b" "),
-            Piece::Text(b.bytes()),
-            Piece::Text(b"\n"),
-        ],
-    )
-}
-
-// The same of the nodes at these places.
-fn print_nodes_of<W: Write>(
-    out: &mut W,
-    world: &World,
-    a: usize,
-    b: usize,
-) -> Result<(), ScriptFault>
-    ensures { OnOk result (Appends (W.contents out.old) (W.contents out.new) (fooled_text (slice_get world.now.setups a) (slice_get world.now.setups b))) }
-{
-    let setups = world.setups();
-    match (setups.get(a), setups.get(b)) {
-        (Some(a), Some(b)) => print_names(out, &a.name, &b.name),
-        _ => Ok(()),
-    }
-}
-
-// The same, where it is so. Returns whether it is.
-fn print_pair<W: Write>(out: &mut W, world: &World, a: usize, b: usize) -> Result<bool, ScriptFault>
-    ensures { IfOk result (λ is. Puts (IsFooledPair world.now a b is) (W.contents out.old) (W.contents out.new)) }
-{
-    if !world.is_fooled(a, b) {
-        return Ok(false);
-    }
-    print_nodes_of(out, world, a, b)?;
-    Ok(true)
-}
-
-// Prints for which nodes a node takes somebody outside. Returns whether there is one.
-#[tactic(auto, using(crate::proofs::Printing::none_yet, crate::proofs::Printing::one_more))]
-fn print_fooled_by<W: Write>(out: &mut W, world: &World, a: usize) -> Result<bool, ScriptFault>
-    ensures { IfOk result (λ is. Puts (AreFooledBy world.now a is) (W.contents out.old) (W.contents out.new)) }
-{
-    let mut any = false;
-    for b in 0..world.setups().len() {
-        any |= print_pair(out, world, a, b)?;
-    }
-    Ok(any)
-}
-
-// Prints of each node for which nodes it takes somebody outside. Returns whether there is one.
-#[tactic(auto, using(crate::proofs::Printing::none_yet, crate::proofs::Printing::one_more))]
-fn print_fooled<W: Write>(out: &mut W, world: &World) -> Result<bool, ScriptFault>
-    ensures { IfOk result (λ is. Puts (AreFooled world.now is) (W.contents out.old) (W.contents out.new)) }
-{
-    let mut any = false;
-    for a in 0..world.setups().len() {
-        any |= print_fooled_by(out, world, a)?;
-    }
-    Ok(any)
-}
-
 // Prints that there is none.
 fn print_nobody<W: Write>(out: &mut W, is_fooled: bool) -> Result<(), ScriptFault>
     ensures { OnOk result (Appends (W.contents out.old) (W.contents out.new) (fooled_end is_fooled)) }
@@ -213,11 +142,12 @@ fn print_nobody<W: Write>(out: &mut W, is_fooled: bool) -> Result<(), ScriptFaul
 // Prints the world, in how many connections others took part, and for which nodes they are taken. Returns whether there is one.
 #[tactic(auto, using(crate::proofs::Printing::among))]
 fn print_among<W: Write>(alloc: Global, out: &mut W, found: &Audited) -> Result<bool, ScriptFault>
-    ensures { IfOk result (λ is. Puts (IsAmong found.now.world found.now.strangers is) (W.contents out.old) (W.contents out.new)) }
+    ensures text { IfOk result (λ is. Puts (IsAmong found.now.world found.now.strangers is) (W.contents out.old) (W.contents out.new)) }
+    ensures nobody { IfOk result (λ is. is ≡ false → FoolsNobody found.now.world) }
 {
     print_world(alloc, out, &found.world)?;
     print_strangers(out, found.strangers)?;
-    let is_fooled = print_fooled(out, &found.world)?;
+    let is_fooled = print_fooled(alloc, &found.world, out)?;
     print_nobody(out, is_fooled)?;
     Ok(is_fooled)
 }

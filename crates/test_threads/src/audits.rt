@@ -116,7 +116,9 @@ fn is_so(alloc: Global, all: &mut [Closed], part: &str) -> bool {
     }
 }
 
-// As others took part, the same but for a link that one node alone knows: then each has a connection with somebody else. A ticket of the other node; two tickets exchanged; the link of the connection that came, a byte of a frame's body, and a byte of what
+// As others took part, the same but for a link that one node alone knows: then each has a connection with somebody else.
+//
+// A ticket of the other node; two tickets exchanged; the link of the connection that came, a byte of a frame's body, and a byte of what
 // was sent last, each undone. Then each ticket doubled plus one (shifted_tickets), that of the connection that came one below that of
 // `opened`, and one below that of the dial. Then the original tickets, without the last line.
 const ALTERED: &str = "\

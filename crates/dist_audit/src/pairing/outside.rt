@@ -1,6 +1,6 @@
 //! What somebody outside did.
 ghost use Rattle.std.specs.{Prelude.◌≡◌, Prelude.ℕ, Prelude.◌||◌, Prelude.IfOk, Prelude.OnOk, List.list_any, Ordering.nat_cmp, BTreeSet.contains};
-ghost use Rattle.dist_audit.specs.Outside.{is_paired, is_strange, end_number, is_strange_at, is_done_outside, marked_line, marked};
+ghost use Rattle.dist_audit.specs.Outside.{is_paired, is_strange, end_number, is_strange_at, is_done_outside, marked_line, with_marks};
 ghost use Rattle.dist_audit.specs.Outside.{meets_stranger, strangers};
 
 use super::Lines;
@@ -60,17 +60,17 @@ fn marked_line<'a>(lines: &Lines<'a>, ends: &BTreeSet<u128>, noted: &NodeLine<'a
 {
     let view = noted.line().read();
     let outside = is_done_outside(lines, ends, noted.node(), &view.line().event);
-    noted.marked(outside)
+    noted.with_outside(outside)
 }
 
 // All lines, each so.
-fn marked<'a>(
+fn with_marks<'a>(
     alloc: Global,
     lines: &Lines<'a>,
     ends: &BTreeSet<u128>,
 ) -> Result<Vec<NodeLine<'a>>, AllocError>
     requires { (n : ℕ) → contains nat_cmp ends.now n ≡ list_any (is_strange_at lines.now n) lines.now }
-    ensures { IfOk result (λ all. all.items ≡ marked lines.now) }
+    ensures { IfOk result (λ all. all.items ≡ with_marks lines.now) }
 {
     let mut all = Vec::new(alloc);
     let noted = lines.ordered_lines();
@@ -123,10 +123,10 @@ impl<'a> Lines<'a> {
 
     /// Finds for each line whether somebody outside did what it says.
     pub fn mark(&mut self, alloc: Global) -> Result<(), AllocError>
-        ensures { OnOk result (self.new ≡ marked self.old) }
+        ensures { OnOk result (self.new ≡ with_marks self.old) }
     {
         let ends = ends_outside(alloc, self)?;
-        self.noted = marked(alloc, self, &ends)?;
+        self.noted = with_marks(alloc, self, &ends)?;
         Ok(())
     }
 
