@@ -5,7 +5,8 @@ usage: standin.py COOKIE [FAULT]          prints its node's port, its port mappe
                                           line; serves until its input ends
        standin.py COOKIE FAULT PORT       the node alone: registers at the port mapper of this port, and serves as long as that
 
-Each fault below is a mistake that whoever writes a node can make.
+Each fault below is a mistake that whoever writes a node can make. With a + behind it (or + alone) the two also never forget: neither a peer
+that was up, nor a name that was registered.
 """
 import contextlib
 import hashlib
@@ -61,6 +62,7 @@ FAULTS = {
     "ownreply": "replies to its own challenge",
     "mirrored": "awaits the acknowledgement of the other's challenge",
     "longdigest": "takes a reply, or an acknowledgement, with bytes behind it",
+    "hangs": "keeps a connection open after a wrong digest, and is busy with its peer",
     "secondtry": "lets a dialler try again after a wrong digest",
     "bars": "refuses a name for good after a wrong digest",
     # A peer that is up, or was
@@ -89,10 +91,12 @@ FAULTS = {
     "nooldname": "does not know the old name",
     "oldform": "answers each name by an old challenge",
     "nocomplement": "neither says nor awaits a complement",
+    "anycomplement": "does not look at the flags of a complement",
     "oldname": "says an old name of version 6 without HANDSHAKE_23",
     "oldchallenge": "takes an old challenge behind a name N",
     # Up
     "twobytes": "goes on with lengths of 2 bytes",
+    "modulo": "takes lengths of 4 bytes modulo 65,536, and passes over what is no packet",
     "notick": "ends a connection upon a tick",
     "nobody": "ends a connection upon a message to a name that nobody has",
     "chatty": "sends a message to a hidden peer too",
@@ -122,6 +126,7 @@ FAULTS = {
     "ascii": "registers no name beyond ASCII",
     "anybytes": "registers any name",
     "first6": "tells names apart by 6 bytes",
+    "fronts": "finds a name by its front",
     "noextramap": "forgets the extra",
     "cutreg": "registers what was cut",
     "namesport": "says 4369 in front of the names",
@@ -129,10 +134,12 @@ FAULTS = {
     "pads": "says a zero byte behind the answer to a lookup",
     "staysopen": "does not end behind a lookup",
     "obeys": "obeys STOP and KILL",
+    # None is a fault: good nodes do so too
+    "prompt": "sends two ticks and a message right behind the acknowledgement",
 }
 
 COOKIE = sys.argv[1].encode()
-FAULT = sys.argv[2] if len(sys.argv) > 2 else ""
+FAULT, PLUS, _ = sys.argv[2].partition("+") if len(sys.argv) > 2 else ("", "", "")
 if FAULT and FAULT not in FAULTS:
     sys.exit(f"standin: no such fault: {FAULT}")
 ME, HOST = b"n@127.0.0.1", "127.0.0.1"
@@ -189,7 +196,7 @@ class Connection:
 
     def end_of(self, header):
         """Where a frame ends that stands behind a length of so many bytes."""
-        return header + int.from_bytes(self.bytes[:header], "big")
+        return header + int.from_bytes(self.bytes[:header], "big") % (1 << 16 if FAULT == "modulo" else 1 << 32)
 
     def take(self, header):
         """A frame behind a length of so many bytes."""
@@ -316,7 +323,7 @@ def status_of(name, it):
             if FAULT != "dropsboth":
                 peer["came"] = it
             return b"ok_simultaneous"
-        if FAULT in ("remembers", "lingers") and peer:
+        if FAULT in ("remembers", "lingers", "hangs") and peer:
             return b"nok"
         end(peer.get("came"))
         peer["came"] = it
@@ -339,7 +346,7 @@ def leave(name, it):
         if FAULT == "endsboth" and peer.get("up") is it:
             end(peer.get("asked"))
         if FAULT != "remembers":
-            PEERS[name] = {key: other for key, other in peer.items() if other is not it}
+            PEERS[name] = {key: other for key, other in peer.items() if other is not it or PLUS and key == "up"}
 
 
 # --- the node: who dials it ---
@@ -396,7 +403,8 @@ def own_challenge(number, flags):
 
 def take_complement(it):
     complement = it.take(2)
-    if complement[:1] != b"c" or len(complement) != 9 or not complement[4] & REQUIRED >> 32:
+    has_flags = complement[4:5] and complement[4] & REQUIRED >> 32 or FAULT == "anycomplement"
+    if complement[:1] != b"c" or len(complement) != 9 or not has_flags:
         raise Refused("no complement")
 
 
@@ -409,6 +417,8 @@ def take_reply(it, name, challenge):
         return take_reply(it, name, challenge)
     if FAULT == "bars":
         BARRED.add(name)
+    while FAULT == "hangs" and it.receive():
+        pass
     raise Refused("another digest")
 
 
@@ -578,6 +588,8 @@ def answer_monitor(it, terms):
 def take_packet(it, packet):
     """Takes a packet that passes through, or has a version of terms, with a tuple behind it."""
     if packet[0] not in (112, 131) or packet[1:3] != b"\x83h":
+        if FAULT == "modulo":
+            return
         for other in [other for peer in PEERS.values() for other in peer.values()] if FAULT == "endsall" else []:
             end(other)
         raise Ended("no packet")
@@ -591,7 +603,9 @@ def stay_up(it, flags):
     it.until = None
     threading.Thread(target=send_ticks, args=(it,), daemon=True).start()
     # (who comes up wrongly sends a message too, so that a row that wants the end need not wait)
-    if flags & PUBLISHED or FAULT in ("chatty", "noack", "short"):
+    for packet in (b"", b"") if FAULT == "prompt" else ():
+        it.send(packet)
+    if flags & PUBLISHED or FAULT in ("chatty", "noack", "short", "prompt"):
         it.send(GREETING)
     while True:
         packet = it.take(2 if FAULT == "twobytes" else 4)
@@ -713,12 +727,13 @@ def register(stream, request):
         if free:
             time.sleep(3 if FAULT == "stale" else 0)
             with LOCK:
-                NAMES.pop(name, None)
+                NAMES.pop(name if not PLUS else None, None)
 
 
 def answer_lookup(stream, asked):
     with LOCK:
-        entry = NAMES.get(filed(asked))
+        found = [name for name in NAMES if name.startswith(asked)] if FAULT == "fronts" else [filed(asked)]
+        entry = NAMES.get(found[0]) if found else None
     if entry is None:
         stream.sendall(b"w\1")
     else:

@@ -1,5 +1,5 @@
 -- What decides the verdict of a talk beside the judgement.
-use Rattle.std.specs.Prelude.{ℕ, Bool, true, false, nat_le, if◌then◌else◌}
+use Rattle.std.specs.Prelude.{ℕ, Bool, true, false, not, nat_le, if◌then◌else◌}
 use Rattle.dist_conformance.specs.declared.{rows.Level.Level, verdicts.TalkVerdict.TalkVerdict}
 use Rattle.dist_conformance.specs.declared.rows.Level.TheVariants as level
 use Rattle.dist_conformance.specs.declared.verdicts.TalkVerdict.TheVariants as verdict
@@ -15,8 +15,14 @@ verdict_by_level level.May other = other
 verdict_by_level counted verdict.Noted = verdict.Kept
 verdict_by_level counted other = other
 
--- whether the first of two tries counts: it deviates, and the second does not come to the demand
+-- THE TRY DENIES a deviation in another one: it was played as far as to the demand, and met it
+abbrev pub denies : TalkVerdict → Bool
+denies verdict.Noted = true
+denies verdict.Kept = true
+denies verdict.Loose = true
+denies other = false
+
+-- whether the first of two tries counts: it deviates, and the second does not deny that
 abbrev pub counts_first : TalkVerdict → TalkVerdict → Bool
-counts_first verdict.Deviates verdict.Blocked = true
-counts_first verdict.Deviates verdict.Skipped = true
+counts_first verdict.Deviates second = not (denies second)
 counts_first first second = false

@@ -231,7 +231,7 @@ impl<'a> TalkCrew<'a> {
         Ok(replies)
     }
 
-    // Plays a talk alone that deviates beside others: it deviates only if it does so twice.
+    // Plays a talk alone that deviates beside others: it deviates unless it then meets its demand.
     fn confirm(&self, played: PlayedTalk<'a>) -> Result<PlayedTalk<'a>, Fault>
         ensures { IfOk result (λ it. it.queued ≡ played.entry.queued) }
     {

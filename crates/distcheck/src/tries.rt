@@ -3,7 +3,7 @@
 ghost use Rattle.std.specs.Prelude.{◌≡◌, ◌<◌, [], length};
 ghost use Rattle.std.specs.{List.list_any, Option.ForNone, Option.ForSome};
 ghost use Rattle.distcheck.specs.Trying.{told_verdicts, verdict_of_two, verdict_alone, tries_verdict, verdicts_of, was_refused};
-ghost use Rattle.distcheck.specs.Deciding.{counts_first};
+ghost use Rattle.distcheck.specs.Deciding.{counts_first, denies};
 
 use crate::queue::QueuedTalk;
 use crate::seen::{PlayedStep, StepFact};
@@ -71,17 +71,22 @@ pub struct ShownTry<'p> {
     pub took: u32,
 }
 
-// Whether the first of two tries counts: what deviates is not blocked by a second try, which may meet what the first left behind.
+// Whether a try denies a deviation in another one: it was played as far as to the demand, and met it. One that is blocked or skipped does not:
+// it may have met what the other left behind, such as a name that the node still holds.
+fn denies(verdict: TalkVerdict) -> bool
+    ensures { result ≡ denies verdict }
+{
+    matches!(
+        verdict,
+        TalkVerdict::Noted | TalkVerdict::Kept | TalkVerdict::Loose
+    )
+}
+
+// Whether the first of two tries counts: it deviates, and the second does not deny that.
 fn counts_first(first: TalkVerdict, second: TalkVerdict) -> bool
     ensures { result ≡ counts_first first second }
 {
-    matches!(
-        (first, second),
-        (
-            TalkVerdict::Deviates,
-            TalkVerdict::Blocked | TalkVerdict::Skipped
-        )
-    )
+    matches!(first, TalkVerdict::Deviates) && !denies(second)
 }
 
 // The verdict of one try, or of two.
@@ -100,9 +105,10 @@ fn verdict_of_two(tries: &[TalkTry]) -> TalkVerdict
 fn verdict_alone(alone: &[TalkTry]) -> TalkVerdict
     ensures { result ≡ verdict_alone (verdict_of_two (told_verdicts alone.now)) }
 {
-    match verdict_of_two(alone) {
-        TalkVerdict::Deviates => TalkVerdict::Deviates,
-        _ => TalkVerdict::Loose,
+    if denies(verdict_of_two(alone)) {
+        TalkVerdict::Loose
+    } else {
+        TalkVerdict::Deviates
     }
 }
 
