@@ -73,6 +73,7 @@ closed(Why, Peer, Flags) ->
             error_logger:error_msg("** Connection attempt from node ~ts rejected. Invalid challenge reply. **~n",
                                    [distnode_access:quoted(Peer)]);
         _ when Why =:= 'Refused'; Why =:= 'WrongFlags' -> distnode_access:report_refused(Peer, Flags);
+        not_taken -> distnode_access:report_not_taken(Peer);
         _ -> ok
     end,
     exit(shutdown).

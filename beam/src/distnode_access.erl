@@ -2,7 +2,7 @@
 %% What this emulator says of a peer before a step is made: the cookie for it, the cookie for all others, and whether the
 %% allow list names it. It is asked by the process of a connection, since auth and net_kernel are asked for it.
 -module(distnode_access).
--export([of_peer/2, usual/0, named_in/1, whole/1, report/2, report_refused/2, quoted/1]).
+-export([of_peer/2, usual/0, named_in/1, is_taken/1, whole/1, report/2, report_refused/2, report_not_taken/1, quoted/1]).
 -export_type([access/0, cookie/0]).
 
 -include_lib("kernel/include/dist.hrl").
@@ -56,6 +56,13 @@ named_in(<<$n, _Version:16, Flags:32, Name/binary>>) when Flags band ?DFLAG_HAND
 named_in(<<$n, _Version:16, Flags:32, Name/binary>>) -> {Name, Flags};
 named_in(_) -> none.
 
+%% Whether net_kernel takes a peer of this name: before the @ the emulator takes fewer characters than the library. What is no name at
+%% all the node refuses.
+-spec is_taken(binary()) -> boolean().
+is_taken(<<C, Rest/binary>>) when C >= $0, C =< $9; C >= $A, C =< $Z; C >= $a, C =< $z; C =:= $_; C =:= $- -> is_taken(Rest);
+is_taken(<<C, _/binary>>) -> C =:= $@;
+is_taken(<<>>) -> true.
+
 %% The flags that a peer has which announces these: one of them may stand for others.
 -spec whole(non_neg_integer()) -> non_neg_integer().
 whole(Flags) when Flags band ?DFLAG_MANDATORY_25_DIGEST =/= 0 -> Flags bor ?MANDATORY_DFLAGS_25;
@@ -82,13 +89,19 @@ report(Peer, Code) ->
 %% doesn't.
 -spec report_refused(binary() | none, Flags :: non_neg_integer()) -> ok.
 report_refused(Peer, Flags) ->
+    Own = atom_to_binary(node(), utf8),
     case {[C || Peer =/= none, <<C>> <= Peer, C < 16#21 orelse C > 16#7E], lacking(Flags)} of
         {[_ | _], _} -> say("the name of node ~ts has characters other than printable ASCII", [quoted(Peer)]);
         {[], [_ | _] = Lacking} ->
             error_logger:error_msg("** ~w: Connection attempt from node ~ts rejected since it cannot handle ~p.**~n",
                                    [node(), quoted(Peer), Lacking]);
+        {[], []} when Peer =:= Own -> report_not_taken(Peer);
         {[], []} -> error_logger:error_msg("** Connection attempt from disallowed node ~ts ** ~n", [quoted(Peer)])
     end.
+
+%% What net_kernel says of such a peer.
+-spec report_not_taken(binary()) -> ok.
+report_not_taken(Peer) -> error_logger:error_msg("** Cannot get connection id for node ~ts~n", [quoted(Peer)]).
 
 say(Text, Arguments) -> error_logger:error_msg("** Connection attempt refused, " ++ Text ++ " **~n", Arguments).
 

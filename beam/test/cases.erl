@@ -69,6 +69,7 @@ common(Mapper) ->
      {"all_cookies_are_lent", fun all_lent/0},
      {"names_in_the_log", fun() -> names_in_the_log(Mapper) end},
      {"name_beyond_ascii", fun() -> beyond_ascii(Mapper) end},
+     {"names_that_net_kernel_refuses", fun() -> not_taken(Mapper) end},
      {"flags_that_are_missing", fun() -> with_tls("0", fun() -> missing_flags(Mapper) end) end},
      {"started_at_run_time", fun started_at_run_time/0},
      {"allow_list_at_run_time", fun allow_list/0},
@@ -622,8 +623,8 @@ names_in_the_log(Mapper) ->
 
 %% OTP takes a name with a letter of Latin-1, and the library doesn't: the log says so, in words of its own.
 beyond_ascii(Mapper) ->
-    with([{"a", ours, ?QUIET}, {"l", {long, ours}, ?QUIET}],
-         fun([A, L]) ->
+    with([{"a", ours, ["-epmd_module", "relay_epmd" | ?QUIET]}],
+         fun([A]) ->
                  Socket = other_side:connect(other_side:port_of("a", Mapper)),
                  ok = other_side:say_name(Socket, ?FLAGS, <<"e@b1", 16#E9>>),
                  <<"not_allowed">> = other_side:status(Socket),
@@ -631,9 +632,34 @@ beyond_ascii(Mapper) ->
                  true = test_nodes:has_logged(A, "the name of node 'e@b1.*' has characters other than printable ASCII"),
                  nomatch = re:run(test_nodes:log(A), "disallowed"),
                  %% who dials logs it as one letter, here in UTF-8
-                 ok = c(L, io, setopts, [user, [{encoding, unicode}]]),
-                 false = connect_to(L, list_to_atom("d@on" ++ [16#E9 | ".example.test"])),
-                 true = test_nodes:has_logged(L, "the name of node 'd@on\\xC3\\xA9.example.test' or of this node can't be used")
+                 ok = c(A, io, setopts, [user, [{encoding, unicode}]]),
+                 ok = c(A, relay_epmd, instead, ["d", 1]),
+                 false = connect_to(A, list_to_atom("d@b.1" ++ [16#E9])),
+                 true = test_nodes:has_logged(A, "the name of node 'd@b.1\\xC3\\xA9' or of this node can't be used")
+         end).
+
+%% The emulator takes no peer with a dot before its @, and none with its own name: OTP's carrier logs the same, once for each attempt.
+not_taken(Mapper) ->
+    with([{"a", ours, ?QUIET}, {"o", otp, ?QUIET}],
+         fun([A, O]) ->
+                 Status = fun(Short, Name) ->
+                                  Socket = other_side:connect(other_side:port_of(Short, Mapper)),
+                                  ok = other_side:say_name(Socket, ?FLAGS, Name),
+                                  Said = other_side:status(Socket),
+                                  {error, closed} = other_side:recv(Socket, 5000),
+                                  other_side:close(Socket),
+                                  Said
+                          end,
+                 [begin
+                      [true = lists:member(Status(Short, Name), [<<"nok">> | Also])
+                       || {Name, Also} <- [{<<"my.app@127.0.0.1">>, []}, {atom_to_binary(n(X)), [<<"not_allowed">>]}]],
+                      [begin
+                           true = test_nodes:has_logged(X, ["Cannot get connection id for node '", Name, "'"]),
+                           {match, [_]} = re:run(test_nodes:log(X), ["node '", Name], [global])
+                       end || Name <- ["my.app@127.0.0.1", atom_to_list(n(X))]],
+                      nomatch = re:run(test_nodes:log(X), "disallowed")
+                  end || {Short, X} <- [{"o", O}, {"a", A}]],
+                 agreed([A])
          end).
 
 %% A peer of an earlier release lacks flags that this one requires. Who accepts and who dials log that in the words of OTP's carrier.

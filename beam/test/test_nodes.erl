@@ -106,7 +106,7 @@ host(_) -> {"-name", "127.0.0.1", "{127,0,0,1}"}.
 %% The names of this host that no name server knows.
 hosts() ->
     File = filename:join(os:getenv("LOGS"), "inetrc"),
-    ok = file:write_file(File, "{lookup, [file]}.\n{host, {127,0,0,1}, [\"one\", \"one.example.test\", \"on\\xe9.example.test\"]}.\n"),
+    ok = file:write_file(File, "{lookup, [file]}.\n{host, {127,0,0,1}, [\"one\", \"one.example.test\"]}.\n"),
     File.
 
 carrier(ours) -> carrier(os:getenv("EBIN"));
