@@ -1073,16 +1073,24 @@ killed_core() ->
                  agreed([B])
          end).
 
-%% A recording is a regular file: a FIFO that nobody reads would hold the emulator up. The node starts without a recording.
+%% A recording is a regular file: a FIFO that nobody reads would hold the emulator up. It has cookies, so it is no file that others can
+%% read, have given another name, or have put a link to in its place. The node starts without a recording.
 recording_elsewhere() ->
-    Fifo = filename:join(os:getenv("LOGS"), "fifo"),
+    [Fifo, Open, Twice, Other, Link] =
+        Files = [filename:join(os:getenv("LOGS"), Name) || Name <- ["fifo", "open", "twice", "other", "link"]],
     "" = os:cmd("mkfifo " ++ Fifo),
-    with([{Short, ours, ["-kernel", "distnode_recording", [$", File, $"] | ?QUIET]} || {Short, File} <- [{"a", Fifo}, {"b", "/dev/null"}]],
-         fun([A, B]) ->
-                 true = test_nodes:has_logged(A, "nothing is recorded, since .*/fifo is no regular file"),
-                 true = test_nodes:has_logged(B, "nothing is recorded, since /dev/null is no regular file"),
+    [ok = file:write_file(File, "") || File <- [Open, Twice]],
+    [ok = file:change_mode(File, Mode) || {File, Mode} <- [{Open, 8#644}, {Twice, 8#600}]],
+    ok = file:make_link(Twice, Other),
+    ok = file:make_symlink("nowhere", Link),
+    Places = lists:zip(["a", "b", "c", "d", "e"], ["/dev/null" | Files -- [Other]]),
+    with([{Short, ours, ["-kernel", "distnode_recording", [$", File, $"] | ?QUIET]} || {Short, File} <- Places],
+         fun([A, B | _] = Nodes) ->
+                 [true = test_nodes:has_logged(X, ["nothing is recorded, since ", File, " is no regular file"])
+                  || {X, {_, File}} <- lists:zip(Nodes, Places)],
                  true = connect(A, B),
-                 agreed([A, B])
+                 agreed([A, B]),
+                 [] = [File || File <- [Open, Twice, filename:join(filename:dirname(Link), "nowhere")], filelib:file_size(File) > 0]
          end).
 
 %% The library's module is loaded anew from other folders while a peer is connected: one calls load/0, one leaves that to its first call;
