@@ -39,14 +39,14 @@ accepted(Transport, {Socket, Begun}, Allowed, Wait) ->
 named(Body, none, _, #shake{begun = Begun} = S) -> arrived(distnode_core:arrived(Body, none, Begun), none, S);
 named(Body, {Peer, Flags}, Allowed, #shake{transport = Transport, socket = Socket} = S) ->
     case distnode_access:is_taken(Peer) of
-        true -> named_well(Body, Peer, Allowed, S#shake{peer = Peer, flags = Flags});
+        true -> introduced(Body, Peer, Allowed, S#shake{peer = Peer, flags = Flags});
         false ->
             %% It has no end of the node, and this is what OTP's carrier says.
             _ = say(Transport, Socket, [<<"snok">>]),
             shut(not_taken, S#shake{peer = Peer})
     end.
 
-named_well(Body, Peer, Allowed, #shake{begun = Begun} = S) ->
+introduced(Body, Peer, Allowed, #shake{begun = Begun} = S) ->
     #{cookie := Cookie} =
         Access = case distnode_access:of_peer(Peer, Allowed) of
                      #{allowed := true} = Listed -> Listed#{allowed := is_certified(Peer, S)};
