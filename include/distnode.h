@@ -17,7 +17,7 @@
  *    forked child of a process with threads.
  *
  * Bytes are copied, both ways: those that were given to a call are the caller's again when it returns. Nothing that a call
- * hands out is to be freed; a node alone is let go, by dn_node_free.
+ * hands out is to be freed: only a node and a registry are, by dn_node_free and dn_registry_free.
  *
  * Every function returns a dn_code. Its errors are listed in the order in which they are checked: the first that applies is returned.
  * With a code other than DN_OK the node, and what the pointers point to, are as they were, except for what DN_NO_ROOM and DN_SHOWN_END
@@ -49,7 +49,7 @@ typedef struct dn_node {
 /* What a call answers. */
 typedef enum dn_code {
     DN_OK = 0,
-    DN_NOT_A_NODE = 1,      /* the struct holds no node, or no registry: it is zero, or was let go */
+    DN_NOT_A_NODE = 1,      /* the struct holds no node, or no registry: it is zero, or was freed */
     DN_IN_USE = 2,          /* the struct holds one already */
     DN_NO_MEMORY = 3,
     DN_NO_ROOM = 4,         /* the caller's room is too short; the length that it needs is reported */
@@ -199,17 +199,17 @@ typedef struct dn_end {
     uint32_t why;   /* in DN_PHASE_CLOSED: a dn_why; else 0 */
 } dn_end;
 
-/* ---- a node is made, and let go */
+/* ---- a node is made, and freed */
 
-/* Makes a node without ends. The name is `alive@host`, at most 255 bytes, without a 0 at the end. The cookie is a text as the file
- * .erlang.cookie has it: 1 to 255 bytes from 0x20 to 0x7E, and then line ends or spaces alone; it is the one for every peer
- * that has no cookie of its own.
+/* Makes a node without ends. The name is `alive@host`, at most 255 bytes, without a 0 at the end. Erlang nodes take only letters,
+ * digits, `_` and `-` in the alive: to `my.app@host` they answer nok. The cookie is a text as the file .erlang.cookie has it: 1 to
+ * 255 bytes from 0x20 to 0x7E, and then line ends or spaces alone; it is the one for every peer that has no cookie of its own.
  * Errors: DN_IN_USE, DN_NO_SUCH (the version), DN_NAME_*, DN_COOKIE_*, DN_HALF_FLAGS (the flags that it announces, or a
  * mandatory_25 that is neither DN_MANDATORY_25 nor 0), DN_NO_MEMORY, which may also come before that. */
 uint32_t dn_node_new(dn_node *node, const uint8_t *name, size_t name_len, const uint8_t *cookie, size_t cookie_len,
                      const dn_setup *setup);
 
-/* Lets a node go, with all its memory. The struct holds none then, and may be used anew. It needs no memory.
+/* Frees a node, with all its memory. The struct holds none then, and may be used anew. It needs no memory.
  * Errors: DN_NOT_A_NODE. */
 uint32_t dn_node_free(dn_node *node);
 

@@ -4,15 +4,20 @@
 %% the model's rules, and has to print what the emulators did and what they show at the end. Then a frame is repeated, dropped or swapped
 %% in a recording, and that audit has to fail.
 %%
+%% Beside them are strangers, who record nothing: an ordinary Erlang node with the cookie, `distping` again and again, and somebody without
+%% the cookie who connects and says nothing, anything, or the name of one of the four. What they do is an `outside` line of the script.
+%%
 %% What is compared: each frame that an end took is the next one that was said on its connection; each call that the node took applies in
 %% the model, and closes the same end for the same cause; who came up is up there, and so until its socket is gone; and at the end the
 %% tables, the connections of all pairs, and the sockets of those that net_kernel shows.
 -module(audit).
 -export([main/1]).
--export([names/0, emulator/3, act/2, made_alike/1, all_connect/1, shown/1, recording/1, audit/2, said/1, is_refused/3]).
+-export([names/0, emulator/3, act/2, made_alike/1, all_connect/1, shown/1, recording/1, audit/2, said/1, is_refused/3, strangers/0, leave/1]).
+-export([probe/1, scan/1]).
 
 -define(QUIET, ["-connect_all", "false", "-kernel", "prevent_overlapping_partitions", "false"]).
 -define(NAMES, ["a", "b", "c", "d"]).
+-define(STRANGER, "o").
 %% A script may have 1 MiB, so a longer run is made of several worlds, each with new emulators.
 -define(ACTIONS_OF_A_WORLD, 5000).
 %% Each emulator is killed once, and once more after so many of its actions on average.
@@ -43,7 +48,8 @@ world(Actions, Changes) ->
     io:format("~b of ~b changed recordings refused~n", [length([yes || true <- Refused]), length(Refused)]),
     element(1, Holds) =:= holds andalso lists:all(fun(IsRefused) -> IsRefused end, Refused).
 
-said({holds, Connections, Happenings}) -> io_lib:format("~b connections, ~b happenings: the audit holds", [Connections, Happenings]);
+said({holds, Connections, Strangers, Happenings}) ->
+    io_lib:format("~b connections, and ~b of strangers, ~b happenings: the audit holds", [Connections, Strangers, Happenings]);
 said({refused, Why}) -> io_lib:format("the audit is refused: ~tp", [Why]).
 
 is_refused(Kind, Recordings, Shown) ->
@@ -56,8 +62,10 @@ is_refused(Kind, Recordings, Shown) ->
 
 %% The kills; and what each emulator shows at the end, and has recorded until then.
 run(Actions) ->
+    Strangers = strangers(),
     Drivers = [spawn_driver(Name, Actions div length(?NAMES)) || Name <- ?NAMES],
     {Nodes, Kills} = lists:unzip([answer_of(Driver, 600000) || Driver <- Drivers]),
+    leave(Strangers),
     made_alike(Nodes),
     all_connect(Nodes),
     Shown = [{Name, shown(Node)} || {Name, Node} <- lists:zip(?NAMES, Nodes)],
@@ -108,7 +116,7 @@ drive(Name, Node, Left, Kills) ->
             receive after rand:uniform(8) - 1 -> drive(Name, Node, Left - 1, Kills) end
     end.
 
-act(Name, Node) -> act(Node, rand:uniform(100), peer(one_of(?NAMES -- [Name]))).
+act(Name, Node) -> act(Node, rand:uniform(100), peer(one_of([?STRANGER | ?NAMES -- [Name]]))).
 
 %% Some of the connects wait for the next full 16 milliseconds, where they meet others.
 act(Node, Kind, Peer) when Kind =< 40 -> begin_call(Node, net_kernel, connect_node, [Peer]);
@@ -123,6 +131,54 @@ begin_call(Node, Module, Function, Arguments) -> test_nodes:call(Node, erlang, s
 
 one_of(List) -> lists:nth(rand:uniform(length(List)), List).
 
+%% ---- strangers
+
+%% An ordinary node, and two processes that connect to the emulators until they are told to leave.
+strangers() ->
+    Node = test_nodes:start(?STRANGER, otp, ?QUIET),
+    ok = file:write_file(log("cookie"), "test"),
+    ok = file:change_mode(log("cookie"), 8#600),
+    {Node, [spawn_link(?MODULE, Does, [Node]) || Does <- [probe, scan]]}.
+
+leave({Node, Doers}) ->
+    [begin Doer ! {self(), leave}, answer_of(Doer, 60000) end || Doer <- Doers],
+    test_nodes:kill(Node).
+
+%% `distping` probes one of the emulators, and the ordinary node connects to one, or disconnects.
+probe(Node) ->
+    Peer = peer(one_of(?NAMES)),
+    begin_call(Node, one_of([net_kernel, net_kernel, erlang]), Peer),
+    _ = os:cmd(os:getenv("DISTPING") ++ " --cookie " ++ log("cookie") ++ " " ++ atom_to_list(Peer) ++ " >/dev/null 2>&1"),
+    goes_on(probe, Node).
+
+begin_call(Node, net_kernel, Peer) -> begin_call(Node, net_kernel, connect_node, [Peer]);
+begin_call(Node, erlang, Peer) -> begin_call(Node, erlang, disconnect_node, [Peer]).
+
+%% Somebody connects to each emulator that is registered, and says something or nothing.
+scan(Node) ->
+    {ok, Registered} = erl_epmd:names({127, 0, 0, 1}),
+    [scan_port(Port) || {Name, Port} <- Registered, lists:member(Name, ?NAMES)],
+    goes_on(scan, Node).
+
+scan_port(Port) ->
+    case gen_tcp:connect({127, 0, 0, 1}, Port, [binary, {active, false}], 1000) of
+        {ok, Socket} ->
+            _ = gen_tcp:send(Socket, one_of(["", "GET / HTTP/1.0\r\n\r\n", <<0, 4, "name">>, <<0, 9, "half">>, name(one_of(?NAMES))])),
+            _ = gen_tcp:recv(Socket, 0, rand:uniform(20)),
+            gen_tcp:close(Socket);
+        {error, _} -> ok
+    end.
+
+name(Name) ->
+    Full = list_to_binary(Name ++ "@127.0.0.1"),
+    Body = <<"N", 16#d07df7fbd:64, 99:32, (byte_size(Full)):16, Full/binary>>,
+    <<(byte_size(Body)):16, Body/binary>>.
+
+goes_on(Does, Node) ->
+    receive {Asker, leave} -> Asker ! {self(), left}
+    after rand:uniform(40) -> ?MODULE:Does(Node)
+    end.
+
 peer(Name) -> list_to_atom(Name ++ "@127.0.0.1").
 
 %% Cookies are the same again, and nobody connects any more but by a call: what is still sent to a node that has just gone would dial it.
@@ -135,7 +191,9 @@ made_alike(Nodes) ->
 all_connect(Nodes) ->
     true = test_nodes:wait(fun() ->
                                    [test_nodes:call(X, net_kernel, connect_node, [test_nodes:name(Y)]) || X <- Nodes, Y <- Nodes, X < Y],
-                                   [length(test_nodes:call(Node, erlang, nodes, [connected])) || Node <- Nodes] =:= [3, 3, 3, 3]
+                                   Names = [test_nodes:name(Node) || Node <- Nodes],
+                                   [length([Y || Y <- test_nodes:call(Node, erlang, nodes, [connected]), lists:member(Y, Names)])
+                                    || Node <- Nodes] =:= [3, 3, 3, 3]
                            end, 20000),
     is_at_rest(Nodes).
 
@@ -156,23 +214,27 @@ addresses(Node, Peer) ->
 
 %% An end is {Node, Life, Id}: which incarnation of which node. lives: how often a node began; connections: of which a process made calls;
 %% dialled: the peer of each end that was dialled; reached: by its addresses, the end that dialled a connection and its number, of so many;
-%% other: the end at the other side; on: the connection of an end, and the addresses of its socket; said: on an end, and not taken yet at
-%% the other side. happened, closed: the lines of the script and of what it prints, the last first.
--record(world, {nodes = #{}, lives = #{}, connections = #{}, dialled = #{}, reached = #{}, number = 0, other = #{}, on = #{}, said = #{},
-                happened = [], closed = []}).
+%% other: the end at the other side; on: the connection of an end (that with a stranger is outside), and the addresses of its socket; said:
+%% on an end, and not taken yet at the other side. strangers: how many connections are outside. happened, closed: the lines of the script and
+%% of what it prints, the last first.
+-record(world, {nodes = #{}, lives = #{}, connections = #{}, dialled = #{}, reached = #{}, number = 0, strangers = 0, other = #{}, on = #{},
+                said = #{}, happened = [], closed = []}).
 
-%% {holds, Connections, Happenings} or {refused, Why}. The script, what it has to print and what it prints are kept beside the logs.
+%% {holds, Connections, Strangers, Happenings} or {refused, Why}. The script, what it has to print and what it prints are kept beside the
+%% logs.
 audit(Recordings, Shown) ->
     try
-        World = #world{happened = Happened} = lists:foldl(fun line/2, #world{}, in_order(Recordings)),
+        World = #world{happened = Happened} = world_of(Recordings),
         ok = file:write_file(log("script"), script(World)),
         ok = file:write_file(log("awaited"), printed(World, Shown)),
         _ = os:cmd("timeout 120 " ++ os:getenv("PROGRAM") ++ " enact <" ++ log("script") ++ " >" ++ log("enacted") ++ " 2>&1"),
         [] = apart(lines_of("enacted"), lines_of("awaited")),
         [] = sockets_apart(World, Shown),
-        {holds, World#world.number, length(Happened)}
+        {holds, World#world.number, World#world.strangers, length(Happened)}
     catch error:Why:Stack -> {refused, {Why, [Place || {?MODULE, _, _, Place} <- Stack]}}
     end.
+
+world_of(Recordings) -> lists:foldl(fun line/2, #world{}, in_order(Recordings)).
 
 lines_of(Name) ->
     {ok, Text} = file:read_file(log(Name)),
@@ -207,7 +269,7 @@ line({_, Node, {_, _, dial, [Peer], {step, Id, _, _, _, _} = Step}}, #world{dial
     W = happen("dial ~b ~s new", [Node, Peer], W0),
     step(Node, Step, W#world{dialled = Dialled#{own_end(Node, Id, W) => Peer}});
 line({_, Node, {_, Pid, opened, [Id], {step, Id, _, _, _, _} = Step}}, W) ->
-    step(Node, Step, happen("opened ~b ~b", [Node, Id], reach(Node, Id, Pid, W)));
+    step(Node, Step, reach(Node, Id, Pid, W));
 line({_, Node, {_, _, arrive, [_, Body, Fresh, Pid], {arrived, Id, Step}}}, W) -> frame(Node, Body, Fresh, Step, accept(Node, Id, Pid, W));
 line({_, Node, {_, _, Call, [Id, Body, Fresh | _], {step, Id, _, _, _, _} = Step}}, W)
   when Call =:= early_body; Call =:= take_body ->
@@ -244,26 +306,46 @@ begins(Node, Creation, Cookie, Setup, #world{nodes = Nodes, lives = Lives} = W0)
             happen("begin_as ~b ~s ~s ~.16b ~b require ~.16b", [Node, Name, Cookie, Flags, Creation, Required], W)
     end.
 
-%% A connection to a peer that never takes its first frame leads to that node, whatever became of it.
+%% A connection to a peer that never takes its first frame leads to that node, whatever became of it; one to any other name is outside.
 reach(Node, Id, Pid, #world{connections = Connections, dialled = Dialled, reached = Reached, number = Number, on = On} = W) ->
     End = own_end(Node, Id, W),
-    Target = node_number(hd(string:split(binary_to_list(map_get(End, Dialled)), "@"))),
     Addresses = map_get({Node, Pid}, Connections),
-    happen("reach ~b ~b ~b", [Node, Id, Target],
-           W#world{reached = Reached#{Addresses => {End, Number}}, number = Number + 1, on = On#{End => {Number, Addresses}}}).
+    case node_number(hd(string:split(binary_to_list(map_get(End, Dialled)), "@"))) of
+        Target when Target < length(?NAMES) ->
+            happen("opened ~b ~b", [Node, Id],
+                   happen("reach ~b ~b ~b", [Node, Id, Target],
+                          W#world{reached = Reached#{Addresses => {End, Number}}, number = Number + 1, on = On#{End => {Number, Addresses}}}));
+        _ -> happen("outside_opened ~b ~b", [Node, Id], is_outside(End, Addresses, W))
+    end.
 
+%% It comes from the end of the four that reached it with its addresses, or from outside.
 accept(Node, Id, Pid, #world{connections = Connections, reached = Reached, other = Other, on = On} = W) ->
     [Own, Remote] = Addresses = map_get({Node, Pid}, Connections),
-    {{Dial, Number}, Left} = maps:take([Remote, Own], Reached),
     End = own_end(Node, Id, W),
-    happen("accept ~b", [Number], W#world{reached = Left, other = Other#{End => Dial, Dial => End}, on = On#{End => {Number, Addresses}}}).
+    case maps:take([Remote, Own], Reached) of
+        {{Dial, Number}, Left} ->
+            happen("accept ~b", [Number], W#world{reached = Left, other = Other#{End => Dial, Dial => End}, on = On#{End => {Number, Addresses}}});
+        error -> happen("outside_incoming ~b", [Node], is_outside(End, Addresses, W))
+    end.
 
-%% The next frame that was said at the other side.
-frame(Node, Body, Fresh, {step, Id, _, _, _, _} = Step, #world{other = Other, said = Said} = W0) ->
-    Sayer = map_get(own_end(Node, Id, W0), Other),
-    [Body | Left] = map_get(Sayer, Said),
-    W = happen("take ~b ~b ~b", [Node, Id, Fresh], happen("deliver ~b ~b ~b", [Node, Id, 2 + byte_size(Body)], W0)),
-    step(Node, Step, W#world{said = Said#{Sayer := Left}}).
+is_outside(End, Addresses, #world{on = On, strangers = Strangers} = W) ->
+    W#world{on = On#{End => {outside, Addresses}}, strangers = Strangers + 1}.
+
+%% The next frame that was said at the other side, or any if that is outside.
+frame(Node, Body, Fresh, {step, Id, _, _, _, _} = Step, #world{other = Other, on = On, said = Said} = W0) ->
+    End = own_end(Node, Id, W0),
+    case map_get(End, On) of
+        {outside, _} -> step(Node, Step, happen("outside_frame ~b ~b ~s ~b", [Node, Id, hex(Body), Fresh], W0));
+        _ ->
+            Sayer = map_get(End, Other),
+            [Body | Left] = map_get(Sayer, Said),
+            W = happen("take ~b ~b ~b", [Node, Id, Fresh], happen("deliver ~b ~b ~b", [Node, Id, 2 + byte_size(Body)], W0)),
+            step(Node, Step, W#world{said = Said#{Sayer := Left}})
+    end.
+
+%% (`-` is no byte)
+hex(<<>>) -> "-";
+hex(Body) -> [io_lib:format("~2.16.0b", [Byte]) || <<Byte>> <= Body].
 
 step(Node, {step, Id, Bodies, Closed, _, Up}, #world{said = Said, closed = Lines} = W0) ->
     End = own_end(Node, Id, W0),
@@ -290,12 +372,14 @@ printed(#world{happened = Happened, closed = Closed} = W, Shown) ->
               || {Name, {Creation, Rows}} <- Shown],
     [lists:reverse(Closed), io_lib:format("applied ~b of ~b~n", [length(Happened), length(Happened)]), Tables, agreements(W, Shown)].
 
-%% All pairs are connected.
+%% All pairs of the four are connected.
 agreements(W, Shown) ->
     [begin
          {Number, _} = map_get(own_end(node_number(Name), Id, W), W#world.on),
          io_lib:format("agree ~s ~s conn ~b common ~16.16.0b creations ~b ~b~n", [peer(Name), Peer, Number, Common, Own, Theirs])
-     end || {Name, {Own, Rows}} <- Shown, {Peer, Id, Common, Theirs, _} <- Rows, atom_to_binary(peer(Name)) < Peer].
+     end || {Name, {Own, Rows}} <- Shown, {Peer, Id, Common, Theirs, _} <- Rows, atom_to_binary(peer(Name)) < Peer, is_one_of_them(Peer)].
+
+is_one_of_them(Peer) -> lists:member(Peer, [atom_to_binary(peer(Name)) || Name <- ?NAMES]).
 
 %% The rows of net_kernel whose socket is not the one of their end.
 sockets_apart(#world{on = On} = W, Shown) ->
@@ -304,15 +388,21 @@ sockets_apart(#world{on = On} = W, Shown) ->
 
 %% ---- a changed recording
 
-%% A frame is taken twice, or not at all, or after the one behind it: any behind which its end takes another one, or is gone.
-changed(Kind, Recordings) ->
+%% A frame of one of the four is taken twice, or not at all, or after the one behind it: any behind which its end takes another one, or is
+%% gone. (Whatever a stranger sends may be sent.)
+changed(Kind, Recordings) -> changed(Kind, Recordings, world_of(Recordings)).
+
+changed(Kind, Recordings, World) ->
     {Name, Lines} = one_of(Recordings),
     {Before, [Line | Behind]} = lists:split(rand:uniform(length(Lines)) - 1, Lines),
     {Between, Next} = lists:splitwith(fun(Other) -> not is_next(Other, Line) end, Behind),
-    case is_frame(Line) andalso changed(Kind, Line, Between, Next) of
-        false -> changed(Kind, Recordings);
+    case is_frame(Line) andalso is_inside(Name, Before, Line, World) andalso changed(Kind, Line, Between, Next) of
+        false -> changed(Kind, Recordings, World);
         Changed -> {lists:keyreplace(Name, 1, Recordings, {Name, Before ++ Changed}), {Name, Line}}
     end.
+
+is_inside(Name, Before, {_, _, _, [Id | _], _}, #world{other = Other}) ->
+    is_map_key({node_number(Name), length([new || {_, _, new, _, _} <- Before]), Id}, Other).
 
 changed(_, _, _, []) -> false;
 changed(_, _, _, [{_, _, new, _, _} | _]) -> false;

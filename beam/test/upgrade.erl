@@ -2,7 +2,8 @@
 %% A rolling upgrade. Four emulators with the carrier act at random (audit). Each in turn is killed and begins again as one of the next
 %% release, the installed one first and then those of the folders that ROOTS names; without such folders as a hidden node, and then as a
 %% shown one again, so with other flags. After each of them all four connect, call one another and agree. Their recordings are audited as
-%% one world, in which a node begins again with another setup, and changed recordings are refused.
+%% one world, in which a node begins again with another setup, and changed recordings are refused. The strangers of an audited run are there,
+%% too.
 -module(upgrade).
 -export([main/0, main/1]).
 
@@ -22,7 +23,11 @@ main([Actions, Seed]) ->
 upgrade(Actions) ->
     [{Kind, Arguments} | Later] = releases(string:lexemes(os:getenv("ROOTS", ""), " ")),
     Begun = [{Name, audit:emulator(Name, Kind, Arguments)} || Name <- audit:names()],
+    Strangers = audit:strangers(),
     Nodes = lists:foldl(fun(Release, Now) -> replace_all(Release, Actions, Now) end, Begun, Later),
+    audit:leave(Strangers),
+    audit:made_alike([Node || {_, Node} <- Nodes]),
+    audit:all_connect([Node || {_, Node} <- Nodes]),
     Shown = [{Name, audit:shown(Node)} || {Name, Node} <- Nodes],
     Recordings = [{Name, audit:recording(Name)} || Name <- audit:names()],
     [test_nodes:kill(Node) || {_, Node} <- Nodes],

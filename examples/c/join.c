@@ -14,6 +14,7 @@
 #include <distnode.h>
 
 #include <arpa/inet.h>
+#include <errno.h>
 #include <netdb.h>
 #include <poll.h>
 #include <stdio.h>
@@ -25,7 +26,7 @@
 #include <time.h>
 #include <unistd.h>
 
-enum { MOST_LINKS = 64, ROOM = 65540, SAY = 1024, COOKIE = 4097, FORGET_EACH = 65536, PING = 2048 };
+enum { MOST_LINKS = 64, ROOM = 65540, SAY = 1024, COOKIE = 4097, FORGET_EACH = 65536, PING = 2048, WRITE_SECONDS = 5 };
 
 /* A connection that carries one end of the node. */
 struct link {
@@ -55,9 +56,13 @@ static uint32_t drawn(void) {
     return challenge;
 }
 
+/* Writes all bytes. -1: a write failed, or the other side read nothing for WRITE_SECONDS. */
 static int write_all(int fd, const uint8_t *bytes, size_t n) {
     while (n) {
-        ssize_t done = send(fd, bytes, n, MSG_NOSIGNAL);
+        struct pollfd it = {.fd = fd, .events = POLLOUT};
+        if (poll(&it, 1, 1000 * WRITE_SECONDS) <= 0) return -1;
+        ssize_t done = send(fd, bytes, n, MSG_NOSIGNAL | MSG_DONTWAIT);
+        if (done < 0 && errno == EAGAIN) continue;
         if (done <= 0) return -1;
         bytes += done, n -= (size_t)done;
     }

@@ -10,7 +10,7 @@ type Code uint32
 
 // The codes that a program distinguishes.
 const (
-	NotANode   Code = C.DN_NOT_A_NODE  // it was let go
+	NotANode   Code = C.DN_NOT_A_NODE  // it was freed
 	NoMemory   Code = C.DN_NO_MEMORY   // the same call does its work once there is some
 	Awaits     Code = C.DN_AWAITS      // the bytes begin with no whole frame: call again with these and those that follow
 	NoSuch     Code = C.DN_NO_SUCH     // a cause, a place or a version names nothing

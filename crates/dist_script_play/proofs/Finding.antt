@@ -27,7 +27,7 @@ entry_some : (x : ℕ) (q o : Option ℕ) → (e : Entry) × (entry_from (Some x
 entry_some x None o = (entry.Up (end_id x), refl)
 entry_some x (Some y) o = (entry.Challenged (end_id x) (end_id y), refl)
 
-entry_there : (es : List End) (p : Name) (i : ℕ) (kept : UpRecord) → slice_get es i ≡ Some (ends.Up kept) → kept.peer ≡ p → (e : Entry) × (entry_in es p ≡ Some e)
+pub entry_there : (es : List End) (p : Name) (i : ℕ) (kept : UpRecord) → slice_get es i ≡ Some (ends.Up kept) → kept.peer ≡ p → (e : Entry) × (entry_in es p ≡ Some e)
 entry_there es p i kept at named =
     let held : holds p Up (ends.Up kept) ≡ true = ap (λ q. same_name p q) named ∙ itself_lem p in
     let f = first_some (holds p Up) es i (ends.Up kept) at held in
@@ -36,7 +36,7 @@ entry_there es p i kept at named =
 
 -- ---- a row of the table
 
-found_at : (p : Name) (e : Entry) (rows : List (Name × Entry)) → find name_cmp p rows ≡ Some e → (k : ℕ) × (q : Name) × (slice_get rows k ≡ Some (q, e)) × (same_name p q ≡ true)
+pub found_at : (p : Name) (e : Entry) (rows : List (Name × Entry)) → find name_cmp p rows ≡ Some e → (k : ℕ) × (q : Name) × (slice_get rows k ≡ Some (q, e)) × (same_name p q ≡ true)
 found_at p e [] is = absurd cc
 found_at p e (r ∷ rows) is =
     elim (same_name p r.0) as (λ v. same_name p r.0 ≡ v → cond v (Some r.1) (find name_cmp p rows) ≡ Some e → (k : ℕ) × (q : Name) × (slice_get (r ∷ rows) k ≡ Some (q, e)) × (same_name p q ≡ true)) [
@@ -50,7 +50,7 @@ behind_there : (a b : ℕ) → a < b → place_behind a (Some b) ≡ Some b
 behind_there a b l = ap (λ v. cond v (Some b) None) (lt-ltb a b l)
 
 -- the node of whoever counts another as up runs
-counting : (w : World) (a b : ℕ) (u : Counts w a b) → node_of w a ≡ Some u.life.node
+pub counting : (w : World) (a b : ℕ) (u : Counts w a b) → node_of w a ≡ Some u.life.node
 counting w a b u = ap (λ o. option_map (λ (l : Life). l.node) (option_and_then (slice_get w.lives) o)) u.runs ∙ ap (option_map (λ (l : Life). l.node)) u.lives
 
 module _ (w : World) (a : ℕ) (n : NodeState) (places : BTreeMap Name ℕ) (there : node_of w a ≡ Some n) (are : ArePlaces places w.setups (length w.setups)) where

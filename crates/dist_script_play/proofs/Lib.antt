@@ -10,3 +10,4 @@ pub mod Faults
 pub mod Printing
 pub mod Finding
 pub mod Pairing
+pub mod Fooled

@@ -25,4 +25,4 @@ pub use Rattle.dist_script_play.specs.Played.{after_step, at_first, behind_text,
 pub use Rattle.dist_script_play.specs.Played.{is_said, line_text, lines_text, open_readers, packets_text, reader_of, readers_to, received, received_frames}
 pub use Rattle.dist_script_play.specs.Played.{received_text, step_text, steps_text, up_in, with_reader, with_received, without_frame}
 pub use Rattle.dist_script_play.specs.Scenes.{BreaksOne, IsBad, IsCut, Plays, PutsOne, PutsOneOn, PutsOnePart, Receives, Stops, StopsWorld, closed_after}
-pub use Rattle.dist_script_play.specs.Worlds.{AreLinesOf, IsReported, PutsAgreements, nodes_from, nodes_text, pairs, places_from, reported_line, with_each}
+pub use Rattle.dist_script_play.specs.Worlds.{AreLinesOf, IsReported, PutsAgreements, PutsFooled, nodes_from, nodes_text, pairs, places_from, reported_line, with_each}

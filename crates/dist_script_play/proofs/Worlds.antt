@@ -1,14 +1,20 @@
 -- What is printed of a world.
-use Rattle.dist_script_play.proofs.Words.{◌≡◌, ℕ, ◌⊎◌, List, [], ◌++◌, length, IfErr, OnOk, IsOk, Some, Ok, Err, Option, Result, refl, ap, subst, inl, inr}
+use Rattle.dist_script_play.proofs.Words.{◌≡◌, ℕ, Bool, IfOk, ◌⊎◌, List, [], ◌++◌, length, IfErr, OnOk, IsOk, Some, Ok, Err, Option, Result, refl, ap, subst, inl, inr}
 use Rattle.dist_script_play.proofs.Words.{⊎_elim, append-nil, Appends-trans, Appends, Setup, count_applied, run, World, empty, Happening, PutsFront}
 use Rattle.dist_script_play.proofs.Words.{ScriptFault, NoMemory, WriteFailed, there, applied_line, Puts, PutsPart, IsEnd, IsPrintedFrom, happenings_text}
-use Rattle.dist_script_play.proofs.Words.{BreaksOne, PutsOne, PutsOneOn, PutsOnePart, PutsAgreements, nodes_text}
+use Rattle.dist_script_play.proofs.Words.{BreaksOne, PutsOne, PutsOneOn, PutsOnePart, PutsAgreements, PutsFooled, nodes_text}
 use Rattle.dist_script_play.proofs.Pages.{line_lost, put_on_page, broken_on_page, puts_more, part_more, whole, breaks_off}
 
 -- its end
-pub ends : (w : World) (applied all : ℕ) (a b c d : Option (List ℕ)) → Appends a b (applied_line applied all) → Appends b c (nodes_text w) → PutsAgreements w c d → PutsOne (IsEnd w applied all) a d
-ends w applied all a b c d p q r =
-    (applied_line applied all ++ nodes_text w ++ r.0, (r.0, r.1, refl), Appends-trans a c d (applied_line applied all ++ nodes_text w) r.0 (Appends-trans a b c (applied_line applied all) (nodes_text w) p q) r.2)
+pub ends : {E : Type 0} (r : Result Bool E) (w : World) (applied all : ℕ) (a b c d e : Option (List ℕ)) → Appends a b (applied_line applied all) → Appends b c (nodes_text w)
+    → PutsAgreements w c d → IfOk r (λ any. PutsFooled w any d e) → IsOk r → PutsOne (IsEnd w applied all) a e
+ends (Ok any) w applied all a b c d e p q r s ok =
+    let front = applied_line applied all ++ nodes_text w in (
+      front ++ r.0 ++ s.0,
+      (r.0, s.0, any, r.1, s.1, refl),
+      Appends-trans a d e (front ++ r.0) s.0 (Appends-trans a c d front r.0 (Appends-trans a b c (applied_line applied all) (nodes_text w) p q) r.2) s.2,
+    )
+ends (Err f) w applied all a b c d e p q r s ok = absurd cc
 
 -- on a page
 pub end_put : {X E : Type 0} (r : Result X E) (w : World) (applied all : ℕ) (a b : Option (List ℕ)) (p q x y : List ℕ)

@@ -14,6 +14,7 @@ use Rattle.dist_script_play.specs.Worlds.{AreLinesOf, with_each, places_from}
 pub record ArePlaces (places : BTreeMap Name ℕ) (setups : List Setup) (count : ℕ) : Type 0 where
   pub known : (b : ℕ) (s : Setup) → b < count → slice_get setups b ≡ Some s → get name_cmp places s.name ≡ Some b
   pub within : (p : Name) (b : ℕ) → get name_cmp places p ≡ Some b → b < count
+  pub named : (p : Name) (b : ℕ) (s : Setup) → get name_cmp places p ≡ Some b → slice_get setups b ≡ Some s → s.name ≡ p
 
 -- the place of the peer of a row
 abbrev pub place_of : BTreeMap Name ℕ → Option (Name × Entry) → Option ℕ

@@ -132,3 +132,7 @@ agree_line a b g = concat (
     ∷ codes " common " ∷ flags_text g.common
     ∷ codes " creations " ∷ creation_text g.creation_a ∷ codes " " ∷ creation_text g.creation_b
     ∷ codes "\n" ∷ [])
+
+-- fooled NAME NAME
+abbrev pub fooled_line : Name → Name → List ℕ
+fooled_line a b = concat (codes "fooled " ∷ a ∷ codes " " ∷ b ∷ codes "\n" ∷ [])

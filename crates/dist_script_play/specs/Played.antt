@@ -18,7 +18,7 @@ use Rattle.dist_script.specs.declared.fault.ScriptFault.{ScriptFault, TheVariant
 use Rattle.dist_script.specs.declared.script.ScriptLine.{ScriptLine}
 use Rattle.dist_script.specs.declared.script.ScriptLine.TheVariants as line
 use Rattle.dist_script_play.specs.Lines.{reply_line, refused_line, skipped_line, table_text, closed_line, applied_line}
-use Rattle.dist_script_play.specs.Worlds.{nodes_text, AreAgreements}
+use Rattle.dist_script_play.specs.Worlds.{nodes_text, AreAgreements, AreFooled}
 
 -- ---- what the ends of a node have received
 
@@ -187,7 +187,9 @@ happenings_text w (h ∷ hs) = closed_by (applied_at w h) ++ happenings_text (ha
 
 -- what is printed at the end of a world in which this many of all happenings applied
 abbrev pub IsEnd : World → ℕ → ℕ → List ℕ → Type 0
-IsEnd w applied all text = (agreements : List ℕ) × AreAgreements w agreements × (text ≡ applied_line applied all ++ nodes_text w ++ agreements)
+IsEnd w applied all text =
+    (agreements fooled : List ℕ) × (any : Bool) × AreAgreements w agreements × AreFooled w any fooled
+    × (text ≡ applied_line applied all ++ nodes_text w ++ agreements ++ fooled)
 
 -- what these happenings print, from this world on, and what is printed at the end
 abbrev pub IsPrintedFrom : World → List Happening → List ℕ → Type 0

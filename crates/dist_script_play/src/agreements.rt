@@ -35,7 +35,10 @@ fn put_place(
 }
 
 // The place of each node by its name. No world has two nodes of one name: that would be reported.
-fn places(alloc: Global, setups: &[Setup]) -> Result<BTreeMap<NodeName, usize>, ScriptFault>
+pub(crate) fn places(
+    alloc: Global,
+    setups: &[Setup],
+) -> Result<BTreeMap<NodeName, usize>, ScriptFault>
     ensures { IfOk result (λ places. ArePlaces places setups.now (length setups.now)) }
 {
     order_of_names();

@@ -6,6 +6,7 @@
 #![tactic(auto)]
 
 mod agreements;
+mod fooled;
 mod nodes;
 mod page;
 mod playing;
@@ -15,6 +16,7 @@ mod scene;
 mod stage;
 
 pub use agreements::print_agreements;
+pub use fooled::print_fooled;
 pub use nodes::print_nodes;
 pub use playing::enact;
 pub use scene::NodeScene;

@@ -7,7 +7,7 @@ ghost use Rattle.dist_core_ends.specs.Ends.{table_of};
 ghost use Rattle.dist_script.specs.Texts.{text_of, texts_of};
 ghost use Rattle.dist_script_play.specs.Lines.{creation_text, said_text, saying_text, closed_text, up_text, reply_line, busy_text, detail_text};
 ghost use Rattle.dist_script_play.specs.Lines.{refused_line, entry_text, record_at, record_text, row_text, found_text, table_text};
-ghost use Rattle.dist_script_play.specs.Lines.{node_text, closed_line, applied_line, skipped_line, agree_line};
+ghost use Rattle.dist_script_play.specs.Lines.{node_text, closed_line, applied_line, skipped_line, agree_line, fooled_line};
 
 use dist_core::{Node, Reply, StepError, UpRecord, Why};
 use dist_names::{Creation, NodeName};
@@ -376,6 +376,26 @@ pub fn agreement<'n, W: Write>(
             creation(found.creation_a),
             Piece::Text(b" "),
             creation(found.creation_b),
+            Piece::Text(b"\n"),
+        ],
+    )
+}
+
+/// That a node takes somebody outside the world for another one.
+pub fn fooled_node<'n, W: Write>(
+    out: &mut W,
+    a: &'n NodeName,
+    b: &'n NodeName,
+) -> Result<(), ScriptFault>
+    ensures { OnOk result (Appends (W.contents out.old) (W.contents out.new) (fooled_line a.now b.now)) }
+{
+    put(
+        out,
+        &[
+            Piece::Text(b"fooled "),
+            Piece::Text(a.bytes()),
+            Piece::Text(b" "),
+            Piece::Text(b.bytes()),
             Piece::Text(b"\n"),
         ],
     )

@@ -8,7 +8,7 @@ ghost use Rattle.dist_script_play.specs.Scenes.{closed_after, PutsOne, PutsOneOn
 ghost use Rattle.dist_script_play.specs.{Played.happenings_text, Played.IsEnd, Played.IsPrintedFrom, Pages.Puts, Pages.PutsPart};
 
 use crate::page::{Printout, on_page};
-use crate::{print, print_agreements, print_nodes};
+use crate::{print, print_agreements, print_fooled, print_nodes};
 use dist_core::Setup;
 use dist_script::ScriptFault;
 use dist_world::{Happening, World, WorldError};
@@ -118,6 +118,7 @@ fn print_end<W: Write>(
     print::write_applied(out, applied, all)?;
     print_nodes(world, out)?;
     print_agreements(alloc, world, out)?;
+    print_fooled(alloc, world, out)?;
     Ok(())
 }
 

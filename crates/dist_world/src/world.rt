@@ -55,8 +55,7 @@ impl World {
     }
 
     /// Lets these happenings happen in turn, and returns how many applied. One that does not apply changes nothing: among
-    /// others a begin after 1,048,576 of them, a reach after 1,048,576 connections, and anything after 2^62 happenings that
-    /// applied.
+    /// others a begin after 2^48 of them, a reach after 2^48 connections, and anything after 2^62 happenings that applied.
     ///
     /// It fails only where memory runs out, and the world then stands after the first `done` happenings of the list: no happening
     /// applies in part, and the others can be run from there.

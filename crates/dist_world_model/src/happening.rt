@@ -14,7 +14,7 @@ use dist_peers::EndId;
 #[derive(Drop)]
 pub enum Happening {
     /// The node, which does not run, begins anew with this creation, and no ends. The setup's own creation is not used, and
-    /// one may be used again. A world has at most 1,048,576 begins.
+    /// one may be used again. A world has at most 2^48 begins.
     Begin {
         node: usize,
         creation: Creation,
@@ -41,7 +41,7 @@ pub enum Happening {
         end_: EndId,
     },
     /// The dialled end, which waits for its connection and has none, gets the next one. It leads to the running incarnation
-    /// of this target, whoever was dialled. A world has at most 1,048,576 connections.
+    /// of this target, whoever was dialled. A world has at most 2^48 connections.
     Reach {
         node: usize,
         end_: EndId,
@@ -85,7 +85,7 @@ pub enum Happening {
         change: Change,
     },
     /// Somebody who is no node of the world, as any other node or a port scanner, does this to a running node: `Incoming`, where
-    /// the link is 1,048,576 or more; `Opened`, at a dialled end that has no connection of the world; `Frame`, at an end that has
+    /// the link is 2^48 or more; `Opened`, at a dialled end that has no connection of the world; `Frame`, at an end that has
     /// none. It applies where the step succeeds. What the end says goes to nobody of the world.
     Outside {
         node: usize,

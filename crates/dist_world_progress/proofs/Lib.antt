@@ -23,4 +23,3 @@ pub mod Quiet
 pub mod Undisturbed
 pub mod Fair
 pub mod Doing
-pub mod Apart

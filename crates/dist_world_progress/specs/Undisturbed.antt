@@ -7,7 +7,6 @@ use Rattle.dist_world_model.specs.declared.happening.Happening.TheVariants as ha
 use Rattle.dist_world_model.specs.{Agreement.AllFit, Agreement.Fits, Agreement.IsUp, World.World, World.Life, World.Conn, World.running}
 use Rattle.dist_world_model.specs.{Happenings.applied_at, Happenings.happens, Happenings.most_applied, Run.run}
 use Rattle.dist_core.specs.{Effects.fresh_attempt, Node.is_crowded, Node.is_full_for, Node.is_given_out}
-use Rattle.dist_core.specs.declared.event.Event.TheVariants as event
 use Rattle.dist_core_ends.specs.Ends.{entry_in}
 use Rattle.dist_core_ends.specs.declared.known.End.TheVariants as ends
 use Rattle.dist_world_progress.specs.Connecting.{Fit, HoldsPeer, opening_between}
@@ -141,33 +140,3 @@ pub record CanBeDone (w : World) (x y c : ℕ) : Type 0 where
 abbrev pub LeftCanBeDone : World → Type 0
 LeftCanBeDone w = (x y c : ℕ) (k : Conn) → slice_get w.conns c ≡ Some k → IsWaiting w c → HasSteps w x k.life 1 → (t : HasSteps w y k.target 1)
     → (k.accepted ≡ None → (is_given_out t.life.node ≡ false) × (is_crowded t.life.node ≡ false)) → w.clock + 2 ≤ most_applied → CanBeDone w x y c
-
--- ---- who disturbs nobody
-
--- the node is another one than x and y
-abbrev pub IsElsewhere : ℕ → ℕ → ℕ → Type 0
-IsElsewhere x y node = (node ≢ x) × (node ≢ y)
-
--- THE HAPPENING IS OF ANOTHER NODE, OR SERVES connection c, which is k; or a connection comes about or is accepted, or bytes come; or
--- somebody outside connects
-abbrev pub IsApart : ℕ → ℕ → ℕ → Conn → Happening → Type 0
-IsApart x y c k (happening.Halt node) = IsElsewhere x y node
-IsApart x y c k (happening.Dial node peer opening) = IsElsewhere x y node
-IsApart x y c k (happening.Tick node id) = IsElsewhere x y node
-IsApart x y c k (happening.Lose node id why) = IsElsewhere x y node
-IsApart x y c k (happening.Reset node v) = IsElsewhere x y node
-IsApart x y c k (happening.Opened node id) = IsElsewhere x y node ⊎ Serves x y c k (happening.Opened node id)
-IsApart x y c k (happening.Take node id fresh) = IsElsewhere x y node ⊎ Serves x y c k (happening.Take node id fresh)
-IsApart x y c k (happening.Outside node (event.Incoming link) fresh) = Unit {0}
-IsApart x y c k (happening.Outside node v fresh) = IsElsewhere x y node
-IsApart x y c k h = Unit {0}
-
--- each of them is such
-abbrev pub AreApart : ℕ → ℕ → ℕ → List Happening → World → Type 0
-AreApart x y c [] w = Unit {0}
-AreApart x y c (h ∷ hs) w = ((k : Conn) → slice_get w.conns c ≡ Some k → IsApart x y c k h) × AreApart x y c hs (happens w h)
-
--- SUCH HAPPENINGS DISTURB NOBODY, where nothing stands between the two nodes before
-abbrev pub ApartUndisturbed : World → Type 0
-ApartUndisturbed w = (x y c : ℕ) (sx sy : Setup) (hs : List Happening) → x ≢ y → Fit sx sy → IsDialled w c sx sy → IsQuiet w x y c sx sy → AllFit hs
-    → AreApart x y c hs w → IsUndisturbed x y c sx sy hs w

@@ -8,7 +8,7 @@ ghost use Rattle.dist_core_setup.specs.declared.setup.Setup.{Setup};
 ghost use Rattle.dist_world_model.specs.Agreement.{AreSetups, AllFit, IsReached};
 ghost use Rattle.dist_world_model.specs.{declared.happening.Happening.Happening, World.World, World.empty, Run.run};
 ghost use Rattle.dist_world_progress.specs.Connecting.{Fit, IsPlain, NodesCanConnect, NodesCanReturn, UsualNodesHaveRoom};
-ghost use Rattle.dist_world_progress.specs.Undisturbed.{ApartUndisturbed, FairComeUp, LeftCanBeDone, UndisturbedComeUp};
+ghost use Rattle.dist_world_progress.specs.Undisturbed.{FairComeUp, LeftCanBeDone, UndisturbedComeUp};
 ghost use Rattle.dist_world_progress.specs.Progress.{NoHandshakeHangs, OneSidedAwaitAck, DueIsTaken, HandshakesCanBeDecided, frames_taken};
 
 use dist_world_model::nodes_keep_laws;
@@ -132,17 +132,6 @@ pub fn what_is_left_can_be_done()
     ensures runs { (setups : List Setup) (happenings : List Happening) → AreSetups setups → AllFit happenings
         → LeftCanBeDone (run happenings (empty setups)) }
     ensures reached { (w : World) → IsReached w → LeftCanBeDone w }
-{
-    nodes_keep_laws();
-}
-
-/// WHO DISTURBS NOBODY. If nothing stands between x and y, and the happenings are of other nodes, or serve the connection that x
-/// dialled, or bring connections and bytes, nobody disturbs it in their course: at x and y nothing is lost, reset, dialled or ended,
-/// and nobody outside is reached or heard.
-pub fn other_happenings_disturb_nobody()
-    ensures runs { (setups : List Setup) (happenings : List Happening) → AreSetups setups → AllFit happenings
-        → ApartUndisturbed (run happenings (empty setups)) }
-    ensures reached { (w : World) → IsReached w → ApartUndisturbed w }
 {
     nodes_keep_laws();
 }

@@ -71,7 +71,7 @@ page_at target ready figures =
 unfoldable pub head_text : List ℕ → ℕ → List ℕ
 head_text status count =
     codes "HTTP/1.1 " ++ (status ++ (codes "\r\nContent-Type: text/plain; version=0.0.4; charset=utf-8\r\nContent-Length: "
-    ++ (decimal count ++ codes "\r\nConnection: close\r\n\r\n")))
+    ++ (decimal count ++ codes "\r\nAllow: GET, HEAD\r\nConnection: close\r\n\r\n")))
 
 -- the whole answer, with its body if that is wanted; the connection is closed after it
 abbrev pub answer_text : FigurePage → Bool → List ℕ
@@ -83,7 +83,7 @@ abbrev pub page_text : List ℕ → Bool → List ℕ → List ℕ
 page_text head ready figures =
     if starts_with ◌==◌ head (codes "GET ") then answer_text (page_at (drop 4 head) ready figures) true else (
     if starts_with ◌==◌ head (codes "HEAD ") then answer_text (page_at (drop 5 head) ready figures) false else
-    answer_text (codes "405 Method Not Allowed\r\nAllow: GET, HEAD", codes "GET and HEAD alone are served\n") true)
+    answer_text (codes "405 Method Not Allowed", codes "GET and HEAD alone are served\n") true)
 
 -- whether a text begins with a line feed and then another, with or without a carriage return before it
 abbrev pub is_empty_line_next : List ℕ → Bool

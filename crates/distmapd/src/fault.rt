@@ -25,6 +25,9 @@ pub enum Fault {
     /// It can't listen at the place of the figures.
     #[error("MetricsFailed: the port of -metrics is taken, or the address is not of this host")]
     MetricsFailed,
+    /// Behind the descriptors that `-metrics` reserves none is left for a client.
+    #[error("NoDescriptors: beside those that -metrics reserves no descriptor is left for a client: raise ulimit -n")]
+    NoDescriptors,
     /// The system doesn't report what is ready.
     #[error("ServeFailed")]
     ServeFailed,

@@ -233,6 +233,14 @@ fn run<R: Net + Wait + Clock>(
     }
 }
 
+// Whether a client of the port mapper can be served, beside those of the monitor.
+fn is_client_possible(beside: &Beside) -> bool {
+    match &beside.monitor {
+        Some(monitor) => monitor.leaves_one(),
+        None => true,
+    }
+}
+
 // Reports that the program listens, and serves until the system fails.
 fn serve_from_now<R: Wait + Clock>(
     rt: &HostRuntime,
@@ -240,6 +248,9 @@ fn serve_from_now<R: Wait + Clock>(
     server: &mut Server,
     beside: &mut Beside,
 ) -> Result<(), Fault> {
+    if !is_client_possible(beside) {
+        return Err(Fault::NoDescriptors);
+    }
     report_ready(rt)?;
     match serve(host, rt.alloc(), server, beside) {
         Ok(()) => Ok(()),

@@ -1,6 +1,7 @@
 //! Monitoring clients are answered at a port of their own, on the same thread, which never waits for one.
 
 ghost use Rattle.std.specs.Prelude.{◌≤◌, IfSome};
+ghost use Rattle.distmapd.specs.declared.monitor.TheConstants.{SEATS};
 
 use crate::metrics::figures_text;
 use crate::page::{is_whole, page_text};
@@ -113,6 +114,11 @@ impl Monitor {
         })
     }
 
+    /// Whether a descriptor is left for a client of the port mapper.
+    pub fn leaves_one(&self) -> bool {
+        self.spares.is_one_left()
+    }
+
     /// Asks the server to report connections to the listener. `false` if the system refuses.
     pub fn watch(&self, server: &Server) -> bool {
         server.watch_other(self.listener.as_raw_fd(), 0)
@@ -120,7 +126,7 @@ impl Monitor {
 
     // Makes room for one more client, and returns a free place, counted from 1.
     fn find_place(&mut self) -> Option<usize>
-        ensures { IfSome result (λ place. (1 ≤ place) × (place ≤ 8)) }
+        ensures { IfSome result (λ place. (1 ≤ place) × (place ≤ SEATS)) }
     {
         if self.seats.len() >= SEATS {
             let _ = self.seats.remove(0);

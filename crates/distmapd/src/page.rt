@@ -39,13 +39,14 @@ fn page_at<'a>(target: &[u8], is_ready: bool, figures: &'a str) -> FigurePage<'a
     }
 }
 
-// The head of an answer with a body of this many bytes; a status may have a header line after it.
+// The head of an answer with a body of this many bytes.
 #[tactic(auto, unfolding(crate::specs::Metrics::head_text))]
 fn head_text(alloc: Global, status: &str, length: usize) -> Result<String, AllocError>
     ensures { IfOk result (λ text. string_bytes text ≡ head_text status.now length) }
 {
     format!(in alloc;
-        "HTTP/1.1 {status}\r\nContent-Type: text/plain; version=0.0.4; charset=utf-8\r\nContent-Length: {length}\r\nConnection: close\r\n\r\n"
+        "HTTP/1.1 {status}\r\nContent-Type: text/plain; version=0.0.4; charset=utf-8\r\nContent-Length: {length}\r\n\
+         Allow: GET, HEAD\r\nConnection: close\r\n\r\n"
     )
 }
 
@@ -77,7 +78,7 @@ pub fn page_text(
     if let Some(target) = head.strip_prefix(b"HEAD ") {
         return answer_text(alloc, page_at(target, is_ready, figures), false);
     }
-    let status = "405 Method Not Allowed\r\nAllow: GET, HEAD";
+    let status = "405 Method Not Allowed";
     answer_text(alloc, (status, "GET and HEAD alone are served\n"), true)
 }
 

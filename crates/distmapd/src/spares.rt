@@ -32,6 +32,16 @@ impl Spares {
         }
     }
 
+    /// Whether one more can be had.
+    pub fn is_one_left(&self) -> bool {
+        let fd = os::duplicate(self.of);
+        if fd < 0 {
+            return false;
+        }
+        let _ = libc::close(fd);
+        true
+    }
+
     /// Gives all of them back.
     pub fn release(&mut self) {
         for fd in &self.held {
