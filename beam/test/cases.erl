@@ -272,7 +272,7 @@ nok_without_end() ->
 %% By a node whose net_setuptime is 2 seconds.
 is_given_up(A, Name) ->
     {Microseconds, false} = c(A, timer, tc, [net_kernel, connect_node, [Name]]),
-    true = Microseconds < 4000000 orelse {late, Name, Microseconds},
+    true = Microseconds < 6000000 orelse {late, Name, Microseconds},
     agreed([A]),
     Microseconds div 1000.
 
