@@ -184,22 +184,24 @@ static ERL_NIF_TERM done(ErlNifEnv *env, kept *k, const char *call, int argc, co
     return answer;
 }
 
-/* The descriptor of a regular file to be appended to, or -1. Another file might hold the emulator up: a FIFO does while nobody reads it. */
-static int open_regular(const char *name) {
+/* The descriptor of a regular file to be appended to, or -1. Another kind of file might hold the emulator up: a FIFO does while nobody
+ * reads it. Where others may read the file, or have put it or a link there, it gets no cookies. */
+static int open_own(const char *name) {
     struct stat is;
-    int file = open(name, O_WRONLY | O_CREAT | O_APPEND | O_CLOEXEC | O_NONBLOCK, 0600);
-    if (file < 0 || (!fstat(file, &is) && S_ISREG(is.st_mode))) return file;
+    int file = open(name, O_WRONLY | O_CREAT | O_APPEND | O_CLOEXEC | O_NONBLOCK | O_NOFOLLOW, 0600);
+    if (file < 0) return -1;
+    if (!fstat(file, &is) && S_ISREG(is.st_mode) && is.st_uid == geteuid() && is.st_nlink == 1 && !(is.st_mode & 077)) return file;
     (void)close(file);
     return -1;
 }
 
-/* recording(File): from now on the calls are recorded there, behind what the file has. It has cookies: its owner alone may read it. */
+/* recording(File): from now on the calls are recorded there, behind what the file has. It has cookies. */
 static ERL_NIF_TERM nif_recording(ErlNifEnv *env, int argc, const ERL_NIF_TERM argv[]) {
     shared *s = enif_priv_data(env);
     char file[4096];
     (void)argc;
     if (enif_get_string(env, argv[0], file, sizeof file, ERL_NIF_LATIN1) <= 0) return enif_make_badarg(env);
-    if (s->recording < 0) s->recording = open_regular(file);
+    if (s->recording < 0) s->recording = open_own(file);
     return s->recording >= 0 ? a_ok : a_error;
 }
 

@@ -24,7 +24,7 @@ accept(Transport, Kernel, Acceptor, {Accepted, Begun}, MyNode, Allowed, SetupTim
         {refused, Peer, Code} ->
             distnode_access:report(Peer, Code),
             exit(shutdown);
-        {closed, Why, Peer} -> closed(Why, Peer)
+        {closed, Why, Peer, Flags} -> closed(Why, Peer, Flags)
     end.
 
 %% Until net_kernel takes the peer, a setup of its own does, or the timer ends this process.
@@ -66,13 +66,14 @@ receive_first(Transport, Socket, Length, Wait) ->
     after 0 -> Transport:recv(Socket, Length, Wait)
     end.
 
--spec closed(term(), binary() | none) -> no_return().
-closed(Why, Peer) ->
+-spec closed(term(), binary() | none, non_neg_integer()) -> no_return().
+closed(Why, Peer, Flags) ->
     case Why of
         'WrongDigest' ->
             error_logger:error_msg("** Connection attempt from node ~ts rejected. Invalid challenge reply. **~n",
                                    [distnode_access:quoted(Peer)]);
-        'Refused' -> distnode_access:report_refused(Peer);
+        _ when Why =:= 'Refused'; Why =:= 'WrongFlags' -> distnode_access:report_refused(Peer, Flags);
+        not_taken -> distnode_access:report_not_taken(Peer);
         _ -> ok
     end,
     exit(shutdown).

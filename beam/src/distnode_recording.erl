@@ -18,7 +18,8 @@ start() ->
     end.
 
 say(ok, _) -> ok;
-say(error, File) -> error_logger:error_msg("** distnode: nothing is recorded, since ~ts is no regular file that can be written **~n", [File]).
+say(error, File) ->
+    error_logger:error_msg("** distnode: nothing is recorded, since ~ts is no regular file that this user alone can use **~n", [File]).
 
 %% The caller has this connection, and has made no call for it yet.
 -spec connection(module(), term()) -> ok.

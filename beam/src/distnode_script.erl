@@ -11,7 +11,6 @@
 -export([other_started/6, we_started/6]).
 
 -include_lib("kernel/include/dist_util.hrl").
--include_lib("kernel/include/dist.hrl").
 
 -define(KEY, distnode_script).
 
@@ -111,7 +110,13 @@ recv(dialled, [<<$r, _/binary>> | _], Script) ->
 %% Until the node says the reply to the peer's challenge.
 await_challenge(Script) ->
     Body = next(activate(Script), Script),
-    Bodies = go_on(take(Body, Script), Script),
+    case take(Body, Script) of
+        %% The end is closed. dist_util finds which flags the peer lacks, says so, and ends the dial.
+        {closed, [], 'WrongFlags', _} -> foreseen(Body, Script);
+        Step -> answer_challenge(Body, go_on(Step, Script), Script)
+    end.
+
+answer_challenge(Body, Bodies, Script) ->
     case {say(Bodies, Script), [reply || <<$r, _/binary>> <- Bodies]} of
         {ok, []} -> await_challenge(Script);
         {ok, _} ->
@@ -156,9 +161,7 @@ go_on({error, Code}, _) -> throw({distnode, {failed, Code}}).
 foreseen(<<$N, Flags:64, _Challenge:32, Creation:32, _/binary>>, Script) -> foreseen(Flags, Creation, Script);
 foreseen(<<$n, _Version:16, Flags:32, _/binary>>, Script) -> foreseen(Flags, unknown, Script).
 
-foreseen(Flags, Creation, #{flags := Own} = Script) when Flags band ?DFLAG_MANDATORY_25_DIGEST =/= 0 ->
-    Script#{common => Own band (Flags bor ?MANDATORY_DFLAGS_25), creation => Creation};
-foreseen(Flags, Creation, #{flags := Own} = Script) -> Script#{common => Own band Flags, creation => Creation}.
+foreseen(Flags, Creation, #{flags := Own} = Script) -> Script#{common => Own band distnode_access:whole(Flags), creation => Creation}.
 
 %% dist_util announces what the node has announced: one set of flags, for all peers. It would do otherwise of a hidden dial, and of a peer
 %% outside of a hidden global group.

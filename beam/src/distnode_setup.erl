@@ -10,14 +10,12 @@
 %% A peer that says nok dials itself, and its connection is on its way. If it doesn't come in so many milliseconds, the peer's
 %% dial has failed, and this node dials again.
 -define(WAIT_FOR_OTHER, 300).
-%% A peer that takes an attempt's place again and again is given up after so many.
--define(MOST_ATTEMPTS, 100).
 
 %% The own dial: `dialler` finds the peer until it has handed the socket over. end_of: its end, or one that another process has made
 %% ready, and socket: that end's {Transport, Socket}. cookie: the one with which the dial was wanted. over: the end that was up when
-%% net_kernel started this process.
--record(setup, {transport, driver, kernel, node, peer, over, type, my_node, name, host, wait, cookie, dialler = none, end_of = none,
-                socket = none, left = ?MOST_ATTEMPTS}).
+%% net_kernel started this process. until: when all attempts together have had the time of a setup.
+-record(setup, {transport, driver, kernel, node, peer, over, type, my_node, name, host, wait, until, cookie, dialler = none, end_of = none,
+                socket = none}).
 
 start(Transport, Driver, Node, Type, MyNode, LongOrShort, SetupTime) ->
     Over = distnode_core:up_end(atom_to_binary(Node, utf8)),
@@ -28,7 +26,11 @@ setup(Transport, Driver, Kernel, Node, Over, Type, MyNode, LongOrShort, SetupTim
     {Name, Host} = distnode_address:parts(Driver, Node, LongOrShort),
     not_hidden(Type, Node),
     want(#setup{transport = Transport, driver = Driver, kernel = Kernel, node = Node, peer = atom_to_binary(Node, utf8), over = Over,
-                type = Type, my_node = MyNode, name = Name, host = Host, wait = SetupTime}).
+                type = Type, my_node = MyNode, name = Name, host = Host, wait = SetupTime, until = now_ms() + SetupTime}).
+
+now_ms() -> erlang:monotonic_time(millisecond).
+
+left(#setup{until = Until}) -> max(0, Until - now_ms()).
 
 %% The node has one set of flags for all its dials, so it can't hide from one peer.
 not_hidden(hidden, Node) ->
@@ -40,44 +42,48 @@ not_hidden(hidden, Node) ->
     end;
 not_hidden(_, _) -> ok.
 
-want(#setup{left = 0} = S) -> failed(S, gave_up);
-want(#setup{peer = Peer, over = Over, left = Left, wait = Wait} = S0) ->
+want(S) -> want(left(S), S).
+
+want(0, S) -> failed(S, gave_up);
+want(_, #setup{peer = Peer, over = Over} = S0) ->
     #{cookie := Cookie} = Access = distnode_access:of_peer(Peer, []),
-    S = S0#setup{left = Left - 1, cookie = Cookie},
+    S = S0#setup{cookie = Cookie},
     ok = distnode_core:want(Access, Over),
     receive
         {distnode, {dial, End}} -> dial_now(End, S)
-    after 0 -> await(S, Wait)
+    after 0 -> await(S)
     end.
 
-%% A dial has its times for the port mapper, the connection and the handshake; without one this process waits for an end that
-%% somebody else has with that peer.
+%% The resolver and the port mapper have no limit of their own, and end with this process.
 dial_now(End, #setup{transport = Transport, driver = Driver, name = Name, host = Host, wait = Wait} = S) ->
     Dialler = spawn_opt(?MODULE, dial, [self(), End, {Transport, Driver, Name, Host, Wait}], distnode_carrier:setup_options()),
-    await(S#setup{dialler = Dialler, end_of = End#{peer => S#setup.peer, cookie => S#setup.cookie}}, 6 * Wait).
+    await(S#setup{dialler = Dialler, end_of = End#{peer => S#setup.peer, cookie => S#setup.cookie}}).
 
-await(#setup{transport = Transport, dialler = Dialler} = S, Wait) ->
+%% Without a dial this process waits for an end that somebody else has with that peer.
+await(#setup{transport = Transport, dialler = Dialler} = S) ->
     receive
-        {distnode, Message} -> receive_message(Message, S, Wait);
-        {Dialler, {connected, Socket}} -> bring_up(S#setup{dialler = none, socket = {Transport, Socket}});
+        {distnode, Message} -> receive_message(Message, S);
+        {Dialler, {connected, Socket}} -> bring_up(S#setup{dialler = none, socket = {Transport, Socket}}, left(S));
         {Dialler, {failed, Why}} -> failed(S, Why)
-    after Wait -> failed(S, gave_up)
+    after left(S) -> failed(S, gave_up)
     end.
 
-receive_message({dial, End}, S, _) -> dial_now(End, end_dial(S));
-receive_message({ready, Transport, Socket, Info}, S, _) -> bring_up((end_dial(S))#setup{end_of = Info, socket = {Transport, Socket}});
-receive_message({failed, Code}, S, _) ->
-    distnode_access:report(S#setup.peer, Code),
+%% An end that is ready has shown the cookie, and what is left to do has its whole time.
+receive_message({dial, End}, S) -> dial_now(End, end_dial(S));
+receive_message({ready, Transport, Socket, Info}, #setup{wait = Wait} = S) ->
+    bring_up((end_dial(S))#setup{end_of = Info, socket = {Transport, Socket}}, Wait);
+receive_message({failed, Code}, #setup{node = Node} = S) ->
+    distnode_access:report(Node, Code),
     failed(S, Code);
-receive_message(again, S, _) -> want(end_dial(S));
-receive_message({closed, Id, _}, #setup{end_of = #{id := Id}} = S, _) -> want(end_dial(S));
+receive_message(again, S) -> want(end_dial(S));
+receive_message({closed, Id, _}, #setup{end_of = #{id := Id}} = S) -> want(end_dial(S));
 %% An end that another process was to hand over, and without a dial that was all there was to wait for.
-receive_message({closed, _, _}, #setup{end_of = none} = S, _) -> want(S);
-receive_message({closed, _, _}, S, Wait) -> await(S, Wait).
+receive_message({closed, _, _}, #setup{end_of = none} = S) -> want(S);
+receive_message({closed, _, _}, S) -> await(S).
 
 %% dist_util brings the peer up by this process's end. Of the own dial the dialler has made the first step, by which the name is said, and
 %% this process makes the others, in distnode_script.
-bring_up(#setup{kernel = Kernel, socket = {Transport, Socket}, end_of = End, wait = Wait} = S) ->
+bring_up(#setup{kernel = Kernel, socket = {Transport, Socket}, end_of = End} = S, Wait) ->
     Timer = dist_util:start_timer(Wait),
     try distnode_script:we_started(Transport, Kernel, Socket, End, {S#setup.my_node, S#setup.node, S#setup.type}, Timer)
     catch
@@ -86,7 +92,7 @@ bring_up(#setup{kernel = Kernel, socket = {Transport, Socket}, end_of = End, wai
             over(Why, S)
     end.
 
-over({message, Message}, S) -> receive_message(Message, S, S#setup.wait);
+over({message, Message}, S) -> receive_message(Message, S);
 over({closed, 'StatusRefused', nok}, S) -> await_other(end_dial(S));
 over({closed, Why, _}, S) when Why =:= 'Crossed'; Why =:= 'Replaced'; Why =:= 'GaveUp' -> want(end_dial(S));
 over({closed, Why, _}, S) -> failed(end_dial(S), Why);
@@ -95,7 +101,7 @@ over(gone, S) -> want(end_dial(S)).
 
 await_other(S) ->
     receive
-        {distnode, {ready, _, _, _} = Ready} -> receive_message(Ready, S, S#setup.wait)
+        {distnode, {ready, _, _, _} = Ready} -> receive_message(Ready, S)
     after ?WAIT_FOR_OTHER -> want(S)
     end.
 

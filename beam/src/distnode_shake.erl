@@ -10,13 +10,15 @@
 
 -include_lib("kernel/include/dist.hrl").
 
-%% timer: the one of dist_util, started while the peer is at its reply. begun: which node may take the connection.
+%% flags: what the peer announces, all until it does. timer: the one of dist_util, started while the peer is at its reply. begun: which
+%% node may take the connection.
 -record(shake, {transport :: module(), socket :: term(), own_end = none :: distnode_core:own_end() | none, wait :: timeout(),
-                peer = none :: binary() | none, timer = none :: pid() | none, begun :: non_neg_integer()}).
+                peer = none :: binary() | none, flags = 16#FFFFFFFFFFFFFFFF :: non_neg_integer(), timer = none :: pid() | none,
+                begun :: non_neg_integer()}).
 
 -type outcome() ::
     {ready, distnode_core:info(), Timer :: pid()} |
-    {closed, Why :: term(), Peer :: binary() | none} |      % the socket is closed, too
+    {closed, Why :: term(), Peer :: binary() | none, Flags :: non_neg_integer()} |  % the socket is closed, too
     {refused, Peer :: binary() | none, Code :: atom()} |    % and so it is here
     {nameless, Frame :: binary()}.                          % here it is open
 
@@ -35,13 +37,22 @@ accepted(Transport, {Socket, Begun}, Allowed, Wait) ->
     end.
 
 named(Body, none, _, #shake{begun = Begun} = S) -> arrived(distnode_core:arrived(Body, none, Begun), none, S);
-named(Body, Peer, Allowed, #shake{begun = Begun} = S) ->
+named(Body, {Peer, Flags}, Allowed, #shake{transport = Transport, socket = Socket} = S) ->
+    case distnode_access:is_taken(Peer) of
+        true -> introduced(Body, Peer, Allowed, S#shake{peer = Peer, flags = Flags});
+        false ->
+            %% It has no end of the node, and this is what OTP's carrier says.
+            _ = say(Transport, Socket, [<<"snok">>]),
+            shut(not_taken, S#shake{peer = Peer})
+    end.
+
+introduced(Body, Peer, Allowed, #shake{begun = Begun} = S) ->
     #{cookie := Cookie} =
         Access = case distnode_access:of_peer(Peer, Allowed) of
                      #{allowed := true} = Listed -> Listed#{allowed := is_certified(Peer, S)};
                      Other -> Other
                  end,
-    arrived(distnode_core:arrived(Body, Access, Begun), Cookie, S#shake{peer = Peer}).
+    arrived(distnode_core:arrived(Body, Access, Begun), Cookie, S).
 
 %% Where there is an allow list: has the peer shown a certificate of the host in its name, if any?
 is_certified(Name, #shake{transport = Transport, socket = Socket}) ->
@@ -54,9 +65,13 @@ arrived({error, Code}, _, S) -> taken({error, Code}, S).
 go_on(S0) ->
     #shake{own_end = End} = S = with_timer(S0),
     case await(activate([], S), S) of
-        {frame, Body} -> taken(distnode_core:early(Body, End), S);
+        {frame, Body} -> taken(distnode_core:early(Body, End), complemented(Body, S));
         Closed -> Closed
     end.
+
+%% Behind an older name the higher flags come with the complement.
+complemented(<<$c, High:32, _/binary>>, #shake{flags = Flags} = S) -> S#shake{flags = High bsl 32 bor (Flags band 16#FFFFFFFF)};
+complemented(_, S) -> S.
 
 activate(Options, #shake{transport = Transport, socket = Socket}) -> Transport:setopts(Socket, Options ++ [{active, once}]).
 
@@ -105,9 +120,9 @@ given_up(Why, #shake{own_end = End} = S) ->
     _ = [distnode_core:lost(Id) || #{id := Id} <- [End]],
     shut(Why, S).
 
-shut(Why, #shake{transport = Transport, socket = Socket, peer = Peer}) ->
+shut(Why, #shake{transport = Transport, socket = Socket, peer = Peer, flags = Flags}) ->
     _ = Transport:close(Socket),
-    {closed, Why, Peer}.
+    {closed, Why, Peer, Flags}.
 
 -spec say(module(), term(), [binary()]) -> ok | {error, term()}.
 say(_, _, []) -> ok;

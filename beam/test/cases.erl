@@ -5,6 +5,8 @@
 -export([main/0, main/1, main/2, between/2, after_a_change/3, came/2, comes_up/3]).
 -export([with/2, connect/2, both_up/2, apart/2, agreed/1, copy/2]).
 
+-include_lib("kernel/include/dist.hrl").
+
 -define(FLAGS, 16#d07df7fbd).   % those that OTP 25 announces, DFLAG_PUBLISHED among them
 
 %% global's own links would connect again what a case has disconnected.
@@ -47,6 +49,8 @@ common(Mapper) ->
      {"two_carriers", fun() -> with_tls("0", fun two_carriers/0) end},
      {"addresses_as_of_ordinary_nodes", fun addresses/0},
      {"dials_leave_nothing", fun dials_leave_nothing/0},
+     {"dead_host", fun() -> dead_host(Mapper) end},
+     {"nok_without_end", fun() -> with_tls("0", fun nok_without_end/0) end},
      {"crossing_dials", fun() -> crossing(ours, ours, 60) end},
      {"crossing_dials_ordinary_lesser", fun() -> crossing(otp, ours, 40) end},
      {"crossing_dials_ordinary_greater", fun() -> crossing(ours, otp, 40) end},
@@ -65,6 +69,8 @@ common(Mapper) ->
      {"all_cookies_are_lent", fun all_lent/0},
      {"names_in_the_log", fun() -> names_in_the_log(Mapper) end},
      {"name_beyond_ascii", fun() -> beyond_ascii(Mapper) end},
+     {"names_that_net_kernel_refuses", fun() -> not_taken(Mapper) end},
+     {"flags_that_are_missing", fun() -> with_tls("0", fun() -> missing_flags(Mapper) end) end},
      {"started_at_run_time", fun started_at_run_time/0},
      {"allow_list_at_run_time", fun allow_list/0},
      {"veto_before_acknowledgement", fun() -> veto(Mapper) end},
@@ -231,6 +237,44 @@ dials_leave_nothing() ->
                  agreed([A]),
                  true = test_nodes:wait(fun() -> case Size() of Now when Now =< Before -> true; Now -> {Before, Now} end end, 5000)
          end).
+
+%% A host that is gone takes no connection at its port mapper's port, and one that is frozen takes it and says nothing. A dial has the time
+%% of one setup, net_setuptime, until it has a connection.
+dead_host(Mapper) ->
+    Dead = other_side:full({127, 0, 0, 4}, Mapper),
+    {ok, Silent} = gen_tcp:listen(Mapper, [{ip, {127, 0, 0, 5}}]),
+    with([{"a", ours, ["-kernel", "net_setuptime", "2" | ?QUIET]}],
+         fun([A]) ->
+                 Took = [is_given_up(A, Name) || Name <- ['x@127.0.0.4', 'x@127.0.0.5']],
+                 [gen_tcp:close(Socket) || Socket <- [Silent | Dead]],
+                 {said, "given up after ~p ms", [Took]}
+         end).
+
+%% Whoever answers in the place of a node says that this is about to dial itself, at once or after a while, and it never does: all attempts
+%% together have the time of one setup.
+nok_without_end() ->
+    with([{"a", ours, ["-epmd_module", "relay_epmd", "-kernel", "net_setuptime", "2" | ?QUIET]}],
+         fun([A]) ->
+                 Took = [begin
+                             {Pid, Port} = other_side:accepts(fun(Socket) ->
+                                                                      {ok, <<$N, _/binary>>} = other_side:recv(Socket, 5000),
+                                                                      receive after After -> other_side:send(Socket, <<"snok">>) end,
+                                                                      other_side:recv(Socket, 60000)
+                                                              end),
+                             ok = c(A, relay_epmd, instead, ["x", Port]),
+                             Time = is_given_up(A, 'x@127.0.0.1'),
+                             exit(Pid, kill),
+                             Time
+                         end || After <- [0, 700]],
+                 {said, "given up after ~p ms", [Took]}
+         end).
+
+%% By a node whose net_setuptime is 2 seconds.
+is_given_up(A, Name) ->
+    {Microseconds, false} = c(A, timer, tc, [net_kernel, connect_node, [Name]]),
+    true = Microseconds < 6000000 orelse {late, Name, Microseconds},
+    agreed([A]),
+    Microseconds div 1000.
 
 %% Both sides connect at one moment, give or take 0.2 milliseconds: both answer true, and both hold the same connection.
 crossing(KindA, KindB, Rounds) ->
@@ -579,14 +623,70 @@ names_in_the_log(Mapper) ->
 
 %% OTP takes a name with a letter of Latin-1, and the library doesn't: the log says so, in words of its own.
 beyond_ascii(Mapper) ->
-    with([{"a", ours, ?QUIET}],
+    with([{"a", ours, ["-epmd_module", "relay_epmd" | ?QUIET]}],
          fun([A]) ->
                  Socket = other_side:connect(other_side:port_of("a", Mapper)),
                  ok = other_side:say_name(Socket, ?FLAGS, <<"e@b1", 16#E9>>),
                  <<"not_allowed">> = other_side:status(Socket),
                  other_side:close(Socket),
                  true = test_nodes:has_logged(A, "the name of node 'e@b1.*' has characters other than printable ASCII"),
-                 nomatch = re:run(test_nodes:log(A), "disallowed")
+                 nomatch = re:run(test_nodes:log(A), "disallowed"),
+                 %% who dials logs it as one letter, here in UTF-8
+                 ok = c(A, io, setopts, [user, [{encoding, unicode}]]),
+                 ok = c(A, relay_epmd, instead, ["d", 1]),
+                 false = connect_to(A, list_to_atom("d@b.1" ++ [16#E9])),
+                 true = test_nodes:has_logged(A, "the name of node 'd@b.1\\xC3\\xA9' or of this node can't be used")
+         end).
+
+%% The emulator takes no peer with a dot before its @, and none with its own name: OTP's carrier logs the same, once for each attempt.
+not_taken(Mapper) ->
+    with([{"a", ours, ?QUIET}, {"o", otp, ?QUIET}],
+         fun([A, O]) ->
+                 Status = fun(Short, Name) ->
+                                  Socket = other_side:connect(other_side:port_of(Short, Mapper)),
+                                  ok = other_side:say_name(Socket, ?FLAGS, Name),
+                                  Said = other_side:status(Socket),
+                                  {error, closed} = other_side:recv(Socket, 5000),
+                                  other_side:close(Socket),
+                                  Said
+                          end,
+                 [begin
+                      [true = lists:member(Status(Short, Name), [<<"nok">> | Also])
+                       || {Name, Also} <- [{<<"my.app@127.0.0.1">>, []}, {atom_to_binary(n(X)), [<<"not_allowed">>]}]],
+                      [begin
+                           true = test_nodes:has_logged(X, ["Cannot get connection id for node '", Name, "'"]),
+                           {match, [_]} = re:run(test_nodes:log(X), ["node '", Name], [global])
+                       end || Name <- ["my.app@127.0.0.1", atom_to_list(n(X))]],
+                      nomatch = re:run(test_nodes:log(X), "disallowed")
+                  end || {Short, X} <- [{"o", O}, {"a", A}]],
+                 agreed([A])
+         end).
+
+%% A peer of an earlier release lacks flags that this one requires. Who accepts and who dials log that in the words of OTP's carrier.
+missing_flags(Mapper) ->
+    Flags = ?FLAGS band bnot (?DFLAG_MANDATORY_25_DIGEST bor ?DFLAG_BIT_BINARIES bor ?DFLAG_MAP_TAG),
+    with([{"a", ours, ["-epmd_module", "relay_epmd" | ?QUIET]}, {"o", otp, ["-epmd_module", "relay_epmd" | ?QUIET]}],
+         fun([A, O]) ->
+                 [begin
+                      Named = other_side:connect(other_side:port_of(Short, Mapper)),
+                      ok = other_side:say_name(Named, Flags, <<"p@127.0.0.1">>),
+                      <<"not_allowed">> = other_side:status(Named),
+                      other_side:close(Named),
+                      {Pid, Port} = other_side:accepts(fun(Socket) ->
+                                                               {ok, <<$N, _/binary>>} = other_side:recv(Socket, 5000),
+                                                               ok = other_side:send(Socket, <<"sok">>),
+                                                               ok = other_side:say_challenge(Socket, Flags, <<"q@127.0.0.1">>),
+                                                               {error, closed} = other_side:recv(Socket, 5000)
+                                                       end),
+                      ok = c(X, relay_epmd, instead, ["q", Port]),
+                      false = connect_to(X, 'q@127.0.0.1'),
+                      exit(Pid, kill),
+                      [true = test_nodes:has_logged(X, ["\\*\\* '", Short, "@127.0.0.1': Connection attempt ", Way, " since it cannot handle "
+                                                        "\\[\"MAP_TAG\",\\s*\"BIT_BINARIES\"]\\."])
+                       || Way <- ["from node 'p@127.0.0.1' rejected", "to node 'q@127.0.0.1' aborted"]],
+                      nomatch = re:run(test_nodes:log(X), "disallowed")
+                  end || {Short, X} <- [{"o", O}, {"a", A}]],
+                 agreed([A])
          end).
 
 %% The distribution begins and ends at run time, more than once, and under another name too.
@@ -973,16 +1073,24 @@ killed_core() ->
                  agreed([B])
          end).
 
-%% A recording is a regular file: a FIFO that nobody reads would hold the emulator up. The node starts without a recording.
+%% A recording is a regular file: a FIFO that nobody reads would hold the emulator up. It has cookies, so it is no file that others can
+%% read, have given another name, or have put a link to in its place. The node starts without a recording.
 recording_elsewhere() ->
-    Fifo = filename:join(os:getenv("LOGS"), "fifo"),
+    [Fifo, Open, Twice, Other, Link] =
+        Files = [filename:join(os:getenv("LOGS"), Name) || Name <- ["fifo", "open", "twice", "other", "link"]],
     "" = os:cmd("mkfifo " ++ Fifo),
-    with([{Short, ours, ["-kernel", "distnode_recording", [$", File, $"] | ?QUIET]} || {Short, File} <- [{"a", Fifo}, {"b", "/dev/null"}]],
-         fun([A, B]) ->
-                 true = test_nodes:has_logged(A, "nothing is recorded, since .*/fifo is no regular file"),
-                 true = test_nodes:has_logged(B, "nothing is recorded, since /dev/null is no regular file"),
+    [ok = file:write_file(File, "") || File <- [Open, Twice]],
+    [ok = file:change_mode(File, Mode) || {File, Mode} <- [{Open, 8#644}, {Twice, 8#600}]],
+    ok = file:make_link(Twice, Other),
+    ok = file:make_symlink("nowhere", Link),
+    Places = lists:zip(["a", "b", "c", "d", "e"], ["/dev/null" | Files -- [Other]]),
+    with([{Short, ours, ["-kernel", "distnode_recording", [$", File, $"] | ?QUIET]} || {Short, File} <- Places],
+         fun([A, B | _] = Nodes) ->
+                 [true = test_nodes:has_logged(X, ["nothing is recorded, since ", File, " is no regular file"])
+                  || {X, {_, File}} <- lists:zip(Nodes, Places)],
                  true = connect(A, B),
-                 agreed([A, B])
+                 agreed([A, B]),
+                 [] = [File || File <- [Open, Twice, filename:join(filename:dirname(Link), "nowhere")], filelib:file_size(File) > 0]
          end).
 
 %% The library's module is loaded anew from other folders while a peer is connected: one calls load/0, one leaves that to its first call;

@@ -3,6 +3,7 @@
 %% between a node and its peer that can stop without a word.
 -module(other_side).
 -export([port_of/2, connect/1, send/2, recv/2, close/1, say_name/3, status/1, challenge/1, reply/3, ack/2, is_silent/2]).
+-export([accepts/1, say_challenge/3, full/2]).
 -export([relay/1, freeze/1]).
 
 %% The port of a node at the port mapper.
@@ -40,6 +41,8 @@ close(Socket) ->
 
 say_name(Socket, Flags, Name) -> send(Socket, <<$N, Flags:64, 7:32, (byte_size(Name)):16, Name/binary>>).
 
+say_challenge(Socket, Flags, Name) -> send(Socket, <<$N, Flags:64, 42:32, 7:32, (byte_size(Name)):16, Name/binary>>).
+
 status(Socket) ->
     {ok, <<$s, Status/binary>>} = recv(Socket, 5000),
     Status.
@@ -58,6 +61,32 @@ ack(Socket, Cookie) ->
 digest(Cookie, Challenge) -> erlang:md5([Cookie, integer_to_list(Challenge)]).
 
 is_silent(Socket, Wait) -> recv(Socket, Wait) =:= {error, timeout}.
+
+%% Takes connections, over TCP alone, and does this with each: {Pid, Port}.
+accepts(Body) ->
+    {ok, Listen} = gen_tcp:listen(0, [binary, {packet, 2}, {active, false}, {ip, {127, 0, 0, 1}}]),
+    {ok, Port} = inet:port(Listen),
+    Pid = spawn(fun() -> accepts(Listen, Body) end),
+    ok = gen_tcp:controlling_process(Listen, Pid),
+    {Pid, Port}.
+
+accepts(Listen, Body) ->
+    {ok, Socket} = gen_tcp:accept(Listen),
+    Pid = spawn_link(fun() -> receive taken -> Body(Socket) end end),
+    ok = gen_tcp:controlling_process(Socket, Pid),
+    Pid ! taken,
+    accepts(Listen, Body).
+
+%% A port to which no further connection comes, as to one of a host that is gone: its sockets, until they are closed.
+full(Address, Port) ->
+    {ok, Listen} = gen_tcp:listen(Port, [{ip, Address}, {backlog, 0}]),
+    [Listen | fill(Address, Port)].
+
+fill(Address, Port) ->
+    case gen_tcp:connect(Address, Port, [], 300) of
+        {ok, Socket} -> [Socket | fill(Address, Port)];
+        {error, timeout} -> []
+    end.
 
 %% ---- the relay: it carries bytes to a port until it freezes, and then it reads nothing more and closes nothing
 
