@@ -139,16 +139,16 @@ pub fn audit(alloc: Global, closed: &[Closed]) -> Result<World, AuditError>
 pub struct Audited {
     /// The world. `World::is_fooled` says whether a node takes one of the others for another node.
     pub world: World,
-    /// In how many connections others took part: those that just one of the nodes knows.
+    /// In how many connections others took part: those that are not dialled once and come once.
     pub strangers: usize,
 }
 
 /// The same where others took part, of whom there is no history: Erlang nodes, say, or whoever looks for open ports. What the histories
-/// say of a link that just one of the nodes knows, in an `Opened` or in an `Incoming` line, and of the frames of its end, is what
+/// say of a link that is not dialled once and come once, in an `Opened` or in an `Incoming` line, and of the frames of its end, is what
 /// somebody outside did (`Happening::Outside`). All else is looked at as `audit` does, so of two nodes of the world holds what holds
 /// in every world (`World::run`, clauses `agree` and `strangers`).
 ///
-/// `Unpaired` is returned only for too many nodes, two of one name, and a link that was dialled twice or came twice.
+/// `Unpaired` is returned only for too many nodes, and for two of one name.
 #[tactic(auto, using(crate::proofs::Faultless::fault_reports))]
 pub fn audit_among_others(alloc: Global, closed: &[Closed]) -> Result<Audited, AuditError>
     ensures world { IfOk result (λ a. IsWorldAmong closed.now a.world a.strangers) }

@@ -18,7 +18,7 @@ fn end_number(node: usize, id: EndId) -> u128
     node as u128 * 4294967296 + id.0 as u128
 }
 
-// Adds the end of a line, if just one of the nodes knows its link.
+// Adds the end of a line, if its link is not dialled once and come once.
 fn add_end(lines: &Lines, ends: &mut BTreeSet<u128>, noted: &NodeLine) -> Result<(), AllocError>
     ensures { OnOk result ((n : ℕ) → contains nat_cmp ends.new n ≡ (is_strange_at lines.now n noted.now || contains nat_cmp ends.old n)) }
 {
