@@ -99,11 +99,14 @@ static long threads_besides(void) {
   return found;
 }
 
+/* Those that an emulator has beside the program's, before its `main` begins; without one there are none. */
+static long threads_of_emulator;
+
 static void end(void) {
   counts = 0;
-  for (int wait = 0; threads_besides() && wait < MILLISECONDS; wait++)
+  for (int wait = 0; threads_besides() > threads_of_emulator && wait < MILLISECONDS; wait++)
     usleep(1000);
-  report->threads = threads_besides();
+  report->threads = threads_besides() - threads_of_emulator;
   for (int file = 3; file < 1024; file++) {
     struct stat about;
     report->sockets += !fstat(file, &about) && S_ISSOCK(about.st_mode);
@@ -118,6 +121,7 @@ void _exit(int status) {
 }
 
 static int begin(int count, char **words, char **environment) {
+  threads_of_emulator = threads_besides();
   counts = 1;
   int status = program(count, words, environment);
   end();

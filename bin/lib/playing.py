@@ -16,6 +16,8 @@ import threading
 import time
 
 HOST = "127.0.0.1"
+# Whether an emulator runs the programs (bin/check_arm64): its memory, threads and waits are not theirs.
+IS_EMULATED = "EMULATED" in os.environ
 ROOT = os.path.dirname(os.path.dirname(os.path.dirname(os.path.realpath(__file__))))
 
 
