@@ -156,7 +156,7 @@ begin_call(Node, erlang, Peer) -> begin_call(Node, erlang, disconnect_node, [Pee
 
 %% Somebody connects to each emulator that is registered, and says something or nothing.
 scan(Node) ->
-    {ok, Registered} = erl_epmd:names({127, 0, 0, 1}),
+    Registered = case erl_epmd:names({127, 0, 0, 1}) of {ok, Names} -> Names; {error, _} -> [] end,
     [scan_port(Port) || {Name, Port} <- Registered, lists:member(Name, ?NAMES)],
     goes_on(scan, Node).
 
