@@ -54,7 +54,11 @@ says_refused cs e a b reports first p = (refusal_text e cs, (reports, first, ref
 -- the world, and what is printed of others
 pub among : (w : World) (count : ℕ) (any : Bool) (a b c d e : Option (List ℕ)) → Puts (IsHeld w) a b → Appends b c (strangers_line count) → PutsFooled w any c d → Appends d e (fooled_end any) → Puts (IsAmong w count any) a e
 among w count any a b c d e p q r s =
-    (p.0 ++ strangers_line count ++ r.0 ++ fooled_end any, (p.0, r.0, p.1, r.1, refl), Appends-trans a b e p.0 _ p.2 (in_three b c d e (strangers_line count) r.0 (fooled_end any) q r.2 s))
+    let line = strangers_line count in (
+      p.0 ++ line ++ r.0 ++ fooled_end any,
+      (p.0, r.0, p.1, r.1, refl),
+      Appends-trans a d e (p.0 ++ line ++ r.0) (fooled_end any) (in_three a b c d p.0 line r.0 p.2 q r.2) s,
+    )
 
 -- where the audit holds among others, and nobody is fooled, and where a node is
 pub says_among : (cs : List Closed) (w : World) (count : ℕ) (a b : Option (List ℕ)) → IsWorldAmong cs w count → FoolsNobody w → Puts (IsAmong w count false) a b

@@ -140,7 +140,6 @@ fn print_nobody<W: Write>(out: &mut W, is_fooled: bool) -> Result<(), ScriptFaul
 }
 
 // Prints the world, in how many connections others took part, and for which nodes they are taken. Returns whether there is one.
-#[tactic(auto, using(crate::proofs::Printing::among))]
 fn print_among<W: Write>(alloc: Global, out: &mut W, found: &Audited) -> Result<bool, ScriptFault>
     ensures text { IfOk result (λ is. Puts (IsAmong found.now.world found.now.strangers is) (W.contents out.old) (W.contents out.new)) }
     ensures nobody { IfOk result (λ is. is ≡ false → FoolsNobody found.now.world) }
@@ -169,7 +168,7 @@ fn print_refused<W: Write>(
 }
 
 // Audits closed nodes among which others took part, and prints the result. Returns what is against them, if anything is.
-#[tactic(auto, using(crate::proofs::Printing::says_among, crate::proofs::Printing::says_fooled))]
+#[tactic(auto, using(crate::proofs::Printing::says_fooled))]
 fn audit_others<W: Write>(
     alloc: Global,
     out: &mut W,
