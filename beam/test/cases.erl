@@ -229,6 +229,8 @@ dials_leave_nothing() ->
                         end,
                  Size = fun() -> erts_debug:flat_size(c(A, sys, get_state, [distnode_core])) end,
                  true = connect(A, B),
+                 %% (what is still sent to a node that has just gone would dial it)
+                 [ok = c(Node, application, set_env, [kernel, dist_auto_connect, never]) || Node <- [A, B]],
                  apart(A, B),
                  Dial(0),
                  agreed([A]),
