@@ -1,16 +1,13 @@
 -- Members that come one behind the other, and the line of the object that they make.
-use Rattle.std.proofs.Common.{◌≡◌, ◌+◌, ◌<◌, ℕ, List, [], ◌∷◌, ◌++◌, Bool, cond, Result, Ok, Err, OnOk, filter, get_or, length, map, take, refl, sym, ap, ◌∙◌, subst, append_assoc, append-nil}
-use Rattle.std.proofs.lemmas.List.{map-append, take_more}
+use Rattle.std.proofs.Common.{◌≡◌, ◌+◌, ◌<◌, ℕ, List, [], ◌∷◌, ◌++◌, Bool, cond, Result, Ok, Err, OnOk, filter, get_or, length, map, take, refl, sym, ap, ◌∙◌, append_assoc, append-nil}
+use Rattle.std.proofs.lemmas.List.{map-append}
 use Rattle.std.proofs.lemmas.List.Elements.{filter_more}
 use Rattle.std.specs.Borrow.{Bor}
 use Rattle.dist_flags.specs.{Names.flag_of, Names.name_of, declared.dflag.Dflag.Dflag}
 use Rattle.dist_names.specs.Flags.{has_all}
 use Rattle.json.specs.{Token.Token, Tree.json_tokens, Tree.items_tokens, Tree.members_tokens, Written.Written, Written.Writes}
-use Rattle.dist_cluster.specs.declared.summary.WordCount.{WordCount}
-use Rattle.distping_report.specs.Layouts.{counts_layout}
-use Rattle.distping_report.specs.Objects.{Shape, number, texts, object, objects, Layout, no_member, member, Layouts, no_object, one_object, texts_in, json_of, members_in, objects_in, names_among, shape_of, layout_of, front, object_tokens, PutsValue, PutsMembers, PutsObjects}
+use Rattle.distping_report.specs.Objects.{Shape, texts, object, objects, Layout, no_member, member, Layouts, no_object, one_object, texts_in, json_of, members_in, objects_in, names_among, shape_of, layout_of, front, object_tokens, PutsValue, PutsMembers, PutsObjects}
 use Rattle.distping_report.specs.declared.objects.member.Value.{Value}
-use Rattle.distping_report.specs.declared.objects.member.Value.TheVariants as value
 
 -- ---- one behind the other
 
@@ -32,10 +29,6 @@ puts_both {l} {more} {a} {b} {c} p q = record {
   tokens = q.tokens ∙ ap (λ ts. ts ++ front more) p.tokens ∙ append_assoc a.tokens (front l) (front more) ∙ ap (λ ts. a.tokens ++ ts) (sym (front-and_then l more));
   before = q.before ∙ p.before;
 }
-
--- the same members
-pub puts_same : {l m : Layout} {a b : Written} → l ≡ m → PutsMembers l a b → PutsMembers m a b
-puts_same {l} {m} {a} {b} e p = subst (λ k. PutsMembers k a b) e p
 
 -- a name and then its value
 pub puts_one : {s : Shape} {a b c : Written} (name : List ℕ) → b.tokens ≡ a.tokens ++ Token.key name ∷ [] → b.before ≡ a.before → PutsValue s b c → PutsMembers (member name s no_member) a c
@@ -117,34 +110,23 @@ pub writes_one : {E : Type 0} (s : Shape) (old named new : Written) (name : List
 writes_one s old named new name (Ok x) is before v = puts_one name is before v
 writes_one s old named new name (Err e) is before v = tt
 
--- members and then the last ones
-pub writes_last : {E : Type 0} {l : Layout} {a b : Written} (more : Layout) (c : Written) (r : Result (Unit {0}) E) → PutsMembers l a b → OnOk r (PutsMembers more b c) → OnOk r (PutsMembers (and_then l more) a c)
-writes_last more c (Ok x) p q = puts_both p q
-writes_last more c (Err e) p q = tt
-
 -- ---- lists of objects
 
--- a name, and a list of objects from bracket to bracket
-pub writes_list : {E : Type 0} {ls : Layouts} (old named opened last new : Written) (name : List ℕ) (r : Result (Unit {0}) E) → named.tokens ≡ old.tokens ++ Token.key name ∷ [] → named.before ≡ old.before
-    → opened.tokens ≡ named.tokens ++ Token.begin_array ∷ [] → opened.before ≡ named.before → PutsObjects ls opened last → Writes r last new Token.end_array
-    → OnOk r (PutsMembers (member name (objects ls) no_member) old new)
-writes_list {E} {ls} old named opened last new name (Ok x) is before begun kept p w =
-    let whole : PutsValue (objects ls) named new = record {
-      tokens = bracketed (objects ls) named opened last new Token.begin_array Token.end_array (object_tokens ls) begun p.tokens w.ok (ap (λ ts. Token.begin_array ∷ ts) (items_tokens-objects ls));
-      before = w.room.0 ∙ p.before ∙ kept;
-    } in
-    puts_one name is before whole
-writes_list old named opened last new name (Err e) is before begun kept p w = tt
+-- a list of objects, from bracket to bracket
+pub writes_objects : {E : Type 0} {ls : Layouts} (old opened last new : Written) (r : Result (Unit {0}) E) → opened.tokens ≡ old.tokens ++ Token.begin_array ∷ [] → opened.before ≡ old.before
+    → PutsObjects ls opened last → Writes r last new Token.end_array → OnOk r (PutsValue (objects ls) old new)
+writes_objects {E} {ls} old opened last new (Ok x) begun kept p w = record {
+  tokens = bracketed (objects ls) old opened last new Token.begin_array Token.end_array (object_tokens ls) begun p.tokens w.ok (ap (λ ts. Token.begin_array ∷ ts) (items_tokens-objects ls));
+  before = w.room.0 ∙ p.before ∙ kept;
+}
+writes_objects old opened last new (Err e) begun kept p w = tt
 
--- one word more
-pub counts_more : (counts : List WordCount) (c : WordCount) → counts_layout (counts ++ c ∷ []) ≡ and_then (counts_layout counts) (member c.word.now (number c.count) no_member)
-counts_more [] c = refl
-counts_more (d ∷ counts) c = ap (member d.word.now (number d.count)) (counts_more counts c)
+pub puts_no_object : (w : Written) → PutsObjects no_object w w
+puts_no_object w = record { tokens = sym (append-nil w.tokens); before = refl }
 
--- the same, of the members that were made of the words so far
-pub counts_pushed : (counts : List WordCount) (i : ℕ) (d : WordCount) (members : List (Bor (List ℕ) × Value)) (m : Bor (List ℕ) × Value) → i < length counts → layout_of members ≡ counts_layout (take i counts)
-    → m ≡ (let c = get_or counts i d in (c.word, value.Number c.count)) → layout_of (members ++ m ∷ []) ≡ counts_layout (take (i + 1) counts)
-counts_pushed counts i d members m lt before is =
-    layout_of-push members m ∙ ap (λ l. and_then l (member m.0.now (shape_of m.1) no_member)) before
-    ∙ ap (λ (n : Bor (List ℕ) × Value). and_then (counts_layout (take i counts)) (member n.0.now (shape_of n.1) no_member)) is
-    ∙ sym (counts_more (take i counts) (get_or counts i d)) ∙ ap counts_layout (sym (take_more counts i d lt))
+-- one object, and then the others
+pub puts_first_object : {l : Layout} {ls : Layouts} {a b c : Written} → PutsValue (object l) a b → PutsObjects ls b c → PutsObjects (one_object l ls) a c
+puts_first_object {l} {ls} {a} {b} {c} p q = record {
+  tokens = q.tokens ∙ ap (λ ts. ts ++ object_tokens ls) p.tokens ∙ append_assoc a.tokens (json_tokens (json_of (object l))) (object_tokens ls);
+  before = q.before ∙ p.before;
+}

@@ -150,6 +150,12 @@ abbrev mutual
   object_levels no_object = 0
   object_levels (one_object l ls) = max (suc (layout_levels l)) (object_levels ls)
 
+-- one member of this name was appended
+pub record PutsNamed (name : List ℕ) (old new : Written) : Type 0 where
+  pub shape : Shape
+  pub flat : levels shape ≤ 3
+  pub put : PutsMembers (member name shape no_member) old new
+
 -- if an object was begun and these members were written, the line is that object
 abbrev pub EndsLine : Written → List ℕ → Type 0
 EndsLine last line = (begun : Written) → BeginsLine begun → (l : Layout) → layout_levels l < max_depth → PutsMembers l begun last → IsObjectLine l line

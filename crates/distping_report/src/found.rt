@@ -2,7 +2,7 @@
 
 ghost use Rattle.std.specs.Prelude.{◌≡◌, None, option_map};
 ghost use Rattle.dist_talk.specs.Described.{view_of};
-ghost use Rattle.distping_report.specs.Found.{described_in, status_in};
+ghost use Rattle.distping_report.specs.Found.{described_in};
 
 use dist_epmd::PortInfo;
 use dist_messages::{Message, Side, Status};
@@ -37,9 +37,7 @@ impl Found {
     }
 
     /// The status with which the node answered.
-    pub fn status(&self) -> Option<Status>
-        ensures { result ≡ status_in self.now.handshake }
-    {
+    pub fn status(&self) -> Option<Status> {
         match self.handshake.as_ref()?.acceptor.first()?.content {
             SentContent::Message(Message::Status(status)) => Some(status),
             _ => None,
@@ -88,9 +86,7 @@ impl Caller {
     }
 
     /// What the node that dialled says of itself.
-    pub fn peer(&self) -> Option<NodeDescription<'_>>
-        ensures { option_map view_of result ≡ described_in Side.Dialler self.now.handshake }
-    {
+    pub fn peer(&self) -> Option<NodeDescription<'_>> {
         self.handshake.as_ref()?.description_of(Side::Dialler)
     }
 }

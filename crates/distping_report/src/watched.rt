@@ -1,8 +1,5 @@
 //! What was observed of a watched node.
 
-ghost use Rattle.std.specs.{Prelude.◌≡◌, List.position, List.position_or_len};
-ghost use Rattle.distping_report.specs.Watched.{is_colon, word_in_verdict};
-
 use dist_cluster::{Half, LatencySummary};
 use dist_names::{ByteString, NodeName};
 
@@ -28,24 +25,8 @@ pub struct Answers<'a> {
     pub summary: Option<LatencySummary>,
 }
 
-fn first_colon(text: &[u8]) -> Option<usize>
-    ensures { result ≡ position is_colon text.now }
-{
-    text.iter().position(|byte| *byte == b':')
-}
-
-// The place of a text's first colon, or its length if it has none.
-#[tactic(auto, using(dist_names::proofs::Places::place_or_length))]
-fn colon_place(text: &[u8]) -> usize
-    ensures { result ≡ position_or_len is_colon text.now }
-{
-    first_colon(text).unwrap_or(text.len())
-}
-
-/// The word of a verdict's text.
-pub fn verdict_word_in(text: &ByteString) -> &[u8]
-    ensures { result.now ≡ word_in_verdict text.now }
-{
+/// The word of a verdict's text: what comes before its first colon.
+pub fn verdict_word_in(text: &ByteString) -> &[u8] {
     let text = text.as_slice();
-    &text[..colon_place(text)]
+    text.split(|byte| *byte == b':').next().unwrap_or(text)
 }

@@ -1,9 +1,11 @@
 //! What is printed about several nodes, as JSON objects on a line each: what a port mapper has in place of a name, what can be said of
 //! a pair, and a summary.
 
-ghost use Rattle.std.specs.Prelude.{◌≡◌, ℕ, List, IfOk, OnOk, codes, string_bytes};
-ghost use Rattle.distping_report.specs.Layouts.{counts_layout, headed, left_out_layout, more_left_out_layout, pair_layout, summary_layout};
-ghost use Rattle.distping_report.specs.Objects.{IsObjectLine, PutsMembers, layout_of, member, no_member, number, object};
+ghost use Rattle.std.specs.Prelude.{◌∷◌, [], IfOk, OnOk, codes, string_bytes};
+ghost use Rattle.dist_cluster.specs.Pairs.{pair_status, pair_word};
+ghost use Rattle.dist_names.specs.Escaped.{escapes_of};
+ghost use Rattle.distping_report.specs.Objects.{PutsNamed, number, text};
+ghost use Rattle.distping_report.specs.Results.{Shows};
 
 use crate::left_out::LeftOut;
 use crate::objects::member::{
@@ -20,10 +22,7 @@ pub fn left_out_object<'x>(
     alloc: Global,
     group: &'x Group,
     text: &'x [u8],
-) -> Result<String, AllocError>
-    ensures { IfOk result
-        (λ line. IsObjectLine (left_out_layout group.now text.now) (string_bytes line)) }
-{
+) -> Result<String, AllocError> {
     let members = [
         ("type", Value::Text("left_out")),
         ("form", FORM),
@@ -38,9 +37,7 @@ pub fn more_left_out_object(
     alloc: Global,
     group: &Group,
     left_out: LeftOut,
-) -> Result<String, AllocError>
-    ensures { IfOk result (λ line. IsObjectLine (more_left_out_layout group.now left_out) (string_bytes line)) }
-{
+) -> Result<String, AllocError> {
     let members = [
         ("type", Value::Text("more_left_out")),
         ("form", FORM),
@@ -59,8 +56,9 @@ pub fn pair_object<'x>(
     second: &'x NodeName,
     pairing: Pairing,
 ) -> Result<String, AllocError>
-    ensures { IfOk result
-        (λ line. (cause : List ℕ) × IsObjectLine (pair_layout first.now second.now pairing cause) (string_bytes line)) }
+    ensures { IfOk result (λ line. Shows
+        ((codes "first", text (escapes_of first.now)) ∷ (codes "second", text (escapes_of second.now))
+        ∷ (codes "pair", text (pair_word pairing)) ∷ (codes "exit", number (pair_status pairing)) ∷ []) (string_bytes line)) }
 {
     let members = [
         ("type", Value::Text("pair")),
@@ -75,9 +73,7 @@ pub fn pair_object<'x>(
 }
 
 // Each word as a member, with how many have it.
-fn count_members(alloc: Global, counts: &[WordCount]) -> Result<Vec<Member<'static>>, AllocError>
-    ensures { IfOk result (λ members. layout_of members.items ≡ counts_layout counts.now) }
-{
+fn count_members(alloc: Global, counts: &[WordCount]) -> Result<Vec<Member<'static>>, AllocError> {
     let mut members = Vec::new(alloc);
     for count in counts {
         members.push((count.word, Value::Number(count.count)))?;
@@ -92,56 +88,29 @@ fn put_counts(
     name: &str,
     counts: &[WordCount],
 ) -> Result<(), AllocError>
-    ensures { OnOk result (PutsMembers (member name.now (object (counts_layout counts.now)) no_member) out.old out.new) }
+    ensures { OnOk result (PutsNamed name.now out.old out.new) }
 {
-    let members = count_members(alloc, counts)?;
-    put_object(alloc, out, name, &members)
-}
-
-// Writes a number, as a member.
-fn put_number(
-    alloc: Global,
-    out: &mut Writer,
-    name: &'static str,
-    value: u64,
-) -> Result<(), AllocError>
-    ensures { OnOk result (PutsMembers (member name.now (number value) no_member) out.old out.new) }
-{
-    put_members(alloc, out, &[(name, Value::Number(value))])
-}
-
-// The kind of the object, and how many nodes were dialled.
-fn front_members(summary: &Summary) -> [Member<'static>; 3]
-    ensures { layout_of result ≡ headed (codes "summary") (member (codes "nodes") (number summary.now.nodes) no_member) }
-{
-    [
-        ("type", Value::Text("summary")),
-        ("form", FORM),
-        ("nodes", Value::Number(summary.nodes)),
-    ]
-}
-
-// Writes the summary of all nodes.
-fn put_summary(
-    alloc: Global,
-    out: &mut Writer,
-    summary: &Summary,
-    status: u8,
-) -> Result<(), AllocError>
-    ensures { OnOk result (PutsMembers (summary_layout summary.now status) out.old out.new) }
-{
-    put_members(alloc, out, &front_members(summary))?;
-    put_counts(alloc, out, "verdicts", &summary.verdicts)?;
-    put_number(alloc, out, "pairs", summary.pairs)?;
-    put_counts(alloc, out, "pairings", &summary.pairings)?;
-    put_number(alloc, out, "exit", u64::from(status))
+    put_object(alloc, out, name, &count_members(alloc, counts)?)
 }
 
 /// The summary of all nodes, as one line. `status` is the exit status.
 pub fn summary_object(alloc: Global, summary: &Summary, status: u8) -> Result<String, AllocError>
-    ensures { IfOk result (λ line. IsObjectLine (summary_layout summary.now status) (string_bytes line)) }
+    ensures { IfOk result (λ line. Shows ((codes "type", text (codes "summary")) ∷ (codes "exit", number status) ∷ []) (string_bytes line)) }
 {
     let mut out = begin_line(alloc)?;
-    put_summary(alloc, &mut out, summary, status)?;
+    let front = [
+        ("type", Value::Text("summary")),
+        ("form", FORM),
+        ("nodes", Value::Number(summary.nodes)),
+    ];
+    put_members(alloc, &mut out, &front)?;
+    put_counts(alloc, &mut out, "verdicts", &summary.verdicts)?;
+    put_members(alloc, &mut out, &[("pairs", Value::Number(summary.pairs))])?;
+    put_counts(alloc, &mut out, "pairings", &summary.pairings)?;
+    put_members(
+        alloc,
+        &mut out,
+        &[("exit", Value::Number(u64::from(status)))],
+    )?;
     end_line(out)
 }

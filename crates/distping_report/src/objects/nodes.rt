@@ -1,69 +1,61 @@
 //! The result for a node, or for a host that gave no node, as one JSON object.
 
-ghost use Rattle.std.specs.Prelude.{◌≡◌, IfOk, OnOk, string_bytes};
-ghost use Rattle.dist_names.specs.Escaped.{escapes_of};
+ghost use Rattle.std.specs.Prelude.{◌≡◌, IfOk, codes, string_bytes};
 ghost use Rattle.dist_cluster.specs.Targets.{group_word};
-ghost use Rattle.distping_report.specs.Layouts.{IsNodeLine, name_layout, node_layout};
-ghost use Rattle.distping_report.specs.Objects.{PutsMembers, layout_of, nothing, shape_of, text};
+ghost use Rattle.dist_names.specs.Escaped.{escapes_of};
+ghost use Rattle.distping_report.specs.Objects.{layout_of, member, no_member, number, shape_of, text};
+ghost use Rattle.distping_report.specs.Results.{IsNodeLine};
 
 use crate::asked::Dial;
-use crate::found::{Found, ProbeOutcome};
+use crate::found::ProbeOutcome;
 use crate::objects::member::{FORM, Member, Value, begin_line, end_line, put_members};
 use crate::objects::parts::{
-    Judged, answer_members, put_peer, put_registration, put_tries, verdict_members,
+    lacking_flags, put_peer, put_registration, put_tries, verdict_members,
 };
-use crate::objects::values::address_or_null;
+use crate::objects::values::{address_or_null, number_or_null, status_or_null};
 use dist_cluster::Group;
-use dist_talk::NodeDescription;
-use json::Writer;
 use std::alloc::{AllocError, Global};
 
-// The names and the address.
-fn name_members<'x>(node: &'x [u8], name: Value<'x>, found: &Found) -> [Member<'x>; 5]
-    ensures { layout_of result ≡ name_layout node.now (shape_of name.entry) found.now }
+// The node's name, and the name under which it was dialled.
+fn name_members<'x>(node: &'x [u8], name: Value<'x>) -> [Member<'x>; 4]
+    ensures { layout_of result ≡ member (codes "type") (text (codes "node")) (member (codes "form") (number 1)
+        (member (codes "node") (text (escapes_of node.now)) (member (codes "name") (shape_of name.entry) no_member))) }
 {
     [
         ("type", Value::Text("node")),
         ("form", FORM),
         ("node", Value::Name(node)),
         ("name", name),
-        ("address", address_or_null(found.address)),
     ]
 }
 
-// Writes what was found out about a node: what it says of itself and the verdict are shown as they are given.
-fn put_node<'x>(
-    alloc: Global,
-    out: &mut Writer,
-    node: &'x [u8],
-    name: Value<'x>,
-    outcome: &ProbeOutcome,
-    shown: (Option<NodeDescription<'_>>, Judged),
-) -> Result<(), AllocError>
-    ensures { OnOk result (PutsMembers (node_layout node.now (shape_of name.entry) outcome.now shown.entry.0 shown.entry.1) out.old out.new) }
-{
-    let (peer, judged) = shown;
-    let found = &outcome.found;
-    put_members(alloc, out, &name_members(node, name, found))?;
-    put_registration(alloc, out, &found.registration)?;
-    put_members(alloc, out, &answer_members(found))?;
-    put_peer(alloc, out, peer)?;
-    put_members(alloc, out, &verdict_members(peer, judged))?;
-    put_tries(alloc, out, outcome)
-}
-
-// The same, as one line.
+// What was found out about a node, and the verdict, as one line.
 fn node_line<'x>(
     alloc: Global,
     node: &'x [u8],
     name: Value<'x>,
     outcome: &ProbeOutcome,
 ) -> Result<String, AllocError>
-    ensures { IfOk result (λ line. IsNodeLine node.now (shape_of name.entry) outcome.now (string_bytes line)) }
+    ensures { IfOk result (λ line. IsNodeLine node.now outcome.now.verdict (string_bytes line)) }
 {
     let mut out = begin_line(alloc)?;
-    let (peer, judged) = (outcome.found.peer(), Judged::of(outcome.verdict));
-    put_node(alloc, &mut out, node, name, outcome, (peer, judged))?;
+    let (found, verdict) = (&outcome.found, outcome.verdict);
+    put_members(alloc, &mut out, &name_members(node, name))?;
+    put_members(
+        alloc,
+        &mut out,
+        &[("address", address_or_null(found.address))],
+    )?;
+    put_registration(alloc, &mut out, &found.registration)?;
+    let answer = [
+        ("port", number_or_null(found.port)),
+        ("status", status_or_null(found.status())),
+    ];
+    put_members(alloc, &mut out, &answer)?;
+    put_peer(alloc, &mut out, found.peer())?;
+    let lacking = Value::Names(lacking_flags(verdict, found.peer()));
+    put_members(alloc, &mut out, &verdict_members(lacking, verdict))?;
+    put_tries(alloc, &mut out, outcome)?;
     end_line(out)
 }
 
@@ -73,8 +65,7 @@ pub fn object_of(
     dial: &Dial<'_>,
     outcome: &ProbeOutcome,
 ) -> Result<String, AllocError>
-    ensures { IfOk result (λ line.
-        IsNodeLine dial.now.node.now (text (escapes_of dial.now.own.now)) outcome.now (string_bytes line)) }
+    ensures { IfOk result (λ line. IsNodeLine dial.now.node.now outcome.now.verdict (string_bytes line)) }
 {
     node_line(
         alloc,
@@ -90,7 +81,7 @@ pub fn group_object(
     group: &Group,
     outcome: &ProbeOutcome,
 ) -> Result<String, AllocError>
-    ensures { IfOk result (λ line. IsNodeLine (group_word group.now) nothing outcome.now (string_bytes line)) }
+    ensures { IfOk result (λ line. IsNodeLine (group_word group.now) outcome.now.verdict (string_bytes line)) }
 {
     node_line(alloc, group.word(), Value::Null, outcome)
 }

@@ -1,17 +1,12 @@
 //! Parts of objects: what the port mapper knows of a node, what the node sent about itself, the verdict, and what each address gave.
 
-ghost use Rattle.std.specs.Prelude.{◌≡◌, OnOk, codes, option_map};
-ghost use Rattle.dist_messages.specs.Spelling.{text_of};
-ghost use Rattle.distping_report.specs.Found.{status_in};
-ghost use Rattle.distping_report.specs.Layouts.{lacking_flags, peer_layout, peer_shape, registration_shape, tries_in, try_layout, verdict_layout};
-ghost use Rattle.distping_report.specs.Objects.{PutsMembers, PutsObjects, PutsValue, layout_of};
-ghost use Rattle.distping_report.specs.Objects.{member, no_member, number_or_null, object, objects, text_or_null};
+ghost use Rattle.std.specs.Prelude.{◌≡◌, ◌≤◌, ℕ, List, OnOk, codes};
+ghost use Rattle.distping_report.specs.Objects.{Layout, Layouts, PutsNamed, PutsObjects, PutsValue, layout_levels, layout_of, member, no_member, number, object, object_levels, shape_of, text};
+ghost use Rattle.dist_talk.specs.Words.{status_of, verdict_word};
 
-use crate::found::{Found, ProbeOutcome};
+use crate::found::ProbeOutcome;
 use crate::objects::member::{Member, Value, put_inner, put_members, put_object};
-use crate::objects::values::{
-    answer_or_null, creation_or_null, number_or_null, release_word, small_number, status_or_null,
-};
+use crate::objects::values::{answer_or_null, creation_or_null, release_word, small_number};
 use dist_epmd::PortInfo;
 use dist_flags::{Dflag, Release, missing, release_of};
 use dist_names::Flags;
@@ -20,34 +15,8 @@ use json::Writer;
 use std::alloc::{AllocError, Global};
 use std::net::SocketAddr;
 
-/// A verdict, and the sentences that go with it.
-#[derive(Clone, Copy)]
-pub struct Judged {
-    /// The verdict.
-    pub verdict: HandshakeVerdict,
-    /// What happened.
-    pub cause: &'static str,
-    /// What can be done about it.
-    pub remedy: &'static str,
-}
-
-impl Judged {
-    /// This verdict.
-    pub fn of(verdict: HandshakeVerdict) -> Judged
-        ensures { result.verdict ≡ verdict }
-    {
-        Judged {
-            verdict,
-            cause: verdict.cause(),
-            remedy: verdict.remedy(),
-        }
-    }
-}
-
-// The missing flags: those for which a node refuses another, or else those for which newer releases refuse the node.
-fn lacking_flags(verdict: HandshakeVerdict, peer: Option<NodeDescription<'_>>) -> Flags
-    ensures { result.0 ≡ lacking_flags verdict peer.entry }
-{
+/// The missing flags: those for which a node refuses another, or else those for which newer releases refuse the node.
+pub fn lacking_flags(verdict: HandshakeVerdict, peer: Option<NodeDescription<'_>>) -> Flags {
     match (verdict, peer) {
         (HandshakeVerdict::LacksFlags(_, flags), _) => flags,
         (_, Some(peer)) => missing(peer.flags, Release::Otp28.required()),
@@ -61,8 +30,7 @@ pub fn put_registration(
     out: &mut Writer,
     registration: &Option<PortInfo>,
 ) -> Result<(), AllocError>
-    ensures { OnOk result (PutsMembers (member (codes "epmd") (registration_shape registration.now) no_member)
-        out.old out.new) }
+    ensures { OnOk result (PutsNamed (codes "epmd") out.old out.new) }
 {
     match registration {
         Some(registration) => {
@@ -78,9 +46,7 @@ pub fn put_registration(
 }
 
 // What a node says of itself.
-fn peer_members<'x>(peer: NodeDescription<'x>) -> [Member<'x>; 6]
-    ensures { layout_of result ≡ peer_layout peer.entry }
-{
+fn peer_members<'x>(peer: NodeDescription<'x>) -> [Member<'x>; 6] {
     let flags = peer.flags;
     [
         ("name", Value::Name(peer.name)),
@@ -98,8 +64,7 @@ pub fn put_peer(
     out: &mut Writer,
     peer: Option<NodeDescription<'_>>,
 ) -> Result<(), AllocError>
-    ensures { OnOk result (PutsMembers (member (codes "peer") (peer_shape peer.entry) no_member)
-        out.old out.new) }
+    ensures { OnOk result (PutsNamed (codes "peer") out.old out.new) }
 {
     match peer {
         Some(peer) => put_object(alloc, out, "peer", &peer_members(peer)),
@@ -107,27 +72,17 @@ pub fn put_peer(
     }
 }
 
-/// The port that was dialled and the status that the node sent.
-pub fn answer_members(found: &Found) -> [Member<'static>; 2]
-    ensures { layout_of result ≡ member (codes "port") (number_or_null found.now.port)
-        (member (codes "status") (text_or_null (option_map text_of (status_in found.now.handshake))) no_member) }
+/// The verdict, with the flags that are missing.
+pub fn verdict_members(lacking: Value<'static>, verdict: HandshakeVerdict) -> [Member<'static>; 5]
+    ensures { (cause : List ℕ) × (remedy : List ℕ) × (layout_of result ≡ member (codes "lacking") (shape_of lacking.entry)
+        (member (codes "verdict") (text (verdict_word verdict)) (member (codes "cause") (text cause)
+        (member (codes "remedy") (text remedy) (member (codes "exit") (number (status_of verdict)) no_member))))) }
 {
     [
-        ("port", number_or_null(found.port)),
-        ("status", status_or_null(found.status())),
-    ]
-}
-
-/// The verdict on a node that says this of itself.
-pub fn verdict_members(peer: Option<NodeDescription<'_>>, judged: Judged) -> [Member<'static>; 5]
-    ensures { layout_of result ≡ verdict_layout peer.entry judged }
-{
-    let verdict = judged.verdict;
-    [
-        ("lacking", Value::Names(lacking_flags(verdict, peer))),
+        ("lacking", lacking),
         ("verdict", Value::Text(verdict.name())),
-        ("cause", Value::Text(judged.cause)),
-        ("remedy", Value::Text(judged.remedy)),
+        ("cause", Value::Text(verdict.cause())),
+        ("remedy", Value::Text(verdict.remedy())),
         ("exit", small_number(u16::from(verdict.status()))),
     ]
 }
@@ -139,7 +94,7 @@ fn put_try(
     address: &SocketAddr,
     verdict: HandshakeVerdict,
 ) -> Result<(), AllocError>
-    ensures { OnOk result (PutsValue (object (try_layout address.now verdict)) out.old out.new) }
+    ensures { OnOk result ((l : Layout) × (layout_levels l ≤ 1) × PutsValue (object l) out.old out.new) }
 {
     let members = [
         ("address", Value::Host(address.ip())),
@@ -156,7 +111,7 @@ fn put_each_try(
     addresses: &[SocketAddr],
     verdicts: &[HandshakeVerdict],
 ) -> Result<(), AllocError>
-    ensures { OnOk result (PutsObjects (tries_in addresses.now verdicts.now) out.old out.new) }
+    ensures { OnOk result ((ls : Layouts) × (object_levels ls ≤ 2) × PutsObjects ls out.old out.new) }
 {
     match addresses.split_first() {
         None => Ok(()),
@@ -172,8 +127,7 @@ fn put_each_try(
 
 /// Writes what each address gave that was tried.
 pub fn put_tries(alloc: Global, out: &mut Writer, outcome: &ProbeOutcome) -> Result<(), AllocError>
-    ensures { OnOk result (PutsMembers (member (codes "addresses")
-        (objects (tries_in outcome.now.addresses.items outcome.now.verdicts.items)) no_member) out.old out.new) }
+    ensures { OnOk result (PutsNamed (codes "addresses") out.old out.new) }
 {
     out.key("addresses")?;
     out.begin_array()?;

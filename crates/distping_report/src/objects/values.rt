@@ -1,9 +1,7 @@
 //! Values that several kinds of objects share.
 
-ghost use Rattle.std.specs.Prelude.{◌≡◌, option_map};
-ghost use Rattle.dist_messages.specs.Spelling.{text_of};
-ghost use Rattle.distping_report.specs.Layouts.{address_text, answer_word, release_word};
-ghost use Rattle.distping_report.specs.Objects.{number, number_or_null, shape_of, text_or_null};
+ghost use Rattle.std.specs.Prelude.{◌≡◌};
+ghost use Rattle.distping_report.specs.Objects.{number, shape_of};
 
 use crate::objects::member::Value;
 use dist_flags::Release;
@@ -20,9 +18,7 @@ pub fn small_number(value: u16) -> Value<'static>
 }
 
 /// A number, or null.
-pub fn number_or_null(value: Option<u16>) -> Value<'static>
-    ensures { shape_of result ≡ number_or_null value }
-{
+pub fn number_or_null(value: Option<u16>) -> Value<'static> {
     match value {
         Some(value) => small_number(value),
         None => Value::Null,
@@ -30,9 +26,7 @@ pub fn number_or_null(value: Option<u16>) -> Value<'static>
 }
 
 /// A creation, or null.
-pub fn creation_or_null(creation: Option<Creation>) -> Value<'static>
-    ensures { shape_of result ≡ number_or_null (option_map (λ c. c.0) creation) }
-{
+pub fn creation_or_null(creation: Option<Creation>) -> Value<'static> {
     match creation {
         Some(creation) => Value::Number(u64::from(creation.0)),
         None => Value::Null,
@@ -40,9 +34,7 @@ pub fn creation_or_null(creation: Option<Creation>) -> Value<'static>
 }
 
 /// An address without its port, or null.
-pub fn address_or_null(address: Option<SocketAddr>) -> Value<'static>
-    ensures { shape_of result ≡ text_or_null (option_map address_text address) }
-{
+pub fn address_or_null(address: Option<SocketAddr>) -> Value<'static> {
     match address {
         Some(address) => Value::Host(address.ip()),
         None => Value::Null,
@@ -50,9 +42,7 @@ pub fn address_or_null(address: Option<SocketAddr>) -> Value<'static>
 }
 
 /// The status that the node sent, or null.
-pub fn status_or_null(status: Option<Status>) -> Value<'static>
-    ensures { shape_of result ≡ text_or_null (option_map text_of status) }
-{
+pub fn status_or_null(status: Option<Status>) -> Value<'static> {
     match status {
         Some(status) => Value::Name(status.text()),
         None => Value::Null,
@@ -60,9 +50,7 @@ pub fn status_or_null(status: Option<Status>) -> Value<'static>
 }
 
 /// How a connect ended, if the verdict is about that, or null.
-pub fn answer_or_null(verdict: HandshakeVerdict) -> Value<'static>
-    ensures { shape_of result ≡ text_or_null (answer_word verdict) }
-{
+pub fn answer_or_null(verdict: HandshakeVerdict) -> Value<'static> {
     match verdict {
         HandshakeVerdict::MapperRefused | HandshakeVerdict::PortRefused => Value::Text(
             Unreached::Refused.name(),
@@ -74,9 +62,7 @@ pub fn answer_or_null(verdict: HandshakeVerdict) -> Value<'static>
 }
 
 /// The word of a release.
-pub fn release_word(release: Release) -> &'static str
-    ensures { result.now ≡ release_word release }
-{
+pub fn release_word(release: Release) -> &'static str {
     match release {
         Release::Before23 => "before 23",
         Release::Otp23 => "23",

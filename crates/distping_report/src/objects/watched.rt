@@ -1,19 +1,17 @@
 //! What is printed about a watched node, as JSON objects on a line each.
 
-ghost use Rattle.std.specs.Prelude.{◌≡◌, ℕ, List, IfOk, option_map, string_bytes};
+ghost use Rattle.std.specs.Prelude.{◌∷◌, [], IfOk, codes, string_bytes};
 ghost use Rattle.dist_names.specs.Escaped.{escapes_of};
-ghost use Rattle.distping_report.specs.Objects.{IsObjectLine, shape_of, text_or_null};
-ghost use Rattle.distping_report.specs.{Watched.word_in_verdict, Layouts.change_layout, Layouts.latency_layout};
+ghost use Rattle.dist_talk.specs.Words.{verdict_word};
+ghost use Rattle.distping_report.specs.{Objects.text, Results.Shows};
 
 use crate::objects::member::{FORM, Value, object_line};
 use crate::watched::{Answers, Seen, verdict_word_in};
-use dist_cluster::VerdictChange;
+use dist_cluster::{LatencySummary, VerdictChange};
 use std::alloc::{AllocError, Global};
 
 // The word of the verdict before, or null.
-fn before_or_null(change: &VerdictChange) -> Value<'_>
-    ensures { shape_of result ≡ text_or_null (option_map (λ before. escapes_of (word_in_verdict before)) change.now.before) }
-{
+fn before_or_null(change: &VerdictChange) -> Value<'_> {
     match &change.before {
         Some(before) => Value::Name(verdict_word_in(before)),
         None => Value::Null,
@@ -27,7 +25,8 @@ fn object_of_change<'x>(
     seen: &Seen<'x>,
     change: &'x VerdictChange,
 ) -> Result<String, AllocError>
-    ensures { IfOk result (λ line. (cause : List ℕ) × IsObjectLine (change_layout time.now seen.now change.now cause) (string_bytes line)) }
+    ensures { IfOk result (λ line. Shows ((codes "node", text (escapes_of seen.now.half.node.now))
+        ∷ (codes "verdict", text (verdict_word seen.now.half.verdict)) ∷ []) (string_bytes line)) }
 {
     let members = [
         ("type", Value::Text("change")),
@@ -49,44 +48,42 @@ pub fn change_object(
     seen: &Seen<'_>,
     change: &VerdictChange,
 ) -> Result<String, AllocError>
-    ensures { IfOk result (λ line. (cause : List ℕ) × IsObjectLine (change_layout time.now seen.now change.now cause) (string_bytes line)) }
+    ensures { IfOk result (λ line. Shows ((codes "node", text (escapes_of seen.now.half.node.now))
+        ∷ (codes "verdict", text (verdict_word seen.now.half.verdict)) ∷ []) (string_bytes line)) }
 {
     object_of_change(alloc, time, seen, change)
 }
 
-/// How long a watched node's answers took, as one line.
-pub fn latency_object(alloc: Global, answers: &Answers<'_>) -> Result<String, AllocError>
-    ensures { IfOk result
-        (λ line. IsObjectLine (latency_layout answers.now.node.now answers.now.rounds answers.now.summary) (string_bytes line)) }
-{
-    let node = Value::Name(answers.node.bytes());
-    let rounds = Value::Number(answers.rounds);
-    match answers.summary {
+// The least, the median and the worst time, or null.
+fn time_values(summary: Option<LatencySummary>) -> [Value<'static>; 3] {
+    match summary {
         Some(it) => {
-            let members = [
-                ("type", Value::Text("latency")),
-                ("form", FORM),
-                ("node", node),
-                ("rounds", rounds),
-                ("answers", Value::Number(it.count)),
-                ("least", Value::Number(it.least)),
-                ("median", Value::Number(it.median)),
-                ("worst", Value::Number(it.worst)),
-            ];
-            object_line(alloc, &members)
+            [
+                Value::Number(it.least),
+                Value::Number(it.median),
+                Value::Number(it.worst),
+            ]
         }
-        None => {
-            let members = [
-                ("type", Value::Text("latency")),
-                ("form", FORM),
-                ("node", node),
-                ("rounds", rounds),
-                ("answers", Value::Number(0)),
-                ("least", Value::Null),
-                ("median", Value::Null),
-                ("worst", Value::Null),
-            ];
-            object_line(alloc, &members)
-        }
+        None => [Value::Null, Value::Null, Value::Null],
     }
+}
+
+/// How long a watched node's answers took, as one line.
+pub fn latency_object(alloc: Global, answers: &Answers<'_>) -> Result<String, AllocError> {
+    let count = match answers.summary {
+        Some(it) => it.count,
+        None => 0,
+    };
+    let times = time_values(answers.summary);
+    let members = [
+        ("type", Value::Text("latency")),
+        ("form", FORM),
+        ("node", Value::Name(answers.node.bytes())),
+        ("rounds", Value::Number(answers.rounds)),
+        ("answers", Value::Number(count)),
+        ("least", times[0]),
+        ("median", times[1]),
+        ("worst", times[2]),
+    ];
+    object_line(alloc, &members)
 }

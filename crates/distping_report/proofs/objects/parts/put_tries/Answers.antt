@@ -1,14 +1,15 @@
-use Rattle.std.proofs.Common.{codes, subst}
-use Rattle.distping_report.specs.{Layouts.tries_in, Objects.PutsObjects}
-use Rattle.distping_report.proofs.Members.{writes_list}
+-- What each address gave is one member.
+use Rattle.std.proofs.Common.{codes}
+use Rattle.distping_report.specs.Objects.{objects}
+use Rattle.distping_report.proofs.{Members.writes_objects, Members.writes_one, Shallow.named_list}
 use Rattle.distping_report.proofs.objects.parts.put_tries.Goals as goal
 
 pub returns : goal.returns
 returns c =
-    let opened = c.begin_array.new.self in
-    let last = c.put_each_try.new.out in
-    let verdicts = c.deref-2.result.now in
-    let outcome = c.args.outcome.now in
-    let of_addresses = subst (λ addresses. PutsObjects (tries_in addresses verdicts) opened last) c.deref.ensures.value c.in_ok-put_each_try.ensures in
-    let of_both = subst (λ verdicts. PutsObjects (tries_in outcome.addresses.items verdicts) opened last) c.deref-2.ensures.value of_addresses in
-    writes_list c.args.out.now c.key.new.self opened last c.end_array.new.self (codes "addresses") c.end_array.result c.in_ok-key.ensures.ok c.in_ok-key.ensures.room.0 c.in_ok-begin_array.ensures.ok c.in_ok-begin_array.ensures.room.0 of_both c.end_array.ensures
+    let each = c.in_ok-put_each_try.ensures in
+    let list =
+    writes_objects c.key.new.self c.begin_array.new.self c.put_each_try.new.out c.end_array.new.self c.end_array.result
+    c.in_ok-begin_array.ensures.ok c.in_ok-begin_array.ensures.room.0 each.2 c.end_array.ensures in
+    named_list c.args.out.now c.end_array.new.self (codes "addresses") each.0 c.end_array.result each.1
+    (writes_one (objects each.0) c.args.out.now c.key.new.self c.end_array.new.self (codes "addresses") c.end_array.result
+    c.in_ok-key.ensures.ok c.in_ok-key.ensures.room.0 list)
