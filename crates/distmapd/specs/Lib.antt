@@ -4,5 +4,4 @@ pub mod Listing
 pub mod Logging
 pub mod Members
 pub mod Metrics
-pub mod Rates
 pub mod Words

@@ -1,8 +1,5 @@
 //! The words of the command line that are not values: options and switches.
 
-ghost use Rattle.std.specs.{Prelude.◌≡◌, Prelude.Some, Prelude.map, List.AllByRecursion};
-ghost use Rattle.distmapd.specs.Words.{all_keys, key_in};
-
 use crate::settings::Task;
 
 /// What the next word is, after an option.
@@ -37,7 +34,7 @@ pub enum Key {
     NotDone,
 }
 
-/// All words; some are spelled in two ways, as by `epmd` and as by the other programs.
+/// All words, each once; some are spelled in two ways, as by `epmd` and as by the other programs.
 pub const KEYS: [(&str, Key); 21] = [
     ("-port", Key::Takes(AwaitedValue::Port)),
     ("--epmd-port", Key::Takes(AwaitedValue::Port)),
@@ -61,16 +58,3 @@ pub const KEYS: [(&str, Key); 21] = [
     ("-d", Key::NotDone),
     ("-relaxed_command_check", Key::NotDone),
 ];
-
-/// What a word asks for, by the first of these that has it. In [`KEYS`] no word stands twice.
-pub fn key_in(keys: &[(&'static str, Key)], word: &str) -> Option<Key>
-    ensures found { result ≡ key_in (map (λ row. (row.0.now, row.1)) keys.now) word.now }
-    ensures once { AllByRecursion (λ row. key_in all_keys row.0 ≡ Some row.1) all_keys }
-{
-    for (known, key) in keys {
-        if known.as_bytes() == word.as_bytes() {
-            return Some(*key);
-        }
-    }
-    None
-}

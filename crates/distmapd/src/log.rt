@@ -1,9 +1,8 @@
 //! The log. A writer that fails, or takes no more, neither stops nor delays the program: the lines that it does not take are left out.
 
 ghost use Rattle.std.specs.{Prelude.◌≡◌, Prelude.ℕ, Prelude.List, Prelude.IfOk, String.string_bytes};
-ghost use Rattle.dist_epmd_clients.specs.Reporting.{counts_of, events_of};
-ghost use Rattle.distmapd.specs.Logging.{LogsEvent, LogsEvents, LogsRound, Puts, PutsFor, ReportsLeftOut};
-ghost use Rattle.distmapd.specs.Rates.{new_rates};
+ghost use Rattle.dist_epmd_clients.specs.Reporting.{events_of};
+ghost use Rattle.distmapd.specs.{Lines.event_line, Logging.PutsFront, Logging.LogsEvents, Logging.LogsRound, Logging.ReportsLeftOut};
 
 use crate::lines::{Round, event_line, left_out_line};
 use crate::rates::Rates;
@@ -14,7 +13,7 @@ use std::io::Write;
 
 // Writes a line in one write. Returns whether all of it was written.
 fn put<W: Write>(out: &mut W, line: Result<String, AllocError>) -> bool
-    ensures { (text : List ℕ) → IfOk line (λ l. string_bytes l ≡ text) → Puts text result (W.contents out.old) (W.contents out.new) }
+    ensures { (text : List ℕ) → IfOk line (λ l. string_bytes l ≡ text) → PutsFront text (W.contents out.old) (W.contents out.new) }
 {
     let Ok(text) = line else {
         return false;
@@ -34,10 +33,7 @@ pub struct Log {
 
 impl Log {
     /// A log in this form, with no line written.
-    pub fn new(form: LogForm) -> Log
-        ensures form { result.form ≡ form }
-        ensures rates { result.rates ≡ new_rates }
-    {
+    pub fn new(form: LogForm) -> Log {
         Log {
             form,
             rates: Rates::new(),
@@ -52,8 +48,7 @@ impl Log {
         line: Result<String, AllocError>,
         now: u64,
     )
-        ensures puts { (text : List ℕ) → IfOk line (λ l. string_bytes l ≡ text) →
-            PutsFor count text now self.old.rates self.new.rates (W.contents out.old) (W.contents out.new) }
+        ensures puts { (text : List ℕ) → IfOk line (λ l. string_bytes l ≡ text) → PutsFront text (W.contents out.old) (W.contents out.new) }
         ensures form { self.new.form ≡ self.old.form }
     {
         if !put(out, line) {
@@ -69,7 +64,7 @@ impl Log {
         round: &Round<'_>,
         event: &ClientEvent,
     )
-        ensures logs { LogsEvent self.old.form round.now event.now self.old.rates self.new.rates (W.contents out.old) (W.contents out.new) }
+        ensures logs { PutsFront (event_line self.old.form round.now event.now) (W.contents out.old) (W.contents out.new) }
         ensures form { self.new.form ≡ self.old.form }
     {
         let now = round.second;
@@ -89,7 +84,7 @@ impl Log {
         round: &Round<'_>,
         events: &[ClientEvent],
     )
-        ensures logs { LogsEvents self.old.form round.now events.now self.old.rates self.new.rates (W.contents out.old) (W.contents out.new) }
+        ensures logs { LogsEvents self.old.form round.now events.now (W.contents out.old) (W.contents out.new) }
         ensures form { self.new.form ≡ self.old.form }
     {
         for event in events {
@@ -99,7 +94,7 @@ impl Log {
 
     // Writes how many lines were left out, once the second of the last one is over.
     fn write_left_out<W: Write>(&mut self, alloc: Global, out: &mut W, round: &Round<'_>)
-        ensures reports { ReportsLeftOut self.old.form round.now self.old.rates self.new.rates (W.contents out.old) (W.contents out.new) }
+        ensures reports { ReportsLeftOut self.old.form round.now (W.contents out.old) (W.contents out.new) }
         ensures form { self.new.form ≡ self.old.form }
     {
         let count = self.rates.take_left_out(round.second);
@@ -117,9 +112,7 @@ impl Log {
         round: &Round<'_>,
         clients: &Clients<S>,
     )
-        ensures logs { LogsRound self.old.form round.now (counts_of clients.now).missed (events_of clients.now)
-            self.old.rates self.new.rates (W.contents out.old) (W.contents out.new) }
-        ensures form { self.new.form ≡ self.old.form }
+        ensures { LogsRound self.old.form round.now (events_of clients.now) (W.contents out.old) (W.contents out.new) }
     {
         self.write_left_out(alloc, out, round);
         self.rates

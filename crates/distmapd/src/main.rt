@@ -1,8 +1,7 @@
 //! A port mapper for Erlang nodes, in place of `epmd`: it stays in the foreground, and serves all clients at once.
 #![tactic(auto)]
 
-ghost use Rattle.std.specs.Prelude.{◌≡◌, ◌≢◌, ◌≤◌, IfErr, IfOk};
-ghost use Rattle.distmapd.specs.{declared.fault.Fault.TheVariants.NoMemory, Words.MeansPlace, Words.WritesNoPlace};
+ghost use Rattle.std.specs.Prelude.{◌≤◌};
 
 mod addresses;
 mod answer;
@@ -125,10 +124,7 @@ fn settings_in<'a>(
 }
 
 // The place that the value of `-metrics` writes, if there is one.
-fn metrics_in(alloc: Global, word: Option<&str>) -> Result<Option<SocketAddr>, Fault>
-    ensures ok { IfOk result (MeansPlace word.entry) }
-    ensures err { IfErr result (λ fault. fault ≢ NoMemory → WritesNoPlace word.entry) }
-{
+fn metrics_in(alloc: Global, word: Option<&str>) -> Result<Option<SocketAddr>, Fault> {
     let Some(word) = word else {
         return Ok(None);
     };
@@ -183,14 +179,6 @@ fn monitor_at<R: Net>(
     }
 }
 
-// Notifies the service manager, if one asks for it, that the program listens.
-fn report_ready(rt: &HostRuntime) -> Result<(), Fault> {
-    if let Some(name) = variable(rt, "NOTIFY_SOCKET")? {
-        let _ = say_ready(name.as_bytes());
-    }
-    Ok(())
-}
-
 // The port mapper at these sockets, the first of which has this port.
 fn server_at<R: Net + Clock>(
     host: &R,
@@ -233,25 +221,22 @@ fn run<R: Net + Wait + Clock>(
     }
 }
 
-// Whether a client of the port mapper can be served, beside those of the monitor.
-fn is_client_possible(beside: &Beside) -> bool {
-    match &beside.monitor {
-        Some(monitor) => monitor.leaves_one(),
-        None => true,
-    }
-}
-
-// Reports that the program listens, and serves until the system fails.
+// Notifies the service manager, if one asks for it, that the program listens, and serves until the system fails. Behind the descriptors
+// of the monitor one must be left for a client of the port mapper.
 fn serve_from_now<R: Wait + Clock>(
     rt: &HostRuntime,
     host: &R,
     server: &mut Server,
     beside: &mut Beside,
 ) -> Result<(), Fault> {
-    if !is_client_possible(beside) {
+    if let Some(monitor) = &beside.monitor
+        && !monitor.leaves_one()
+    {
         return Err(Fault::NoDescriptors);
     }
-    report_ready(rt)?;
+    if let Some(name) = variable(rt, "NOTIFY_SOCKET")? {
+        let _ = say_ready(name.as_bytes());
+    }
     match serve(host, rt.alloc(), server, beside) {
         Ok(()) => Ok(()),
         Err(_) => Err(Fault::ServeFailed),

@@ -1,8 +1,6 @@
 //! How many lines of each kind a log may have in a second, so that no client fills a disk, and no kind crowds out the lines of others.
 
-ghost use Rattle.std.specs.Prelude.{◌≡◌, ◌<◌, ◌==◌, if◌then◌else◌};
-ghost use Rattle.distmapd.specs.Rates.{after_admit, after_admitting, after_missing, is_admitted, leaving_out};
-ghost use Rattle.distmapd.specs.Rates.{new_rates, place_of, rate_of, with_none_left_out};
+ghost use Rattle.std.specs.Prelude.{◌<◌};
 
 use dist_epmd_clients::ClientEvent;
 use std::mem;
@@ -31,8 +29,7 @@ pub struct Rates {
 
 // The place of an event's kind; all kinds without a line share one.
 fn place_of(event: &ClientEvent) -> usize
-    ensures place { result ≡ place_of event.now }
-    ensures bound { result < 8 }
+    ensures { result < 8 }
 {
     match event {
         ClientEvent::Registered { .. } => 0,
@@ -48,10 +45,7 @@ fn place_of(event: &ClientEvent) -> usize
 
 impl Rate {
     // Asks for one more line in this second.
-    fn admit(&mut self, now: u64) -> bool
-        ensures admitted { result ≡ is_admitted now self.old }
-        ensures after { self.new ≡ after_admit now self.old }
-    {
+    fn admit(&mut self, now: u64) -> bool {
         if now != self.second {
             (self.second, self.lines) = (now, 1);
             return true;
@@ -66,9 +60,7 @@ impl Rate {
 
 impl Rates {
     /// No line was written, and none left out.
-    pub fn new() -> Rates
-        ensures { result ≡ new_rates }
-    {
+    pub fn new() -> Rates {
         let none = Rate {
             second: 0,
             lines: 0,
@@ -82,25 +74,18 @@ impl Rates {
     }
 
     /// Asks for one more line of an event's kind in this second.
-    pub fn admit(&mut self, event: &ClientEvent, now: u64) -> bool
-        ensures admitted { result ≡ is_admitted now (rate_of event.now self.old) }
-        ensures after { self.new ≡ after_admitting event.now now self.old }
-    {
+    pub fn admit(&mut self, event: &ClientEvent, now: u64) -> bool {
         self.kinds[place_of(event)].admit(now)
     }
 
     /// Counts this many more lines as left out in this second.
-    pub fn leave_out(&mut self, count: u64, now: u64)
-        ensures { self.new ≡ leaving_out count now self.old }
-    {
+    pub fn leave_out(&mut self, count: u64, now: u64) {
         self.left_out = self.left_out.saturating_add(count);
         self.second = now;
     }
 
     /// Counts the events that were missed since the log last looked as left out, by how many were missed before now.
-    pub fn leave_out_missed(&mut self, missed: u64, now: u64)
-        ensures { self.new ≡ after_missing missed now self.old }
-    {
+    pub fn leave_out_missed(&mut self, missed: u64, now: u64) {
         let count = missed.saturating_sub(self.missed);
         self.missed = missed;
         if count > 0 {
@@ -109,10 +94,7 @@ impl Rates {
     }
 
     /// How many lines were left out since the last call, once the second of the last one is over.
-    pub fn take_left_out(&mut self, now: u64) -> u64
-        ensures count { result ≡ (if now == self.old.second then 0 else self.old.left_out) }
-        ensures after { self.new ≡ with_none_left_out now self.old }
-    {
+    pub fn take_left_out(&mut self, now: u64) -> u64 {
         if now == self.second {
             return 0;
         }

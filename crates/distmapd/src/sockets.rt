@@ -1,8 +1,5 @@
 //! The sockets at which the program listens.
 
-ghost use Rattle.std.specs.Prelude.{◌≡◌, IfSome, None, Some, true};
-ghost use Rattle.distmapd.specs.Words.{handed_over};
-
 use crate::fault::Fault;
 use crate::reading::number_of;
 use crate::settings::Settings;
@@ -141,9 +138,7 @@ fn add_listeners(
 }
 
 // Whether this process is meant, by LISTEN_PID: also if it is not set.
-fn is_meant(process: Option<&str>, own: i32) -> bool
-    ensures { process.entry ≡ None → result ≡ true }
-{
+fn is_meant(process: Option<&str>, own: i32) -> bool {
     match process {
         Some(word) => number_32(word.as_bytes()).map(i64::from) == Some(i64::from(own)),
         None => true,
@@ -152,10 +147,7 @@ fn is_meant(process: Option<&str>, own: i32) -> bool
 
 /// How many sockets were handed over, by LISTEN_FDS: from 1 to 16, and one if it is not set. `None` for another number, or if
 /// LISTEN_PID names another process.
-pub fn handed_over(said: Option<&str>, process: Option<&str>, own: i32) -> Option<u16>
-    ensures some { IfSome result (λ count. handed_over said.entry ≡ Some count) }
-    ensures unnamed { process.entry ≡ None → result ≡ handed_over said.entry }
-{
+pub fn handed_over(said: Option<&str>, process: Option<&str>, own: i32) -> Option<u16> {
     if !is_meant(process, own) {
         return None;
     }
