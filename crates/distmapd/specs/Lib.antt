@@ -3,5 +3,4 @@ pub mod Lines
 pub mod Listing
 pub mod Logging
 pub mod Members
-pub mod Metrics
 pub mod Words

@@ -1,10 +1,6 @@
 //! Monitoring clients are answered at a port of their own, on the same thread, which never waits for one.
 
-ghost use Rattle.std.specs.Prelude.{◌≤◌, IfSome};
-ghost use Rattle.distmapd.specs.declared.monitor.TheConstants.{SEATS};
-
-use crate::metrics::figures_text;
-use crate::page::{is_whole, page_text};
+use crate::page::answer_to;
 use crate::spares::Spares;
 use dist_epmd_server::{Server, other_of};
 use dist_names::ByteString;
@@ -41,28 +37,19 @@ struct Watcher {
 }
 
 impl Watcher {
-    // Answers the request in one write. What the socket does not take at once is lost, so that nothing waits.
-    fn answer(&mut self, alloc: Global, server: &Server) -> Result<(), AllocError> {
-        let (clients, owed) = (server.clients(), server.owing() as u64);
-        let figures = figures_text(alloc, clients.counts(), clients.len() as u64, owed)?;
-        let is_ready = !server.is_stuck();
-        let text = page_text(alloc, self.head.as_slice(), is_ready, &figures)?;
-        self.is_answered = true;
-        if !text.is_empty() {
-            let _ = self.stream.write(text.as_bytes());
-        }
-        let _ = self.stream.shut();
-        Ok(())
-    }
-
-    // Takes a piece of the request, and answers it once it is whole.
+    // Takes a piece of the request, and answers it, once it is whole, in one write. What the socket does not take at once is lost, so
+    // that nothing waits.
     fn take(&mut self, alloc: Global, server: &Server, piece: &[u8]) -> Result<(), AllocError> {
         if self.is_answered {
             return Ok(());
         }
         self.head.append(piece)?;
-        if is_whole(self.head.as_slice()) {
-            self.answer(alloc, server)?;
+        if let Some(answer) = answer_to(alloc, self.head.as_slice(), server)? {
+            self.is_answered = true;
+            if !answer.is_empty() {
+                let _ = self.stream.write(answer.as_bytes());
+            }
+            let _ = self.stream.shut();
         }
         Ok(())
     }
@@ -125,23 +112,11 @@ impl Monitor {
     }
 
     // Makes room for one more client, and returns a free place, counted from 1.
-    fn find_place(&mut self) -> Option<usize>
-        ensures { IfSome result (λ place. (1 ≤ place) × (place ≤ SEATS)) }
-    {
+    fn find_place(&mut self) -> Option<usize> {
         if self.seats.len() >= SEATS {
             let _ = self.seats.remove(0);
         }
-        for before in 0..SEATS {
-            if self.is_free(before + 1) {
-                return Some(before + 1);
-            }
-        }
-        None
-    }
-
-    // Whether no client has this place.
-    fn is_free(&self, place: usize) -> bool {
-        self.seats.iter().all(|seat| seat.place != place)
+        (1..=SEATS).find(|place| self.seats.iter().all(|seat| seat.place != *place))
     }
 
     // Takes in a connection. If that fails, the connection is closed.

@@ -1,105 +1,74 @@
 //! The answers to monitoring clients, over HTTP (RFC 9112).
 
-ghost use Rattle.std.specs.{Prelude.◌≡◌, Prelude.IfOk, String.string_bytes};
-ghost use Rattle.distmapd.specs.Metrics.{asks_path, answer_text, is_empty_line_next, head_text, is_whole, page_at, page_text};
-
+use crate::metrics::figures_text;
+use dist_epmd_server::Server;
+use httparse::{EMPTY_HEADER, Request};
 use std::alloc::{AllocError, Global};
 
-// The most bytes of a request's head. Our own choice.
+// The most bytes of a request's head that are read before it is answered, whole or not. Our own choice.
 const HEAD: usize = 4096;
 
-// A status and a body.
-type FigurePage<'a> = (&'a str, &'a str);
+// The most fields of a head: a request with more is answered at once. Our own choice.
+const FIELDS: usize = 64;
 
-// Whether a target is this path, with or without a query.
-fn asks_path(target: &[u8], path: &[u8]) -> bool
-    ensures { result ≡ asks_path target.now path.now }
-{
-    match target.strip_prefix(path) {
-        Some(rest) => rest.starts_with(b" ") || rest.starts_with(b"?"),
-        None => false,
+// The path of a target, without the slash at its front and without a query. In an absolute target it follows the host (RFC 9112, section
+// 3.2.2).
+fn path_of(target: &str) -> &str {
+    let (target, _) = target.split_once('?').unwrap_or((target, ""));
+    if let Some(path) = target.strip_prefix('/') {
+        return path;
     }
+    let (_, rest) = target.split_once("://").unwrap_or(("", ""));
+    let (_, path) = rest.split_once('/').unwrap_or(("", ""));
+    path
 }
 
-// The page at a target: the figures, whether connections are accepted, or whether the program answers.
-fn page_at<'a>(target: &[u8], is_ready: bool, figures: &'a str) -> FigurePage<'a>
-    ensures { (result.0.now, result.1.now) ≡ page_at target.now is_ready figures.now }
-{
-    if asks_path(target, b"/metrics") {
-        ("200 OK", figures)
-    } else if asks_path(target, b"/health") {
-        ("200 OK", "alive\n")
-    } else if !asks_path(target, b"/ready") {
-        ("404 Not Found", "/metrics, /ready and /health are here\n")
-    } else if is_ready {
-        ("200 OK", "ready\n")
-    } else {
-        let why = "no descriptor or no memory is left\n";
-        ("503 Service Unavailable", why)
-    }
+// The status and the body of the page at a path.
+fn page_at(
+    alloc: Global,
+    path: &str,
+    server: &Server,
+) -> Result<(&'static str, String), AllocError> {
+    let (status, body) = match path {
+        "metrics" => return Ok(("200 OK", figures_text(alloc, server)?)),
+        "health" => ("200 OK", "alive\n"),
+        "ready" if server.is_stuck() => (
+            "503 Service Unavailable",
+            "no descriptor or no memory is left\n",
+        ),
+        "ready" => ("200 OK", "ready\n"),
+        _ => ("404 Not Found", "/metrics, /ready and /health are here\n"),
+    };
+    Ok((status, String::from_str(alloc, body)?))
 }
 
-// The head of an answer with a body of this many bytes.
-#[tactic(auto, unfolding(crate::specs::Metrics::head_text))]
-fn head_text(alloc: Global, status: &str, length: usize) -> Result<String, AllocError>
-    ensures { IfOk result (λ text. string_bytes text ≡ head_text status.now length) }
-{
-    format!(in alloc;
-        "HTTP/1.1 {status}\r\nContent-Type: text/plain; version=0.0.4; charset=utf-8\r\nContent-Length: {length}\r\n\
-         Allow: GET, HEAD\r\nConnection: close\r\n\r\n"
-    )
-}
-
-// The whole answer; the connection is closed after it.
-fn answer_text(alloc: Global, page: FigurePage<'_>, wants_body: bool) -> Result<String, AllocError>
-    ensures { IfOk result (λ text. string_bytes text ≡ answer_text (page.entry.0.now, page.entry.1.now) wants_body) }
-{
-    let (status, body) = page;
-    let mut text = head_text(alloc, status, body.len())?;
-    if wants_body {
-        text.push_str(body)?;
-    }
-    Ok(text)
-}
-
-/// The answer to a request, by its first bytes, by whether connections are accepted, and with the text of the figures. HEAD does not
-/// want the body.
-pub fn page_text(
+/// The answer to a request by its first bytes, after which the connection is closed. `None`: its head goes on. One that is malformed or
+/// too long is answered by what it begins with. HEAD does not want the body.
+pub fn answer_to(
     alloc: Global,
     head: &[u8],
-    is_ready: bool,
-    figures: &str,
-) -> Result<String, AllocError>
-    ensures { IfOk result (λ text. string_bytes text ≡ page_text head.now is_ready figures.now) }
-{
-    if let Some(target) = head.strip_prefix(b"GET ") {
-        return answer_text(alloc, page_at(target, is_ready, figures), true);
+    server: &Server,
+) -> Result<Option<String>, AllocError> {
+    let mut fields = [EMPTY_HEADER; FIELDS];
+    let mut request = Request::new(&mut fields);
+    let goes_on = request.parse(head).is_ok_and(|status| status.is_partial());
+    if goes_on && head.len() < HEAD {
+        return Ok(None);
     }
-    if let Some(target) = head.strip_prefix(b"HEAD ") {
-        return answer_text(alloc, page_at(target, is_ready, figures), false);
-    }
-    let status = "405 Method Not Allowed";
-    answer_text(alloc, (status, "GET and HEAD alone are served\n"), true)
-}
-
-// Whether a text begins with the end of a line and an empty line.
-fn is_empty_line_next(text: &[u8]) -> bool
-    ensures { result ≡ is_empty_line_next text.now }
-{
-    text.starts_with(b"\n\n") || text.starts_with(b"\n\r\n")
-}
-
-/// Whether the head of a request has ended, by an empty line or by its length. A line ends with a line feed, with or without a carriage
-/// return before it (RFC 9112, section 2.2). After the head comes the body.
-pub fn is_whole(head: &[u8]) -> bool
-    ensures { result ≡ is_whole head.now }
-{
-    let mut rest = head;
-    while let [_, after @ ..] = rest {
-        if is_empty_line_next(rest) {
-            return true;
+    let (status, mut body) = match request.method {
+        Some("GET" | "HEAD") => page_at(alloc, path_of(request.path.unwrap_or("")), server)?,
+        _ => {
+            let why = String::from_str(alloc, "GET and HEAD alone are served\n")?;
+            ("405 Method Not Allowed", why)
         }
-        rest = after;
+    };
+    let length = body.len();
+    if request.method == Some("HEAD") {
+        body.clear();
     }
-    head.len() >= HEAD
+    let answer = format!(in alloc;
+        "HTTP/1.1 {status}\r\nContent-Type: text/plain; version=0.0.4; charset=utf-8\r\nContent-Length: {length}\r\n\
+         Allow: GET, HEAD\r\nConnection: close\r\n\r\n{body}"
+    )?;
+    Ok(Some(answer))
 }
