@@ -1,7 +1,7 @@
 //! A line of the log: a time, a word, and members, each with its name. As text, or as a JSON object (RFC 8259).
 
 ghost use Rattle.std.specs.{Prelude.◌≡◌, Prelude.◌∷◌, Prelude.[], Prelude.IfOk, Prelude.OnOk, Prelude.map, List.flat_map, String.string_bytes};
-ghost use Rattle.distmapd.specs.Members.{Appends, Shown, json_line, line, member_of, member_text, member_tokens, name_front, shown_of};
+ghost use Rattle.distmapd.specs.Members.{Appends, json_line, line, member_of, member_text, member_tokens, name_front, shown_of};
 ghost use Rattle.distmapd.specs.Members.{text_line, text_of, token_of};
 
 use crate::settings::LogForm;
@@ -92,20 +92,6 @@ fn text_line(
     format!(in alloc; "{time} distmapd: {word}{first}{more}\n")
 }
 
-// Writes a name from outside.
-fn put_name(alloc: Global, out: &mut Writer, name: &[u8]) -> Result<(), AllocError>
-    ensures { OnOk result (Appends (token_of (Shown.name name.now) ∷ []) out.old out.new) }
-{
-    out.string(&escape(alloc, name_front(name))?)
-}
-
-// Writes an address.
-fn put_host(alloc: Global, out: &mut Writer, host: IpAddr) -> Result<(), AllocError>
-    ensures { OnOk result (Appends (token_of (Shown.host (Some host)) ∷ []) out.old out.new) }
-{
-    out.string(&format!(in alloc; "{host}")?)
-}
-
 // Writes a value.
 fn put_value(alloc: Global, out: &mut Writer, value: LineValue<'_>) -> Result<(), AllocError>
     ensures { OnOk result (Appends (token_of (shown_of value.entry) ∷ []) out.old out.new) }
@@ -114,23 +100,10 @@ fn put_value(alloc: Global, out: &mut Writer, value: LineValue<'_>) -> Result<()
         LineValue::Number(number) => out.u64(number),
         LineValue::Bool(holds) => out.boolean(holds),
         LineValue::Text(text) => out.string(text),
-        LineValue::Name(name) => put_name(alloc, out, name.as_slice()),
-        LineValue::Host(Some(host)) => put_host(alloc, out, host),
+        LineValue::Name(name) => out.string(&escape(alloc, name_front(name.as_slice()))?),
+        LineValue::Host(Some(host)) => out.string(&format!(in alloc; "{host}")?),
         LineValue::Host(None) => out.null(),
     }
-}
-
-// Writes a member.
-fn put_member(
-    alloc: Global,
-    out: &mut Writer,
-    name: &str,
-    value: LineValue<'_>,
-) -> Result<(), AllocError>
-    ensures { OnOk result (Appends (member_tokens (name.now, shown_of value.entry)) out.old out.new) }
-{
-    out.key(name)?;
-    put_value(alloc, out, value)
 }
 
 // Writes members.
@@ -142,7 +115,8 @@ fn put_members(
     ensures { OnOk result (Appends (flat_map member_tokens (map member_of members.now)) out.old out.new) }
 {
     for (name, value) in members {
-        put_member(alloc, out, name, *value)?;
+        out.key(name)?;
+        put_value(alloc, out, *value)?;
     }
     Ok(())
 }

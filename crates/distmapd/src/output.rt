@@ -1,7 +1,7 @@
 //! What is printed: a text as a whole, and what `-names` prints of an answer.
 
 ghost use Rattle.std.specs.{Prelude.◌≡◌, Prelude.IfErr, Prelude.IfOk, Prelude.OnOk, Io.KnownBytes.Appends, String.string_bytes};
-ghost use Rattle.distmapd.specs.{declared.fault.Fault.TheVariants.WriteFailed, Listing.Prints, Listing.has_whole_lines, Listing.line_end, Listing.listing};
+ghost use Rattle.distmapd.specs.{declared.fault.Fault.TheVariants.WriteFailed, Listing.Prints, Listing.has_whole_lines, Listing.listing};
 
 use crate::answer::ReceivedAnswer;
 use crate::fault::Fault;
@@ -28,20 +28,13 @@ fn has_whole_lines(text: &[u8]) -> bool
     text.is_empty() || text.ends_with(b"\n")
 }
 
-// A line feed if the last line was cut.
-fn line_end(text: &[u8]) -> &'static str
-    ensures { result.now ≡ line_end text.now }
-{
-    if has_whole_lines(text) { "" } else { "\n" }
-}
-
 // The port mapper's port, and its lines. A name may have any bytes; those that are not printable are escaped.
 #[tactic(auto, unfolding(crate::specs::Listing::listing))]
 fn listing(alloc: Global, port: u32, text: &[u8]) -> Result<String, AllocError>
     ensures { IfOk result (λ printed. string_bytes printed ≡ listing port text.now) }
 {
     let lines = escape_lines(alloc, text)?;
-    let end = line_end(text);
+    let end = if has_whole_lines(text) { "" } else { "\n" };
     format!(in alloc; "epmd: up and running on port {port} with data:\n{lines}{end}")
 }
 

@@ -137,18 +137,12 @@ fn add_listeners(
     add_at_each(net, found, &own_addresses(alloc, addresses)?, port)
 }
 
-// Whether this process is meant, by LISTEN_PID: also if it is not set.
-fn is_meant(process: Option<&str>, own: i32) -> bool {
-    match process {
-        Some(word) => number_32(word.as_bytes()).map(i64::from) == Some(i64::from(own)),
-        None => true,
-    }
-}
-
 /// How many sockets were handed over, by LISTEN_FDS: from 1 to 16, and one if it is not set. `None` for another number, or if
 /// LISTEN_PID names another process.
 pub fn handed_over(said: Option<&str>, process: Option<&str>, own: i32) -> Option<u16> {
-    if !is_meant(process, own) {
+    if let Some(word) = process
+        && number_32(word.as_bytes()).map(i64::from) != Some(i64::from(own))
+    {
         return None;
     }
     match said {

@@ -47,11 +47,6 @@ impl StandardError {
         StandardError { fd, is_cut: false }
     }
 
-    // Whether a write would not wait: a pipe or a socket that has room takes a line.
-    fn has_room(&self) -> bool {
-        ready_events(self.fd).is_some_and(|events| events & POLLOUT != 0)
-    }
-
     // Ends a line of which only a part was written, so that the next begins a new one. Returns whether that is done.
     fn end_line(&mut self) -> bool {
         if self.is_cut {
@@ -62,9 +57,10 @@ impl StandardError {
 }
 
 impl Write for StandardError {
-    // The runtime ignores SIGPIPE from the start, so a write that has no reader fails and does not end the program.
+    // It does not wait: a pipe or a socket that has room takes a line. The runtime ignores SIGPIPE from the start, so a write that has no
+    // reader fails and does not end the program.
     fn write(&mut self, bytes: &[u8]) -> io::Result<usize> {
-        if self.has_room()
+        if ready_events(self.fd).is_some_and(|events| events & POLLOUT != 0)
             && self.end_line()
             && let Ok(count) = usize::try_from(libc::write(self.fd, bytes))
         {
