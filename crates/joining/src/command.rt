@@ -3,10 +3,10 @@
 use crate::fault::Fault;
 use crate::{HELP, VERSION};
 use clap::error::ErrorKind;
-use clap::{Arg, ArgAction, ArgMatches, Command, Error};
+use clap::{Arg, ArgAction, ArgMatches, Error};
 use dist_program::{WordFault, command_line, name_in, option, option_number, parser_sentence};
 use distribution::NodeName;
-use std::alloc::{AllocError, Global};
+use std::alloc::Global;
 
 /// After how many seconds a silent peer is given up. Source: Erlang/OTP, application `kernel`, `net_ticktime`.
 const NET_TICKTIME: u16 = 60;
@@ -52,13 +52,6 @@ const COOKIE_FILE: &str = "cookie-file";
 
 // The option that takes no value.
 const UNSAFE: &str = "cookie-unsafe";
-
-// The command line: the node, and the options.
-fn program<'a>(alloc: Global) -> Result<Command<'a>, AllocError> {
-    let node = Arg::new(alloc, "node").action(ArgAction::Set);
-    let cookie = option(alloc, COOKIE, ArgAction::Set).alias(COOKIE_FILE)?;
-    command_line(alloc, PROGRAM, node, &[UNSAFE], &VALUES)?.arg(cookie)
-}
 
 // The number from 1 to 65,535 of this option, if it is given.
 fn number_of(alloc: Global, matches: &ArgMatches<'_>, id: &str) -> Result<Option<u16>, WordFault> {
@@ -125,7 +118,10 @@ pub fn request_of<'a>(
     words: &'a [String],
     usual_port: u16,
 ) -> Result<Invocation<'a>, Fault> {
-    match program(alloc)?.try_get_matches_from(words) {
+    let node = Arg::new(alloc, "node").action(ArgAction::Set);
+    let cookie = option(alloc, COOKIE, ArgAction::Set).alias(COOKIE_FILE)?;
+    let program = command_line(alloc, PROGRAM, node, &[UNSAFE], &VALUES)?.arg(cookie)?;
+    match program.try_get_matches_from(words) {
         Ok(matches) => Ok(Invocation::Joins(wanted_in(alloc, &matches, usual_port)?)),
         Err(error) => request_instead(alloc, &error),
     }

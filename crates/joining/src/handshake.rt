@@ -43,34 +43,9 @@ fn fault_of(desk: &MemoryDesk, end_: EndId, outcome: Outcome) -> Fault {
     Fault::NotUp(why, awaited_message(desk, end_))
 }
 
-// What a handshake came to that ended so.
-fn result_of(
-    desk: &MemoryDesk,
-    end_: EndId,
-    reached: Reached,
-) -> Result<(UpRecord, Vec<u8>), Fault> {
-    match reached {
-        Reached::Up { record, rest } => Ok((record, rest)),
-        Reached::Ended(outcome) => Err(fault_of(desk, end_, outcome)),
-    }
-}
-
 /// A step of our node that sends no challenge: only a frame makes it send one.
 pub fn step(alloc: Global, node: &mut Node, event: &Event) -> Result<Reply, Fault> {
     Ok(node.step(alloc, event, 0)?)
-}
-
-// Drives the end at this desk until it is up, or the stream falls quiet for good.
-fn drive_desk<S: Stream>(
-    alloc: Global,
-    stream: &mut S,
-    desk: &mut MemoryDesk,
-    end_: EndId,
-    first: &[u8],
-    challenge: u32,
-) -> Reached {
-    let mut draws = LinkChallenge(challenge);
-    handshake(alloc, stream, desk, &mut draws, end_, first, AMPLE_TURNS)
 }
 
 /// Performs the handshake of a dialled end whose connection is made, until the stream falls quiet for good. Returns what is known of
@@ -85,7 +60,19 @@ pub fn shake_hands<S: Stream>(
     let mut node = node;
     let opened = step(alloc, &mut node, &Event::Opened { end_, link: 0 })?;
     let mut desk = MemoryDesk::new(alloc, node, end_)?;
+    let mut draws = LinkChallenge(challenge);
     let first = opened.say.as_slice();
-    let reached = drive_desk(alloc, stream, &mut desk, end_, first, challenge);
-    result_of(&desk, end_, reached)
+    let reached = handshake(
+        alloc,
+        stream,
+        &mut desk,
+        &mut draws,
+        end_,
+        first,
+        AMPLE_TURNS,
+    );
+    match reached {
+        Reached::Up { record, rest } => Ok((record, rest)),
+        Reached::Ended(outcome) => Err(fault_of(&desk, end_, outcome)),
+    }
 }
