@@ -221,8 +221,8 @@ fn run<R: Net + Wait + Clock>(
     }
 }
 
-// Notifies the service manager, if one asks for it, that the program listens, and serves until the system fails. Behind the descriptors
-// of the monitor one must be left for a client of the port mapper.
+// Notifies the service manager, if one asks for it, that the program listens, and serves until the system fails. Beside the descriptors
+// that the monitor reserves one must be left for a client of the port mapper.
 fn serve_from_now<R: Wait + Clock>(
     rt: &HostRuntime,
     host: &R,
