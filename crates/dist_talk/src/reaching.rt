@@ -17,7 +17,11 @@ fn unreached_reach(unreached: Unreached) -> u8
         | Unreached::NoMemory
         | Unreached::NoDescriptors
         | Unreached::Failed => 0,
-        _ => 1,
+        Unreached::Refused
+        | Unreached::Reset
+        | Unreached::HostDown
+        | Unreached::Prohibited
+        | Unreached::NoAnswer => 1,
     }
 }
 
@@ -33,7 +37,8 @@ fn awaited_reach(awaited: AwaitedMessage) -> u8
 }
 
 /// How far a probe got, by its verdict, in the order of the way: the host's name, the port mapper, the registration, the node's
-/// port, its status, its challenge, its acknowledgement. A fault of this machine ends the way. To any other verdict no probe comes.
+/// port, its status, its challenge, its acknowledgement. A fault of this machine ends the way. A host without an address, and a verdict to
+/// which no probe comes, have the first place. Each verdict is named here: a new one does not compile before it has its place.
 pub fn reach(verdict: HandshakeVerdict) -> u8
     ensures { result ≡ reach verdict }
 {
@@ -57,11 +62,25 @@ pub fn reach(verdict: HandshakeVerdict) -> u8
         HandshakeVerdict::OtherName(_) | HandshakeVerdict::Version5 => 11,
         HandshakeVerdict::LacksFlags(Side::Acceptor, _)
         | HandshakeVerdict::LongAndShort
+        | HandshakeVerdict::Withdrawn(Side::Acceptor)
         | HandshakeVerdict::WrongCookie(_)
         | HandshakeVerdict::WrongAck => 12,
         HandshakeVerdict::Dropped | HandshakeVerdict::Reached(_) | HandshakeVerdict::Up => 13,
         HandshakeVerdict::NoMemory | HandshakeVerdict::NoDescriptors => 14,
-        _ => 0,
+        HandshakeVerdict::NoHost(_)
+        | HandshakeVerdict::ResolverSilent
+        | HandshakeVerdict::Finished
+        | HandshakeVerdict::Answered(_)
+        | HandshakeVerdict::NameInUse
+        | HandshakeVerdict::NoCaller
+        | HandshakeVerdict::NoName
+        | HandshakeVerdict::Left
+        | HandshakeVerdict::Stopped
+        | HandshakeVerdict::Withdrawn(Side::Dialler)
+        | HandshakeVerdict::WantsName
+        | HandshakeVerdict::Dynamic
+        | HandshakeVerdict::Unfinished
+        | HandshakeVerdict::NothingFound => 0,
     }
 }
 
