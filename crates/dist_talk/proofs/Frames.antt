@@ -10,7 +10,7 @@ use Rattle.dist_stream.proofs.Talks.{Spends-none, Spends-trans, append_known-app
 use Rattle.dist_talk.specs.{Bodies.HearsFrameOf, Bodies.stop_of, Bodies.tags_of, Handshake.Says, Handshake.or_first, Handshake.said_by, OwnSide.message_due}
 use Rattle.dist_talk.specs.{Standing.standing_of, Words.side_of}
 use Rattle.dist_talk.specs.Speaking.{AreFrames, EndsAs, Going, HearsNext, InTurn, IsDue, IsSpelled, IsTurn, IsWhole, LacksRoom, Moves, NoneUnless, SaidMore}
-use Rattle.dist_talk.specs.Speaking.{SaidSame, SaysMessage, Spoke, TakesCame, acceptor_after, dialler_after, end_by, how_by, how_of, other_side}
+use Rattle.dist_talk.specs.Speaking.{SaidSame, SaysMessage, Spoke, TakesCame, acceptor_after, dialler_after, end_by, how_cut, how_of, is_reply, other_side}
 use Rattle.dist_talk.specs.declared.{bodies.Came.Came, own_side.OwnSide.OwnSide, verdict.AwaitedMessage.AwaitedMessage, verdict.HandshakeVerdict.HandshakeVerdict}
 use Rattle.dist_talk.specs.declared.bodies.Came.TheVariants as came
 use Rattle.dist_talk.specs.declared.handshake.{Handshake.Handshake, HandshakeEnd.HandshakeEnd, SentContent.SentContent, SentMessage.SentMessage}
@@ -189,7 +189,7 @@ said_next own due m h k count start s0 s1 total turns left stood turn is p more 
 pub said_cut : (own : OwnSide) (due : AwaitedMessage) (m : Message) (h k : Handshake) (count : ℕ) (start s0 s1 : StreamState) (total turns left : ℕ)
     → standing_of own.terms h.dialler.items h.acceptor.items ≡ Due due → side_of due ≡ own.side → message_due own h.dialler.items h.acceptor.items due ≡ Some m
     → Going own count h start s0 total turns → (more : SaidMore own.side (content.Message m) h k) (frame : List ℕ) → IsSpelled own.side (content.Message m) frame
-    → (cause : TurnError) → SaysFront s0 s1 turns left (Some cause) frame → k.ending ≡ Some (record { side = other_side own.side; how = how_by cause 0 }) → Spoke own k start s1 total
+    → (cause : TurnError) → SaysFront s0 s1 turns left (Some cause) frame → k.ending ≡ Some (record { side = other_side own.side; how = how_cut (is_reply m) cause }) → Spoke own k start s1 total
 said_cut own due m h k count start s0 s1 total turns left stood turn is p more frame spelled cause q ends =
     let framed : IsSpelled own.side more.sent.content frame = subst (λ (x : SentContent). IsSpelled own.side x frame) (sym more.content_is) spelled in
     let parts : p.said ++ frame ≡ (p.said ++ take q.count frame) ++ drop q.count frame = ap (λ (l : List ℕ). p.said ++ l) (sym (take-append-drop q.count frame)) ∙ sym (append_assoc p.said (take q.count frame) (drop q.count frame)) in
@@ -211,14 +211,24 @@ said_cut own due m h k count start s0 s1 total turns left stood turn is p more f
       own_frames = subst (AreFrames own.side (said_by own.side k)) parts all;
       own_whole = tt;
       other_frames = subst (λ (items : List SentMessage). AreFrames (other_side own.side) items p.heard) (sym (more_other own.side (content.Message m) h k more)) p.other_frames;
-      ends = subst (λ (o : Option HandshakeEnd). EndsAs o own (length order) k (Some cause) []) (sym ends) (inr (inr (inl (record { cause = cause; stop_is = refl; is = refl; nothing = refl }))));
+      ends = subst (λ (o : Option HandshakeEnd). EndsAs o own (length order) k (Some cause) []) (sym ends) (inr (inr (inl (record {
+        cause = cause;
+        stop_is = refl;
+        before = said_by own.side h;
+        last = more.sent;
+        message = m;
+        said_is = more_own own.side (content.Message m) h k more;
+        message_is = more.content_is;
+        is = refl;
+        nothing = refl;
+      }))));
     }
 
 -- the one or the other
 by_stop : (own : OwnSide) (due : AwaitedMessage) (m : Message) (h k : Handshake) (s0 s1 : StreamState) (turns left : ℕ)
     → standing_of own.terms h.dialler.items h.acceptor.items ≡ Due due → side_of due ≡ own.side → message_due own h.dialler.items h.acceptor.items due ≡ Some m
     → (more : SaidMore own.side (content.Message m) h k) (frame : List ℕ) → IsSpelled own.side (content.Message m) frame
-    → (stop : Option TurnError) → SaysFront s0 s1 turns left stop frame → k.ending ≡ end_by (other_side own.side) stop → Moves (is_none k.ending) own h k s0 s1 turns left
+    → (stop : Option TurnError) → SaysFront s0 s1 turns left stop frame → k.ending ≡ end_by (other_side own.side) (is_reply m) stop → Moves (is_none k.ending) own h k s0 s1 turns left
 by_stop own due m h k s0 s1 turns left stood turn is more frame spelled None q ends =
     subst (λ (o : Option HandshakeEnd). Moves (is_none o) own h k s0 s1 turns left) (sym ends)
     (λ count start total p. said_next own due m h k count start s0 s1 total turns left stood turn is p more frame spelled q ends)

@@ -3,6 +3,7 @@ use Rattle.std.specs.Prelude.{◌≡◌, ℕ, ◌+◌, ◌⊎◌, Bool, true, fa
 use Rattle.std.specs.{Int.w16, Io.KnownBytes.prepend_known, Io.KnownBytes.append_known}
 use Rattle.dist_frames.specs.Stream.{body_frame}
 use Rattle.dist_messages.specs.declared.message.Message.{Message}
+use Rattle.dist_messages.specs.declared.message.Message.TheVariants as message
 use Rattle.dist_messages.specs.declared.message.Side.{Side, TheVariants.Dialler, TheVariants.Acceptor}
 use Rattle.dist_stream.specs.{Stream.StreamState, Turns.SaysFront, Turns.Spends, declared.turn_error.TurnError.TurnError}
 use Rattle.dist_stream.specs.declared.turn_error.TurnError.TheVariants as fault
@@ -71,6 +72,17 @@ how_by fault.Limit count = ended.Quiet count
 how_by fault.Ended count = ended.Closed
 how_by other count = ended.Reset
 
+-- the message is a reply
+abbrev pub is_reply : Message → Bool
+is_reply (message.Reply challenge digest) = true
+is_reply other = false
+
+-- the stream took no more of an own message: the other side ended the handshake before it had a reply that a broken connection did not take
+abbrev pub how_cut : Bool → TurnError → HowEnded
+how_cut true fault.WriteFailed = ended.Unread
+how_cut true cause = how_by cause 0
+how_cut false cause = how_by cause 0
+
 -- what came where a message of the other side was due, or did not come, ends the handshake so; a body does if memory runs out for it
 abbrev pub how_of : Came → HowEnded
 how_of (came.Body body) = ended.NoMemory
@@ -102,10 +114,15 @@ pub record IsLeft (own : OwnSide) (e : HandshakeEnd) (h : Handshake) (stop : Opt
   pub is : e ≡ record { side = other_side own.side; how = how_of came }
 
 -- The stream took no more of the own message that was said last.
-pub record IsCut (own : OwnSide) (e : HandshakeEnd) (stop : Option TurnError) (rest : List ℕ) : Type 0 where
+pub record IsCut (own : OwnSide) (e : HandshakeEnd) (h : Handshake) (stop : Option TurnError) (rest : List ℕ) : Type 0 where
   pub cause : TurnError
   pub stop_is : stop ≡ Some cause
-  pub is : e ≡ record { side = other_side own.side; how = how_by cause 0 }
+  pub before : List SentMessage
+  pub last : SentMessage
+  pub message : Message
+  pub said_is : said_by own.side h ≡ before ++ last ∷ []
+  pub message_is : last.content ≡ content.Message message
+  pub is : e ≡ record { side = other_side own.side; how = how_cut (is_reply message) cause }
   pub nothing : rest ≡ []
 
 -- Memory ran out here.
@@ -117,7 +134,7 @@ LacksMemory own e stop rest = (e ≡ record { side = other_side own.side; how = 
 abbrev pub EndsAs : Option HandshakeEnd → OwnSide → ℕ → Handshake → Option TurnError → List ℕ → Type 0
 EndsAs None own count h stop rest =
     (((v : HandshakeVerdict) × (standing_of own.terms h.dialler.items h.acceptor.items ≡ Decided v)) ⊎ (count ≡ 7)) × IsQuiet stop rest
-EndsAs (Some e) own count h stop rest = Leaves own e h stop rest ⊎ IsLeft own e h stop rest ⊎ IsCut own e stop rest ⊎ LacksMemory own e stop rest
+EndsAs (Some e) own count h stop rest = Leaves own e h stop rest ⊎ IsLeft own e h stop rest ⊎ IsCut own e h stop rest ⊎ LacksMemory own e stop rest
 
 -- ---- what passed
 
@@ -186,10 +203,10 @@ pub record SaidMore (side : Side) (c : SentContent) (h k : Handshake) : Type 0 w
   pub acceptor : k.acceptor.items ≡ acceptor_after side sent h.acceptor.items
   pub missing : k.missing ≡ h.missing
 
--- the end by this side, if the stream has a fault
-abbrev pub end_by : Side → Option TurnError → Option HandshakeEnd
-end_by side None = None
-end_by side (Some cause) = Some (record { side = side; how = how_by cause 0 })
+-- the end by this side, if the stream has a fault at an own message, which may be a reply
+abbrev pub end_by : Side → Bool → Option TurnError → Option HandshakeEnd
+end_by side is_reply None = None
+end_by side is_reply (Some cause) = Some (record { side = side; how = how_cut is_reply cause })
 
 -- Memory ran out before a message was said.
 pub record LacksRoom (side : Side) (h k : Handshake) (old new : StreamState) (turns left : ℕ) : Type 0 where
@@ -205,7 +222,7 @@ pub record SaysMessage (side : Side) (m : Message) (h k : Handshake) (old new : 
   pub spelled : IsSpelled side (content.Message m) frame
   pub stop : Option TurnError
   pub says : SaysFront old new turns left stop frame
-  pub ending : k.ending ≡ end_by (other_side side) stop
+  pub ending : k.ending ≡ end_by (other_side side) (is_reply m) stop
 
 -- what came of a side is in the handshake: what a body says, or why none came
 abbrev pub TakesCame : Side → Came → Handshake → Handshake → Type 0

@@ -3,7 +3,8 @@
 ghost use Rattle.std.specs.Prelude.{◌≡◌, ◌⊎◌, IfOk, IsFalse, IsTrue, None, [], is_none};
 ghost use Rattle.dist_messages.specs.Spelling.{Fits};
 ghost use Rattle.dist_talk.specs.Bodies.{tags_of};
-ghost use Rattle.dist_talk.specs.Speaking.{HearsNext, IsSpelled, IsWhole, LacksRoom, Moves, SaysMessage, Spoke, TakesCame, how_by, other_side};
+ghost use Rattle.dist_talk.specs.Speaking.{HearsNext, IsSpelled, IsWhole, LacksRoom, Moves, SaysMessage, Spoke, TakesCame};
+ghost use Rattle.dist_talk.specs.Speaking.{how_by, how_cut, is_reply, other_side};
 ghost use Rattle.dist_talk.specs.{Standing.standing, Words.side_of};
 ghost use Rattle.dist_talk.specs.declared.bodies.Came.TheVariants as came;
 ghost use Rattle.dist_talk.specs.declared.handshake.SentContent.TheVariants as content;
@@ -45,6 +46,24 @@ fn how_by(fault: TurnError, count: usize) -> HowEnded
     }
 }
 
+// Whether a message is a reply.
+fn is_reply(message: &Message) -> bool
+    ensures { result ≡ is_reply message.now }
+{
+    matches!(message, Message::Reply { .. })
+}
+
+// How the other side ended the handshake if the stream took no more of an own message. A connection that takes no reply was ended before
+// the other side had it.
+fn how_cut(is_reply: bool, fault: TurnError) -> HowEnded
+    ensures { result ≡ how_cut is_reply fault }
+{
+    match fault {
+        TurnError::WriteFailed if is_reply => HowEnded::Unread,
+        _ => how_by(fault, 0),
+    }
+}
+
 // What a message of this side says, and its frame.
 fn spell(alloc: Global, side: Side, message: Message) -> Result<(SentContent, Vec<u8>), AllocError>
     // The fields of a message that is due are numbers of its widths.
@@ -77,7 +96,7 @@ fn say<S: Stream>(
         (S.meaning limited.old.stream.now) (S.meaning limited.new.stream.now) limited.old.left limited.new.left }
     ensures loan { limited.new.stream.ghost_name ≡ limited.old.stream.ghost_name }
 {
-    let other = other_side(side);
+    let (other, is_reply) = (other_side(side), is_reply(&message));
     let Ok((content, frame)) = spell(alloc, side, message) else {
         return talk.end(other, HowEnded::NoMemory);
     };
@@ -86,7 +105,7 @@ fn say<S: Stream>(
     };
     match limited.write_all(&frame) {
         Ok(()) => {}
-        Err(fault) => talk.end(other, how_by(fault, 0)),
+        Err(fault) => talk.end(other, how_cut(is_reply, fault)),
     }
 }
 

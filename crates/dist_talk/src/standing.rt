@@ -25,7 +25,7 @@ pub enum Standing {
     Decided(HandshakeVerdict),
 }
 
-//// A reply, and the challenge to which it was made.
+/// A reply, and the challenge to which it was made.
 #[derive(Clone, Copy)]
 pub struct ReplyMade {
     /// The challenge of the accepting side.
