@@ -4,3 +4,4 @@ pub mod Watches
 pub mod Reports
 pub mod Tallies
 pub mod Counts
+pub mod Counted

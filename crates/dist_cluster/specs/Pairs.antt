@@ -57,7 +57,9 @@ pair_status pairing.LongAndShort = 9
 pair_status (pairing.LacksFlags first second) = 8
 pair_status pairing.OtherKinds = 3
 pair_status pairing.OtherCookies = 10
-pair_status other = 0
+pair_status pairing.NotReached = 0
+pair_status pairing.Unsure = 0
+pair_status pairing.Agree = 0
 
 -- something is wrong with the pair, so that it has a status of its own
 abbrev pub is_bad : Pairing → Bool
