@@ -95,6 +95,7 @@ shape_of value.Null = nothing
 shape_of (value.Bool b) = truth b
 shape_of (value.Number n) = number n
 shape_of (value.Text s) = text s.now
+shape_of (value.Escaped s) = text s.now
 shape_of (value.Name bytes) = text (escapes_of bytes.now)
 shape_of (value.Digits flags) = text (digits 16 false flags.0)
 shape_of (value.Names flags) = texts (flag_names flags.0)

@@ -8,6 +8,7 @@ use dist_epmd::PortInfo;
 use dist_messages::{Message, Side, Status};
 use dist_talk::{Handshake, HandshakeVerdict, NodeDescription, SentContent};
 use std::net::SocketAddr;
+use std::time::Duration;
 
 /// What was found out about a node at one address of its host.
 #[derive(Drop)]
@@ -20,6 +21,8 @@ pub struct Found {
     pub port: Option<u16>,
     /// What was said there, if a connection was made.
     pub handshake: Option<Handshake>,
+    /// How long after our last message the talk ended, if a connection was made.
+    pub ended_after: Option<Duration>,
 }
 
 impl Found {
@@ -33,6 +36,7 @@ impl Found {
             registration: None,
             port: None,
             handshake: None,
+            ended_after: None,
         }
     }
 
@@ -41,6 +45,14 @@ impl Found {
         match self.handshake.as_ref()?.acceptor.first()?.content {
             SentContent::Message(Message::Status(status)) => Some(status),
             _ => None,
+        }
+    }
+
+    /// The word of a status that no node sends, where one came in place of a status.
+    pub fn strange_status(&self) -> Option<&[u8]> {
+        match &self.handshake.as_ref()?.acceptor.first()?.content {
+            SentContent::Other(body) => body.as_slice().strip_prefix(b"s"),
+            SentContent::Message(_) => None,
         }
     }
 

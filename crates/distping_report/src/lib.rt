@@ -15,6 +15,7 @@ mod moment;
 mod objects;
 mod page;
 mod piece;
+mod sentences;
 mod shown;
 mod sink;
 mod watched;

@@ -15,4 +15,5 @@ pub use callers::caller_object;
 pub use many::{left_out_object, more_left_out_object, pair_object, summary_object};
 pub use member::{FORM, Value, object_line};
 pub use nodes::{group_object, object_of};
+pub use parts::Judged;
 pub use watched::{change_object, latency_object};

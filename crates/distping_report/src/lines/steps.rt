@@ -6,7 +6,7 @@ use crate::shown::{count_lines, split_shown};
 use dist_epmd::PortInfo;
 use dist_epmd_calls::LookupError;
 use dist_flags::{Dflag, Release, ReleaseShown, is_refused_by_all, oldest_refusal, release_shown};
-use dist_messages::Status;
+use dist_messages::{Side, Status};
 use dist_names::{Flags, NodeName, escape_lines};
 use dist_talk::{HandshakeVerdict, NodeDescription, Unreached, is_long_and_short};
 use distping_words::{Detail, Fault};
@@ -263,6 +263,9 @@ impl LineSink<'_> {
                 self.put_text("✗  cookie    the node closed the connection upon our digest")
             }
             HandshakeVerdict::WrongAck => self.put_text("✗  cookie    the node's digest is wrong"),
+            HandshakeVerdict::Withdrawn(Side::Acceptor) => {
+                self.put_text("!  cookie    the node ended the connection before it had our digest")
+            }
             _ => Ok(()),
         }
     }

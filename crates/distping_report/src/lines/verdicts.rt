@@ -6,8 +6,9 @@ ghost use Rattle.distping_report.specs.{Results.IsCallerText, Results.IsNodeText
 use crate::asked::{Dial, Listen};
 use crate::found::{Caller, ProbeOutcome};
 use crate::lines::{CHECK, CROSS, LineSink};
-use crate::objects::{caller_object, group_object, object_of};
+use crate::objects::{Judged, caller_object, group_object, object_of};
 use crate::piece::LinePiece::{Host, Name, Number, Text};
+use crate::sentences::{cause_of, remedy_of};
 use dist_cluster::Group;
 use dist_names::NodeName;
 use dist_talk::HandshakeVerdict;
@@ -24,27 +25,41 @@ pub fn exit_mark(status: u8, has_colors: bool) -> &'static str
 }
 
 impl LineSink<'_> {
-    /// The text of a verdict: word and cause, and the remedy, unless the verdict alone is printed.
-    pub fn verdict_text(self, verdict: HandshakeVerdict) -> Result<String, AllocError>
-        ensures { IfOk result (λ text. IsVerdictText verdict (string_bytes text)) }
+    // The text of a verdict with its sentences: word and cause, and the remedy, unless the verdict alone is printed.
+    fn judged_text(self, judged: Judged<'_>) -> Result<String, AllocError>
+        ensures { IfOk result (λ text. IsVerdictText judged.entry.verdict (string_bytes text)) }
     {
+        let verdict = judged.verdict;
         let mark = exit_mark(verdict.status(), self.has_colors);
-        let (name, cause) = (verdict.name(), verdict.cause());
+        let (name, cause) = (verdict.name(), judged.cause);
         if self.detail == Detail::Verdict {
             return format!(in self.alloc; "{mark}  {name}: {cause}\n");
         }
-        let remedy = verdict.remedy();
+        let remedy = judged.remedy;
         format!(in self.alloc; "{mark}  {name}: {cause}\n   remedy    {remedy}\n")
+    }
+
+    /// The same of a verdict with the sentences that it always has.
+    pub fn verdict_text(self, verdict: HandshakeVerdict) -> Result<String, AllocError>
+        ensures { IfOk result (λ text. IsVerdictText verdict (string_bytes text)) }
+    {
+        self.judged_text(Judged::of(verdict))
     }
 
     /// The text of the result of a probe.
     pub fn node_text(self, dial: &Dial<'_>, outcome: &ProbeOutcome) -> Result<String, AllocError>
         ensures { IfOk result (λ text. IsNodeText self.entry.quiet dial.now outcome.now (string_bytes text)) }
     {
+        let cause = cause_of(self.alloc, dial, outcome)?;
+        let judged = Judged {
+            verdict: outcome.verdict,
+            cause: &cause,
+            remedy: remedy_of(dial, outcome.verdict),
+        };
         if self.quiet {
-            object_of(self.alloc, dial, outcome)
+            object_of(self.alloc, dial, outcome, judged)
         } else {
-            self.verdict_text(outcome.verdict)
+            self.judged_text(judged)
         }
     }
 

@@ -7,7 +7,7 @@ ghost use Rattle.distping_report.specs.Results.{ShowsVerdict};
 use crate::asked::Listen;
 use crate::found::Caller;
 use crate::objects::member::{FORM, Member, Value, begin_line, end_line, put_members};
-use crate::objects::parts::{lacking_flags, put_peer, verdict_members};
+use crate::objects::parts::{Judged, lacking_flags, put_peer, verdict_members};
 use crate::objects::values::{address_or_null, small_number};
 use dist_talk::HandshakeVerdict;
 use std::alloc::{AllocError, Global};
@@ -39,6 +39,6 @@ pub fn caller_object(
     put_members(alloc, &mut out, &call_members(listen, caller))?;
     put_peer(alloc, &mut out, caller.peer())?;
     let lacking = Value::Names(lacking_flags(verdict, caller.peer()));
-    put_members(alloc, &mut out, &verdict_members(lacking, verdict))?;
+    put_members(alloc, &mut out, &verdict_members(lacking, Judged::of(verdict)))?;
     end_line(out)
 }

@@ -22,6 +22,8 @@ pub enum Value<'a> {
     Number(u64),
     /// The program's own text.
     Text(&'static str),
+    /// Text that is already escaped.
+    Escaped(&'a str),
     /// A name from outside, escaped.
     Name(&'a [u8]),
     /// Flags in hexadecimal digits.
@@ -84,6 +86,7 @@ fn put_value(alloc: Global, out: &mut Writer, value: Value<'_>) -> Result<(), Al
         Value::Bool(holds) => out.boolean(holds),
         Value::Number(number) => out.u64(number),
         Value::Text(text) => out.string(text),
+        Value::Escaped(text) => out.string(text),
         Value::Name(bytes) => put_name(alloc, out, bytes),
         Value::Digits(flags) => put_digits(alloc, out, flags),
         Value::Names(flags) => put_names(out, flags, &Dflag::all()),

@@ -10,7 +10,7 @@ use crate::asked::Dial;
 use crate::found::ProbeOutcome;
 use crate::objects::member::{FORM, Member, Value, begin_line, end_line, put_members};
 use crate::objects::parts::{
-    lacking_flags, put_peer, put_registration, put_tries, verdict_members,
+    Judged, lacking_flags, put_peer, put_registration, put_tries, verdict_members,
 };
 use crate::objects::values::{address_or_null, number_or_null, status_or_null};
 use dist_cluster::Group;
@@ -35,11 +35,12 @@ fn node_line<'x>(
     node: &'x [u8],
     name: Value<'x>,
     outcome: &ProbeOutcome,
+    judged: Judged<'_>,
 ) -> Result<String, AllocError>
-    ensures { IfOk result (λ line. IsNodeLine node.now outcome.now.verdict (string_bytes line)) }
+    ensures { IfOk result (λ line. IsNodeLine node.now judged.entry.verdict (string_bytes line)) }
 {
     let mut out = begin_line(alloc)?;
-    let (found, verdict) = (&outcome.found, outcome.verdict);
+    let found = &outcome.found;
     put_members(alloc, &mut out, &name_members(node, name))?;
     put_members(
         alloc,
@@ -53,25 +54,27 @@ fn node_line<'x>(
     ];
     put_members(alloc, &mut out, &answer)?;
     put_peer(alloc, &mut out, found.peer())?;
-    let lacking = Value::Names(lacking_flags(verdict, found.peer()));
-    put_members(alloc, &mut out, &verdict_members(lacking, verdict))?;
+    let lacking = Value::Names(lacking_flags(judged.verdict, found.peer()));
+    put_members(alloc, &mut out, &verdict_members(lacking, judged))?;
     put_tries(alloc, &mut out, outcome)?;
     end_line(out)
 }
 
-/// What was found out about a node, and the verdict, as one line.
+/// What was found out about a node, and the verdict on it with its sentences, as one line.
 pub fn object_of(
     alloc: Global,
     dial: &Dial<'_>,
     outcome: &ProbeOutcome,
+    judged: Judged<'_>,
 ) -> Result<String, AllocError>
-    ensures { IfOk result (λ line. IsNodeLine dial.now.node.now outcome.now.verdict (string_bytes line)) }
+    ensures { IfOk result (λ line. IsNodeLine dial.now.node.now judged.entry.verdict (string_bytes line)) }
 {
     node_line(
         alloc,
         dial.node.bytes(),
         Value::Name(dial.own.bytes()),
         outcome,
+        judged,
     )
 }
 
@@ -83,5 +86,6 @@ pub fn group_object(
 ) -> Result<String, AllocError>
     ensures { IfOk result (λ line. IsNodeLine (group_word group.now) outcome.now.verdict (string_bytes line)) }
 {
-    node_line(alloc, group.word(), Value::Null, outcome)
+    let judged = Judged::of(outcome.verdict);
+    node_line(alloc, group.word(), Value::Null, outcome, judged)
 }

@@ -15,6 +15,30 @@ use json::Writer;
 use std::alloc::{AllocError, Global};
 use std::net::SocketAddr;
 
+/// A verdict, and the sentences that go with it.
+#[derive(Clone, Copy)]
+pub struct Judged<'a> {
+    /// The verdict.
+    pub verdict: HandshakeVerdict,
+    /// What happened, escaped.
+    pub cause: &'a str,
+    /// What can be done about it.
+    pub remedy: &'static str,
+}
+
+impl<'a> Judged<'a> {
+    /// This verdict.
+    pub fn of(verdict: HandshakeVerdict) -> Judged<'a>
+        ensures { result.verdict ≡ verdict }
+    {
+        Judged {
+            verdict,
+            cause: verdict.cause(),
+            remedy: verdict.remedy(),
+        }
+    }
+}
+
 /// The missing flags: those for which a node refuses another, or else those for which newer releases refuse the node.
 pub fn lacking_flags(verdict: HandshakeVerdict, peer: Option<NodeDescription<'_>>) -> Flags {
     match (verdict, peer) {
@@ -73,16 +97,17 @@ pub fn put_peer(
 }
 
 /// The verdict, with the flags that are missing.
-pub fn verdict_members(lacking: Value<'static>, verdict: HandshakeVerdict) -> [Member<'static>; 5]
-    ensures { (cause : List ℕ) × (remedy : List ℕ) × (layout_of result ≡ member (codes "lacking") (shape_of lacking.entry)
-        (member (codes "verdict") (text (verdict_word verdict)) (member (codes "cause") (text cause)
-        (member (codes "remedy") (text remedy) (member (codes "exit") (number (status_of verdict)) no_member))))) }
+pub fn verdict_members<'x>(lacking: Value<'x>, judged: Judged<'x>) -> [Member<'x>; 5]
+    ensures { layout_of result ≡ member (codes "lacking") (shape_of lacking.entry)
+        (member (codes "verdict") (text (verdict_word judged.entry.verdict)) (member (codes "cause") (text judged.entry.cause.now)
+        (member (codes "remedy") (text judged.entry.remedy.now) (member (codes "exit") (number (status_of judged.entry.verdict)) no_member)))) }
 {
+    let verdict = judged.verdict;
     [
         ("lacking", lacking),
         ("verdict", Value::Text(verdict.name())),
-        ("cause", Value::Text(verdict.cause())),
-        ("remedy", Value::Text(verdict.remedy())),
+        ("cause", Value::Escaped(judged.cause)),
+        ("remedy", Value::Text(judged.remedy)),
         ("exit", small_number(u16::from(verdict.status()))),
     ]
 }

@@ -11,9 +11,7 @@ made cause remedy lacking word exit =
 
 pub returns : goal.returns
 returns c =
-    let make : List ℕ → Shape → Layout = made c.cause.result.now c.remedy.result.now (shape_of c.args.lacking) in (
-      c.cause.result.now,
-      c.remedy.result.now,
-      ap (λ w. make w (shape_of c.small_number.result)) c.name.ensures
-          ∙ ap (λ e. make (verdict_word c.args.verdict) e) (c.small_number.ensures ∙ ap number (c.from.ensures ∙ c.status.ensures)),
-    )
+    let j = c.args.judged in
+    let make : List ℕ → Shape → Layout = made j.cause.now j.remedy.now (shape_of c.args.lacking) in
+    ap (λ w. make w (shape_of c.small_number.result)) c.name.ensures
+    ∙ ap (λ e. make (verdict_word j.verdict) e) (c.small_number.ensures ∙ ap number (c.from.ensures ∙ c.status.ensures))
