@@ -1,11 +1,14 @@
 -- WHERE A VERDICT COMES FROM: a handshake that was spoken, or the way to it.
-use Rattle.std.specs.Prelude.{◌≡◌, ℕ, ◌+◌, ◌<◌, ◌⊎◌, ◌==◌, ◌&&◌, Bool, true, false, List, length, Option, Some, None, Result, Ok, Err, if◌then◌else◌}
+use Rattle.std.specs.Prelude.{◌≡◌, ℕ, ◌+◌, ◌<◌, ◌⊎◌, ◌==◌, ◌&&◌, Bool, true, false, List, length, Option, Some, None, Result, Ok, Err, if◌then◌else◌, is_some}
 use Rattle.std.specs.{Borrow.Bor, List.slice_index_or}
 use Rattle.dist_epmd.specs.declared.message.NodeInfo.{NodeInfo}
-use Rattle.dist_messages.specs.declared.message.Side.{TheVariants.Dialler, TheVariants.Acceptor}
-use Rattle.dist_stream.specs.Stream.{StreamState}
-use Rattle.dist_talk.specs.{Ended.verdict_of, Speaking.Spoke, Terms.target_of, Words.status_of}
-use Rattle.dist_talk.specs.declared.{handshake.Handshake.Handshake, own_side.OwnSide.OwnSide}
+use Rattle.dist_messages.specs.declared.message.Side.{Side, TheVariants.Dialler, TheVariants.Acceptor}
+use Rattle.dist_stream.specs.Stream.{Reads, StreamState}
+use Rattle.dist_stream.specs.declared.stream.Heard.{Heard}
+use Rattle.dist_stream.specs.declared.stream.Heard.TheVariants as heard
+use Rattle.dist_talk.specs.{Ended.verdict_of, Handshake.or_first, Speaking.Spoke, Terms.target_of, Words.status_of}
+use Rattle.dist_talk.specs.declared.{handshake.Handshake.Handshake, handshake.HandshakeEnd.HandshakeEnd, own_side.OwnSide.OwnSide}
+use Rattle.dist_talk.specs.declared.handshake.HowEnded.TheVariants as ended
 use Rattle.dist_talk.specs.declared.verdict.{NoCookie.NoCookie, HandshakeVerdict.HandshakeVerdict}
 use Rattle.dist_talk.specs.declared.service.Service.TheVariants as service
 use Rattle.dist_talk.specs.declared.terms.Viewpoint.TheVariants as viewpoint
@@ -21,6 +24,19 @@ use Rattle.distping_report.specs.declared.{asked.Dial.Dial, asked.Listen.Listen,
 abbrev pub GoesOnAs : Handshake → Handshake → Type 0
 GoesOnAs talk h = (h.dialler.items ≡ talk.dialler.items) × (h.acceptor.items ≡ talk.acceptor.items) × (h.missing ≡ talk.missing)
     × ((h.ending ≡ talk.ending) ⊎ (talk.ending ≡ None))
+
+-- the end of a handshake, with what a read behind it gave: no bytes are an end of this side, a failure is its reset; the first end counts
+abbrev pub end_heard : Side → Heard → Option HandshakeEnd → Option HandshakeEnd
+end_heard side (heard.Bytes count) e = if count == 0 then or_first e (record { side = side; how = ended.Closed }) else e
+end_heard side heard.Failed e = or_first e (record { side = side; how = ended.Reset })
+end_heard side heard.Quiet e = e
+
+-- ONE READ BEHIND A HANDSHAKE: an end of this side is noted exactly if it gave no bytes, or failed
+pub record LooksBehind (side : Side) (old new : StreamState) (h k : Handshake) : Type 0 where
+  pub heard : Heard
+  pub room : List ℕ
+  pub reads : Reads old new room heard
+  pub ending : k.ending ≡ end_heard side heard h.ending
 
 -- THIS SIDE OF THE HANDSHAKE WAS SPOKEN OVER A STREAM, in at most this many reads and writes: what both sides said is what passed
 pub record IsSpoken (own : OwnSide) (turns : ℕ) (h : Handshake) : Type 0 where
@@ -132,6 +148,8 @@ pub record EndsWith (l : Listen) (json : Bool) (old new : SinkState) (status : �
   pub caller : Caller
   pub verdict : HandshakeVerdict
   pub comes : ComesIn l caller.handshake verdict
+  -- only if nobody called is there nothing to judge
+  pub nobody : is_some caller.handshake ≡ false → caller.address ≡ None
   pub is : status ≡ status_of verdict
   pub text : List ℕ
   pub shows : IsCallerText json l caller verdict text

@@ -1,7 +1,7 @@
 //! The nodes to dial: those that are named, and those that the port mappers of hosts know, which are asked one after another. A port
 //! mapper may send anything: if it sends more than is dialled or shown, the number of the rest is printed.
 
-ghost use Rattle.std.specs.Prelude.{◌≡◌, ◌++◌, ◌∷◌, [], IfOk, List, ℕ};
+ghost use Rattle.std.specs.Prelude.{◌≡◌, ◌⊎◌, ◌++◌, ◌∷◌, [], Contains, IfOk, List, OnOk, ℕ, length, true};
 ghost use Rattle.dist_cluster.specs.declared.targets.Target.TheVariants as named;
 ghost use Rattle.dist_talk.specs.Words.{status_of};
 ghost use Rattle.distping.specs.Runs.{AreNodes};
@@ -19,7 +19,9 @@ use distping_words::Fault;
 use std::net::SocketAddr;
 
 // Whether the command line, or the file, names this node itself.
-fn is_named(targets: &[Target], node: &NodeName) -> bool {
+fn is_named(targets: &[Target], node: &NodeName) -> bool
+    ensures { result ≡ true → Contains targets.now (named.Node node.now) }
+{
     targets.iter().any(|target| match target {
         Target::Node(name) => name.is_same(node),
         Target::Group(_) | Target::Service(_) => false,
@@ -54,7 +56,10 @@ impl Gathering<'_> {
     }
 
     // Adds a node, unless it is there already, or there are enough.
-    fn push_new(&mut self, nodes: &mut Nodes, node: NodeName) -> Result<(), Fault> {
+    fn push_new(&mut self, nodes: &mut Nodes, node: NodeName) -> Result<(), Fault>
+        ensures { OnOk result (Contains nodes.new.names.items node ⊎ Contains self.old.targets.now (named.Node node)
+            ⊎ (length nodes.old.names.items ≡ 1024)) }
+    {
         self.named = self.named.saturating_add(1);
         if is_among(&nodes.names, &node) || is_named(self.targets, &node) {
             return Ok(());
@@ -135,7 +140,9 @@ fn ask_group<'g, R: Resolving>(
 }
 
 // Adds a node that is not there yet.
-fn push_node(nodes: &mut Nodes, node: NodeName) -> Result<(), Fault> {
+fn push_node(nodes: &mut Nodes, node: NodeName) -> Result<(), Fault>
+    ensures { OnOk result (Contains nodes.new.names.items node) }
+{
     if is_among(&nodes.names, &node) {
         return Ok(());
     }

@@ -7,7 +7,9 @@
 mod attempt;
 mod front;
 mod listening;
+mod looking;
 mod mapper;
+mod open_stream;
 mod outcomes;
 mod own_setup;
 mod probing;

@@ -1,6 +1,6 @@
 //! Probes one node, and prints its steps.
 
-ghost use Rattle.std.specs.Prelude.{◌≡◌, IfOk, option_map, string_bytes};
+ghost use Rattle.std.specs.Prelude.{◌≡◌, IfOk, IfSome, option_map, string_bytes};
 ghost use Rattle.dist_talk.specs.Described.{view_of};
 ghost use Rattle.distping.specs.Halves.{DialKeeps, DialShows, HalfComes, IsKept, ResultComes, flags_kept, kinds_of, with_kind};
 
@@ -25,7 +25,9 @@ fn usual_name(alloc: Global, node: &NodeName) -> Result<NodeName, Fault> {
 }
 
 // Our name: the given one, or else the usual one.
-fn own_name(alloc: Global, wanted: &Wanted<'_>, node: &NodeName) -> Result<NodeName, Fault> {
+fn own_name(alloc: Global, wanted: &Wanted<'_>, node: &NodeName) -> Result<NodeName, Fault>
+    ensures given { IfSome wanted.now.name (λ name. IfOk result (λ own. own ≡ name)) }
+{
     match &wanted.name {
         Some(name) => Ok(name.try_clone(alloc)?),
         None => usual_name(alloc, node),

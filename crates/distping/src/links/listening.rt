@@ -1,6 +1,6 @@
 //! Takes one connection, as a node takes it, and prints what the other side says.
 
-ghost use Rattle.std.specs.Prelude.{◌≡◌, None, IfOk};
+ghost use Rattle.std.specs.Prelude.{◌≡◌, None, IfOk, false, is_some, true};
 ghost use Rattle.distping.specs.Coming.{ComesIn};
 
 use crate::links::attempt::ProbeStream;
@@ -41,7 +41,8 @@ fn accept<'a>(
     lines: LineSink<'_>,
     caller: &mut Caller,
 ) -> Result<Option<ProbeStream<'a>>, Fault>
-    ensures { caller.new.handshake ≡ caller.old.handshake }
+    ensures handshake { caller.new.handshake ≡ caller.old.handshake }
+    ensures nobody { IfOk result (λ stream. stream ≡ None → caller.new.address ≡ caller.old.address) }
 {
     let listener = or_fault(bind_listener(rt, listen.place, listen.port))?;
     lines.put_listening(listen.port, &listen.own.setup.name)?;
@@ -62,12 +63,13 @@ fn attend(
     lines: LineSink<'_>,
     caller: &mut Caller,
 ) -> Result<HandshakeVerdict, Fault>
-    ensures { IfOk result (ComesIn listen.now caller.new.handshake) }
+    ensures comes { IfOk result (ComesIn listen.now caller.new.handshake) }
+    ensures said { IfOk result (λ _. is_some caller.new.handshake ≡ true) }
 {
     let limit = listen.choices.turns();
-    let (handshake, _) = speak_with(rt, lines.alloc, stream, &listen.own, limit, false);
-    let verdict = handshake.verdict(&listen.own.terms);
-    caller.handshake = Some(handshake);
+    let talk = speak_with(rt, lines.alloc, stream, &listen.own, limit, false);
+    let verdict = talk.handshake.verdict(&listen.own.terms);
+    caller.handshake = Some(talk.handshake);
     if let Some(peer) = caller.peer() {
         lines.put_peer(peer)?;
     }
@@ -83,7 +85,9 @@ pub fn take_connection(
 ) -> Result<HandshakeVerdict, Fault>
     // Nothing was found out before.
     requires { caller.old.handshake ≡ None }
-    ensures { IfOk result (ComesIn listen.now caller.new.handshake) }
+    ensures comes { IfOk result (ComesIn listen.now caller.new.handshake) }
+    // Without a handshake no connection was taken.
+    ensures nobody { IfOk result (λ _. is_some caller.new.handshake ≡ false → caller.new.address ≡ caller.old.address) }
 {
     match accept(rt, listen, lines, caller)? {
         Some(stream) => attend(rt, stream, listen, lines, caller),

@@ -1,8 +1,11 @@
 //! One side of a handshake over a connection, and whether that ends at once behind it.
 
-ghost use Rattle.distping.specs.Coming.{GoesOnAs, IsSpoken};
+ghost use Rattle.dist_talk.specs.Speaking.{other_side};
+ghost use Rattle.distping.specs.Coming.{GoesOnAs, IsSpoken, LooksBehind};
 
 use crate::links::attempt::ProbeStream;
+use crate::links::looking::is_readable;
+use crate::links::open_stream::OpenStream;
 use dist_long_frames::LongFrames;
 use dist_messages::Side;
 use dist_stream::{DeadlineStream, Heard, Stream, deadline_after};
@@ -12,12 +15,28 @@ use std::time::Duration;
 
 /// How many milliseconds an end is awaited. Our own choice: a node that refuses another after the handshake closes at once. A listener
 /// waits twice as long, so that a probe that dials it ends first.
-const MOMENT: u64 = 100;
+const MOMENT: i32 = 3;
 
-// Notes in the handshake if the other side of this connection has ended it.
+/// How many milliseconds a read may take that finds something to read.
+const READING: u64 = 10;
+
+/// What was said over a connection, and the time that it took.
+#[derive(Drop)]
+pub struct TalkOutcome {
+    /// What was said.
+    pub handshake: Handshake,
+    /// How much of its time the talk left.
+    pub left: Duration,
+    /// How long after our last message it ended.
+    pub ended_after: Duration,
+}
+
+// Reads once, and notes in the handshake whether the other side of this connection has ended it.
 #[tactic(auto, using(crate::proofs::Ends::first_stays))]
-fn look_for_end(stream: &mut ProbeStream<'_>, own: &OwnSide<'_>, handshake: &mut Handshake)
-    ensures { GoesOnAs handshake.old handshake.new }
+fn look_for_end<S: Stream>(stream: &mut S, own: &OwnSide<'_>, handshake: &mut Handshake)
+    ensures goes_on { GoesOnAs handshake.old handshake.new }
+    // An end is noted exactly if the read gave no bytes, or failed.
+    ensures looks { LooksBehind (other_side own.now.side) (S.meaning stream.old) (S.meaning stream.new) handshake.old handshake.new }
 {
     match stream.read(&mut [0]) {
         Heard::Bytes(0) => handshake.end(other_side(own.side), HowEnded::Closed),
@@ -36,7 +55,8 @@ fn note_end(rt: &HostRuntime, stream: ProbeStream<'_>, own: &OwnSide<'_>, handsh
         Side::Acceptor => 2 * MOMENT,
     };
     if handshake.verdict(&own.terms) == HandshakeVerdict::Up
-        && let Ok(until) = deadline_after(rt, Duration::from_millis(moment))
+        && is_readable(stream.get_ref().get_ref(), moment)
+        && let Ok(until) = deadline_after(rt, Duration::from_millis(READING))
     {
         let mut stream = DeadlineStream::new(stream.into_inner(), rt, until);
         look_for_end(&mut stream, own, handshake);
@@ -46,11 +66,11 @@ fn note_end(rt: &HostRuntime, stream: ProbeStream<'_>, own: &OwnSide<'_>, handsh
 // Speaks this side of a handshake over a connection. In a tunnel of TLS the frames have lengths of 4 bytes.
 fn speak_over<'a>(
     alloc: Global,
-    stream: ProbeStream<'a>,
+    stream: OpenStream<'a>,
     own: &OwnSide<'_>,
     limit: usize,
     is_tunnelled: bool,
-) -> (Handshake, ProbeStream<'a>)
+) -> (Handshake, OpenStream<'a>)
     ensures { IsSpoken own.now limit result.0 }
 {
     let mut stream = stream;
@@ -63,8 +83,7 @@ fn speak_over<'a>(
     (handshake, frames.into_inner())
 }
 
-/// Speaks this side of a handshake, in at most this many reads and writes, and returns what was said, and how much of its time it left.
-/// After a handshake that was made it waits a moment for an end.
+/// Speaks this side of a handshake, in at most this many reads and writes. After a handshake that was made it waits a moment for an end.
 pub fn speak_with(
     rt: &HostRuntime,
     alloc: Global,
@@ -72,11 +91,18 @@ pub fn speak_with(
     own: &OwnSide<'_>,
     limit: usize,
     is_tunnelled: bool,
-) -> (Handshake, Duration)
-    ensures { IsSpoken own.now limit result.0 }
+) -> TalkOutcome
+    ensures { IsSpoken own.now limit result.handshake }
 {
+    let stream = OpenStream::new(stream, own.side);
     let (mut handshake, stream) = speak_over(alloc, stream, own, limit, is_tunnelled);
+    let ended_after = stream.since_write();
+    let stream = stream.into_inner();
     let left = stream.time_left();
     note_end(rt, stream, own, &mut handshake);
-    (handshake, left)
+    TalkOutcome {
+        handshake,
+        left,
+        ended_after,
+    }
 }

@@ -94,17 +94,11 @@ impl<'a> AddressAttempt<'a> {
         };
         let limit = dial.choices.turns();
         let is_tunnelled = dial.choices.is_tunnelled;
-        let (handshake, left) = speak_with(
-            dial.rt,
-            dial.lines.alloc,
-            stream,
-            &own,
-            limit,
-            is_tunnelled,
-        );
-        self.budget.settle(TimedStep::Talk, left);
-        let verdict = handshake.verdict(&own.terms);
-        self.found.handshake = Some(handshake);
+        let talk = speak_with(dial.rt, dial.lines.alloc, stream, &own, limit, is_tunnelled);
+        self.budget.settle(TimedStep::Talk, talk.left);
+        let verdict = talk.handshake.verdict(&own.terms);
+        self.found.ended_after = Some(talk.ended_after);
+        self.found.handshake = Some(talk.handshake);
         Ok(verdict)
     }
 
