@@ -131,6 +131,60 @@ def up(address, name, cookie, wrong=False, flags=FLAGS):
     each(listener(address, 0), answer)
 
 
+def timed(address, name, cookie):
+    """The same, which prints how many milliseconds after its acknowledgement the other side ended the connection."""
+    def answer(talk):
+        read_frame(talk)
+        talk.sendall(challenge_of(name))
+        reply = read_frame(talk)
+        talk.sendall(frame(b"a" + digest(cookie, struct.unpack(">I", reply[1:5])[0])))
+        began = time.monotonic()
+        talk.recv(1024)
+        print(f"after {(time.monotonic() - began) * 1000:.1f}", flush=True)
+        talk.close()
+    each(listener(address, 0), answer)
+
+
+def leave(address, name):
+    """A node that closes behind its challenge, in one go: it has no digest yet."""
+    def answer(talk):
+        read_frame(talk)
+        talk.sendall(challenge_of(name))
+        talk.close()
+    each(listener(address, 0), answer)
+
+
+def late(address, name, seconds):
+    """A node that closes so many seconds after the digest."""
+    def answer(talk):
+        read_frame(talk)
+        talk.sendall(challenge_of(name))
+        read_frame(talk)
+        time.sleep(float(seconds))
+        talk.close()
+    each(listener(address, 0), answer)
+
+
+def drop(address, name, cookie):
+    """A node that closes right behind its acknowledgement."""
+    def answer(talk):
+        read_frame(talk)
+        talk.sendall(challenge_of(name))
+        reply = read_frame(talk)
+        talk.sendall(frame(b"a" + digest(cookie, struct.unpack(">I", reply[1:5])[0])))
+        talk.close()
+    each(listener(address, 0), answer)
+
+
+def word(address, digits):
+    """A node whose status has these bytes for its word."""
+    def answer(talk):
+        read_frame(talk)
+        talk.sendall(frame(b"s" + bytes.fromhex(digits)))
+        talk.recv(1024)
+    each(listener(address, 0), answer)
+
+
 def badack(address, name, cookie):
     up(address, name, cookie, True)
 
@@ -203,7 +257,8 @@ def crowd(address, port, count):
     time.sleep(PATIENCE)
 
 
-ROLES = {"hold": hold, "say": say, "close": close, "reset": reset, "tls": tls, "old": old, "up": up, "badack": badack, "give": give, "flagged": flagged,
+ROLES = {"hold": hold, "say": say, "close": close, "reset": reset, "tls": tls, "old": old, "up": up, "badack": badack, "timed": timed, "leave": leave, "late": late, "drop": drop, "word": word,
+         "give": give, "flagged": flagged,
          "map": map_node, "dns": dns, "await": wait_for, "dial": dial, "crowd": crowd}
 
 if __name__ == "__main__":

@@ -9,6 +9,7 @@ mod comparing;
 mod gathering;
 mod grouping;
 mod links;
+mod metrics_file;
 mod nodes;
 mod probing;
 mod reply;
@@ -20,6 +21,7 @@ ghost use Rattle.std.specs.Option.{ok_or};
 ghost use Rattle.distping.specs.{Coming.EndsWith, Coming.ListenEndsWith, Runs.AreNodes, Runs.RunEndsWith, Runs.why_none};
 ghost use Rattle.distping_capture.specs.Captures.{EndsWith as CaptureEndsWith};
 ghost use Rattle.distping_capture.specs.Exits.{terms_of};
+ghost use Rattle.distping_words.specs.declared.command.CookieSource.TheVariants.{Nowhere};
 
 use common::Context;
 use comparing::compare;
@@ -36,6 +38,7 @@ use distping_words::{
 };
 use gathering::gather;
 use links::{draw_challenge, setup_of, take_connection};
+use metrics_file::check_metrics;
 use nodes::Nodes;
 use std::io::Write;
 use std::net::SocketAddr;
@@ -117,13 +120,16 @@ fn print(rt: &HostRuntime, text: &str) -> Result<u8, Refusal> {
     Ok(0)
 }
 
-// Reads the file of names and that of the cookie, then reads a capture, listens, or checks nodes.
+// Reads the file of names and that of the cookie, and tries that of `--prometheus`; then reads a capture, listens, or checks nodes.
 fn follow<R: Resolving + Sync>(
     rt: &HostRuntime,
     resolver: &R,
     wanted: &mut Wanted<'_>,
 ) -> Result<u8, Refusal> {
     read_names(rt, wanted)?;
+    if let Some(path) = wanted.choices.metrics {
+        check_metrics(rt, path)?;
+    }
     let cookie = cookie_read(rt, &wanted.choices)?;
     let out = ResultSink::new(rt.stdout());
     let (status, _) = carry_out(rt, resolver, wanted, cookie.as_ref(), out)?;
@@ -181,10 +187,13 @@ fn probe_or_listen<'x, R: Resolving + Sync, W: Write>(
 }
 
 // The cookie that is tried, or compared with the digests of a capture: for those it has to be named.
-fn cookie_read(rt: &HostRuntime, choices: &Choices<'_>) -> Result<Option<Cookie>, Refusal> {
+fn cookie_read(rt: &HostRuntime, choices: &Choices<'_>) -> Result<Option<Cookie>, Refusal>
+    // With --no-cookie none is tried.
+    ensures none { choices.now.cookie ≡ Nowhere → IfOk result (λ cookie. cookie ≡ None) }
+{
     match choices.cookie {
         CookieSource::Home if choices.capture.is_some() => Ok(None),
-        _ => Ok(cookie_of(rt, choices)?),
+        _ => cookie_of(rt, choices),
     }
 }
 

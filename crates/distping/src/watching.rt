@@ -5,16 +5,16 @@ ghost use Rattle.distping.specs.Halves.{HalfComes};
 
 use crate::common::Context;
 use crate::grouping::split_group;
+use crate::metrics_file::replace_metrics;
 use crate::probing::half_of_node;
 use dist_cluster::{Latencies, Observation, Watch};
 use dist_names::{ByteString, NodeName};
-use dist_program::{Resolving, deadline_in};
+use dist_program::{Resolving, deadline_in, report};
 use dist_stream::time_left;
 use dist_talk::HandshakeVerdict;
 use distping_report::{Answers, LineSink, Seen, metrics_text, now_seconds};
 use distping_words::{Fault, Rhythm};
 use std::alloc::{AllocError, Global};
-use std::fs;
 use std::thread::{self, map_indices};
 use std::time::Instant;
 
@@ -30,6 +30,8 @@ struct Course<'n> {
     round: Vec<Seen<'n>>,
     // Whether something changed after the first round.
     has_changed: bool,
+    // Whether the file of `--prometheus` was not written after the last round.
+    is_unwritten: bool,
 }
 
 // The text by which verdicts are compared: word and cause.
@@ -51,6 +53,7 @@ fn new_course<'n>(alloc: Global, nodes: usize) -> Result<Course<'n>, AllocError>
         latencies,
         round: Vec::new(alloc),
         has_changed: false,
+        is_unwritten: false,
     })
 }
 
@@ -132,21 +135,25 @@ fn play_round<'n, R: Resolving + Sync>(
     play_round(context, target, others, course)
 }
 
-// Writes what was observed in a round to the file of `--prometheus`, if there is one: to a file beside it, which then takes its place, so
-// that it is always whole.
-fn write_metrics<R: Resolving>(context: &Context<'_, R>, round: &[Seen<'_>]) -> Result<(), Fault> {
+// Writes what was observed in a round to the file of `--prometheus`, if there is one. If that fails, a line says so, unless it did after
+// the round before, and the watch goes on.
+fn write_metrics<R: Resolving>(
+    context: &Context<'_, R>,
+    course: &mut Course<'_>,
+) -> Result<(), Fault> {
     let choices = &context.wanted.choices;
     let Some(path) = choices.metrics else {
         return Ok(());
     };
     let rt = context.rt;
-    let text = metrics_text(rt.alloc(), round, choices.all_pairs)?;
-    let beside = format!(in rt.alloc(); "{path}.tmp")?;
-    if fs::write(rt, beside.as_str(), text.as_bytes()).is_err()
-        || fs::rename(rt, beside.as_str(), path).is_err()
+    let text = metrics_text(rt.alloc(), &course.round, choices.all_pairs)?;
+    let unwritten = replace_metrics(rt, path, text.as_bytes())?;
+    if let Some(sentence) = &unwritten
+        && !course.is_unwritten
     {
-        return Err(Fault::MetricsFailed);
+        report(&mut rt.stderr(), "distping", sentence, 1);
     }
+    course.is_unwritten = unwritten.is_some();
     Ok(())
 }
 
@@ -180,7 +187,7 @@ fn play_rounds<'n, R: Resolving + Sync>(
         thread::sleep(rt, time_left(rt, until));
         until = deadline_in(rt, rhythm.seconds).ok().ok_or(Fault::NoTime)?;
         play_round(context, 0, nodes, course)?;
-        write_metrics(context, &course.round)?;
+        write_metrics(context, course)?;
         course.round.clear();
     }
     put_all_answers(context.screen(), nodes, rhythm.rounds, course)

@@ -25,6 +25,7 @@ fault_status other = 1
 -- the same for all that ends the program early
 abbrev pub refusal_status : Refusal → ℕ
 refusal_status (refusal.NoCookie fault) = 1
+refusal_status (refusal.CookieUnread sentence) = 1
 refusal_status (refusal.BadWord sentence) = 2
 refusal_status (refusal.Fault fault) = fault_status fault
 

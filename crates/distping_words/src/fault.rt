@@ -48,9 +48,6 @@ pub enum Fault {
     /// `--prometheus` is given without `--watch`.
     #[error("--prometheus goes with --watch")]
     MetricsAlone,
-    /// The file of `--prometheus` could not be written.
-    #[error("WriteFailed: the file of --prometheus")]
-    MetricsFailed,
     /// The system gave no time.
     #[error("ReadFailed: the system's clock")]
     NoTime,

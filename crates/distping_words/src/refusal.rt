@@ -16,7 +16,9 @@ use std::fmt;
 pub enum Refusal {
     /// The cookie's file gives no cookie, for this cause.
     NoCookie(CookieFault),
-    /// A word of the command line, or ERL_EPMD_PORT, is bad: the sentence about it, safe to print.
+    /// The cookie's file cannot be read: the sentence about it, safe to print.
+    CookieUnread(String),
+    /// A word of the command line, a file that it names, or ERL_EPMD_PORT, is bad: the sentence about it, safe to print.
     BadWord(String),
     /// Another fault.
     Fault(Fault),
@@ -54,7 +56,9 @@ impl fmt::Display for Refusal {
                 Some(text) => f.write_str(text),
                 None => write!(f, "{fault}"),
             },
-            Refusal::BadWord(sentence) => f.write_str(sentence.as_str()),
+            Refusal::CookieUnread(sentence) | Refusal::BadWord(sentence) => {
+                f.write_str(sentence.as_str())
+            }
             Refusal::Fault(fault) => write!(f, "{fault}"),
         }
     }
@@ -66,7 +70,7 @@ impl Refusal {
         ensures { result ≡ refusal_status self.now }
     {
         match self {
-            Refusal::NoCookie(_) => 1,
+            Refusal::NoCookie(_) | Refusal::CookieUnread(_) => 1,
             Refusal::BadWord(_) => 2,
             Refusal::Fault(fault) => fault.status(),
         }
