@@ -39,6 +39,10 @@ pub fn caller_object(
     put_members(alloc, &mut out, &call_members(listen, caller))?;
     put_peer(alloc, &mut out, caller.peer())?;
     let lacking = Value::Names(lacking_flags(verdict, caller.peer()));
-    put_members(alloc, &mut out, &verdict_members(lacking, Judged::of(verdict)))?;
+    put_members(
+        alloc,
+        &mut out,
+        &verdict_members(lacking, Judged::of(verdict)),
+    )?;
     end_line(out)
 }
