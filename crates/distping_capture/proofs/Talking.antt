@@ -1,124 +1,146 @@
--- What was said to a port mapper stands in the bytes that were delivered.
-use Rattle.std.proofs.Common.{◌≡◌, ℕ, Bool, true, false, List, [], ◌++◌, drop, Option, Some, None, IfSome, Result, Ok, Err, refl, sym, ap, subst, ◌∙◌}
-use Rattle.std.proofs.Common.{append_assoc, append-nil, w16, arith, length-append}
-use Rattle.std.specs.{Int.Width, Int.byte_len, Option.option_or}
-use Rattle.std.proofs.lemmas.{Bool.false≢true, List.take-append-le, List.drop-append-le}
-use Rattle.dist_frames.specs.Stream.{first_body, front, head}
-use Rattle.dist_frames.proofs.Streams.{Starts, by_first, head-append, starts, starts_true}
-use Rattle.dist_epmd.specs.declared.{epmd_error.EpmdError.EpmdError, message.Answer.Answer, message.Request.Request}
-use Rattle.distping_capture.specs.Connections.{AllWait, IsOf, SaidBoth, Sent}
-use Rattle.distping_capture.specs.{Recognized.IsAnswerIn, Recognized.TalkIn, Recognized.answered_by, Recognized.asked_by}
-use Rattle.distping_capture.specs.{Recognized.talk_asked, Recognized.talk_read}
-use Rattle.distping_capture.specs.declared.{flow.Flow.Flow, traffic.MapperTalk.MapperTalk}
+-- A conversation of a capture takes a segment.
+use Rattle.std.proofs.Common.{◌≡◌, ◌⊎◌, inl, inr, ℕ, Bool, true, false, cond, ◌||◌, not, List, [], ◌∷◌, ◌++◌, Option, Some, None, IfSome, refl, sym, ap, subst, ◌∙◌}
+use Rattle.std.specs.List.{All, FoldsTo}
+use Rattle.std.proofs.lemmas.{Fn.FoldsTo-push, List.Elements.All-push, List.Elements.All-nil, List.Elements.All-weaker}
+use Rattle.dist_capture.specs.declared.segment.{Endpoint.Endpoint, Segment.Segment}
+use Rattle.dist_messages.specs.declared.message.Side.{Side, TheVariants.Dialler, TheVariants.Acceptor}
+use Rattle.dist_talk.specs.declared.{terms.Terms.Terms, verdict.HandshakeVerdict.HandshakeVerdict}
+use Rattle.dist_conversation.specs.Conversations.{Goes, IsBetween, IsConversation, Takes, begun, can_end, is_from_dialler, left_if, recognized, recognized_from, swapped, taken, with_end_of, with_ending}
+use Rattle.dist_conversation.specs.Conversations.{with_pieces, with_shown, with_sign}
+use Rattle.dist_conversation.specs.declared.{carried.Judged.Judged, conversation.Conversation.Conversation, looks.Shown.Shown}
+use Rattle.dist_conversation.specs.declared.looks.Shown.TheVariants as shown
+use Rattle.distping_capture.specs.Captures.{IsGiven, IsJudged, IsOf, IsOfOrNew, IsPart, Leaves, NoPart, Shares}
 
--- ---- more bytes
+-- ---- some of the segments
 
-starts_more : (w : Width) (s t : List ℕ) → Starts w s → Starts w (s ++ t)
-starts_more w s t h = record {
-  long = omega (arith, length-append s t, h.long);
-  whole = rw (head-append w s t h.long, drop-append-le (byte_len w) s t h.long) (omega (arith, length-append (drop (byte_len w) s) t, h.whole));
+pub part_none : (all : List Segment) → IsPart [] all
+part_none [] = NoPart
+part_none (s ∷ all) = Leaves [] all s (part_none all)
+
+pub part_more : (part all : List Segment) (next : Segment) → IsPart part all → IsPart part (all ++ next ∷ [])
+part_more part all next NoPart = Leaves [] [] next NoPart
+part_more part all next (Shares p a s q) = Shares p (a ++ next ∷ []) s (part_more p a next q)
+part_more part all next (Leaves p a s q) = Leaves p (a ++ next ∷ []) s (part_more p a next q)
+
+pub part_push : (part all : List Segment) (next : Segment) → IsPart part all → IsPart (part ++ next ∷ []) (all ++ next ∷ [])
+part_push part all next NoPart = Shares [] [] next NoPart
+part_push part all next (Shares p a s q) = Shares (p ++ next ∷ []) (a ++ next ∷ []) s (part_push p a next q)
+part_push part all next (Leaves p a s q) = Leaves (p ++ next ∷ []) (a ++ next ∷ []) s (part_push p a next q)
+
+-- ---- the two ports
+
+-- two conversations have the same two ports, each at its side
+abbrev Steady : Conversation → Conversation → Type 0
+Steady c e = (e.dialler ≡ c.dialler) × (e.acceptor ≡ c.acceptor)
+
+-- or the other way round
+abbrev Turned : Conversation → Conversation → Type 0
+Turned c e = (e.dialler ≡ c.acceptor) × (e.acceptor ≡ c.dialler)
+
+steady_if : (b : Bool) (c d e : Conversation) → Steady c d → Steady c e → Steady c (cond b d e)
+steady_if true c d e p q = p
+steady_if false c d e p q = q
+
+pieces_steady : (side : Side) (s : Segment) (c : Conversation) → Steady c (with_pieces side s c)
+pieces_steady Dialler s c = (refl, refl)
+pieces_steady Acceptor s c = (refl, refl)
+
+end_steady : (side : Side) (s : Segment) (c : Conversation) → Steady c (with_end_of side s c)
+end_steady Dialler s c = (refl, refl)
+end_steady Acceptor s c = (refl, refl)
+
+ending_steady : (side : Side) (s : Segment) (c : Conversation) → Steady c (with_ending side s c)
+ending_steady side s c =
+    steady_if (not (s.is_fin || s.is_reset)) c c _ (refl, refl) (steady_if (can_end side s c) c (with_end_of side s c) _ (end_steady side s c) (refl, refl))
+
+left_steady : (found : Shown) (c : Conversation) → Steady c (left_if found c)
+left_steady shown.Nothing c = (refl, refl)
+left_steady shown.Handshake c = (refl, refl)
+left_steady shown.Mapper c = (refl, refl)
+left_steady shown.Tls c = (refl, refl)
+left_steady shown.Other c = (refl, refl)
+
+shown_between : (p : Shown × Bool) (c : Conversation) (s : Segment) → IsBetween c s → IsBetween (with_shown p c) s
+shown_between (shown.Nothing, true) c s (inl g) = inr g
+shown_between (shown.Nothing, true) c s (inr g) = inl g
+shown_between (shown.Nothing, false) c s g = g
+shown_between (shown.Handshake, true) c s (inl g) = inr g
+shown_between (shown.Handshake, true) c s (inr g) = inl g
+shown_between (shown.Handshake, false) c s g = g
+shown_between (shown.Mapper, true) c s (inl g) = inr g
+shown_between (shown.Mapper, true) c s (inr g) = inl g
+shown_between (shown.Mapper, false) c s g = g
+shown_between (shown.Tls, true) c s (inl g) = inr g
+shown_between (shown.Tls, true) c s (inr g) = inl g
+shown_between (shown.Tls, false) c s g = g
+shown_between (shown.Other, true) c s (inl g) = inr g
+shown_between (shown.Other, true) c s (inr g) = inl g
+shown_between (shown.Other, false) c s g = g
+
+recognized_between : (found : Shown) (c : Conversation) (s : Segment) → IsBetween c s → IsBetween (recognized_from found c) s
+recognized_between shown.Nothing c s g = shown_between _ c s g
+recognized_between shown.Handshake c s g = g
+recognized_between shown.Mapper c s g = g
+recognized_between shown.Tls c s g = g
+recognized_between shown.Other c s g = g
+
+between_steady : (c e : Conversation) (s : Segment) → Steady c e → IsBetween c s → IsBetween e s
+between_steady c e s (d, a) g = subst (λ (x : Endpoint). Goes x e.acceptor s ⊎ Goes e.acceptor x s) (sym d) (subst (λ (x : Endpoint). Goes c.dialler x s ⊎ Goes x c.dialler s) (sym a) g)
+
+pub between_taken : (c : Conversation) (s : Segment) (e : Conversation) (x : Segment) → Takes c s e → IsBetween c x → IsBetween e x
+between_taken c s e x (side, from, is) g =
+    let n = with_sign s c in
+    let m = cond s.is_reset n (with_pieces side s n) in
+    let one : IsBetween m x = between_steady n m x (steady_if s.is_reset n n (with_pieces side s n) (refl, refl) (pieces_steady side s n)) g in
+    let two : IsBetween (with_ending side s m) x = between_steady m (with_ending side s m) x (ending_steady side s m) one in
+    subst (λ (y : Conversation). IsBetween y x) (sym is) (recognized_between (with_ending side s m).shown (with_ending side s m) x two)
+
+new_by : (b : Bool) (s : Segment) → Goes (cond b s.from s.to) (cond b s.to s.from) s ⊎ Goes (cond b s.to s.from) (cond b s.from s.to) s
+new_by true s = inl (refl, refl)
+new_by false s = inr (refl, refl)
+
+-- a conversation is between the ports of the segment that begins it
+pub new_between : (port : ℕ) (s : Segment) (c : Conversation) → c ≡ begun port s → IsBetween c s
+new_between port s c is = subst (λ (x : Conversation). IsBetween x s) (sym is) (new_by (is_from_dialler port s) s)
+
+-- ---- a segment is taken
+
+pub of_taken : (port : ℕ) (segments : List Segment) (s : Segment) (c e : Conversation) → IsBetween c s → Takes c s e → IsOfOrNew port segments s c → IsOf port (segments ++ s ∷ []) e
+of_taken port segments s c e between takes (inl p) = record {
+  talk = p.talk ++ s ∷ [];
+  part = part_push p.talk segments s p.part;
+  between = All-push (IsBetween e) p.talk s (All-weaker (IsBetween c) (IsBetween e) (λ x q. between_taken c s e x takes q) p.talk p.between) (between_taken c s e s takes between);
+  is = (p.is.0, p.is.1 ++ s ∷ [], ap (λ (l : List Segment). l ++ s ∷ []) p.is.2, FoldsTo-push (λ (a : Conversation) (x : Segment) (b : Conversation). Takes a x b) (begun port p.is.0) p.talk c s e p.is.3 takes);
+}
+of_taken port segments s c e between takes (inr new) = record {
+  talk = s ∷ [];
+  part = part_push [] segments s (part_none segments);
+  between = All-push (IsBetween e) [] s (All-nil (IsBetween e)) (between_taken c s e s takes between);
+  is = (s, [], refl, FoldsTo-push (λ (a : Conversation) (x : Segment) (b : Conversation). Takes a x b) (begun port s) [] c s e (sym new) takes);
 }
 
-front_more : (w : Width) (s t : List ℕ) → Starts w s → front w (s ++ t) ≡ front w s
-front_more w s t h = rw (head-append w s t h.long, drop-append-le (byte_len w) s t h.long) (take-append-le (head w s) (drop (byte_len w) s) t h.whole)
+-- ---- the same of more segments
 
--- a first body stays the first
-first_more : (w : Width) (s t body : List ℕ) → first_body w s ≡ Some body → first_body w (s ++ t) ≡ Some body
-first_more w s t body e =
-    by_first w s _
-    (λ h.
-    let st = starts w s h in
-    let here = rw h at e in
-    rw (starts_true w (s ++ t) (starts_more w s t st)) (ap (λ (x : List ℕ). Some x) (front_more w s t st) ∙ here))
-    (λ h. let no : None ≡ Some body = rw h at e in absurd cc)
+pub of_more : (port : ℕ) (segments : List Segment) (s : Segment) (c : Conversation) → IsOf port segments c → IsOf port (segments ++ s ∷ []) c
+of_more port segments s c p = record { talk = p.talk; part = part_more p.talk segments s p.part; between = p.between; is = p.is }
 
-asked_first : (s t : List ℕ) (r : Request) → asked_by None (first_body w16 s) ≡ Ok (Some r) → asked_by None (first_body w16 (s ++ t)) ≡ Ok (Some r)
-asked_first s t r e = by (first_body w16 s) refl e where
-  by : (o : Option (List ℕ)) → first_body w16 s ≡ o → asked_by None o ≡ Ok (Some r) → asked_by None (first_body w16 (s ++ t)) ≡ Ok (Some r)
-  by None is p = absurd cc
-  by (Some body) is p = ap (asked_by None) (first_more w16 s t body is) ∙ p
+pub judged_more : (t : Terms) (port : ℕ) (segments : List Segment) (s : Segment) (c : Conversation) (now : ℕ) (j : Judged) → IsJudged t port segments c now j → IsJudged t port (segments ++ s ∷ []) c now j
+judged_more t port segments s c now j p = record { of = of_more port segments s c p.of; carried = p.carried; verdict = p.verdict }
 
-pub talk_asked_more : (dialler piece acceptor : List ℕ) (talk : MapperTalk) → TalkIn dialler acceptor talk → TalkIn (dialler ++ piece) acceptor talk
-talk_asked_more dialler piece acceptor talk p = record { asked = by talk.request p.asked; answered = p.answered } where
-  by : (o : Option Request) → IfSome o (λ r. asked_by None (first_body w16 dialler) ≡ Ok (Some r))
-      → IfSome o (λ r. asked_by None (first_body w16 (dialler ++ piece)) ≡ Ok (Some r))
-  by None q = tt
-  by (Some r) q = asked_first dialler piece r q
+pub given_more : (t : Terms) (port : ℕ) (segments : List Segment) (s : Segment) (v : HandshakeVerdict) → IsGiven t port segments v → IsGiven t port (segments ++ s ∷ []) v
+given_more t port segments s v p = record { seen = p.seen; now = p.now; judged = p.judged; is = judged_more t port segments s p.seen p.now p.judged p.is; verdict = p.verdict }
 
-pub talk_answered_more : (dialler acceptor piece : List ℕ) (talk : MapperTalk) → TalkIn dialler acceptor talk → TalkIn dialler (acceptor ++ piece) talk
-talk_answered_more dialler acceptor piece talk p = record { asked = p.asked; answered = by talk.answer p.answered } where
-  by : (o : Option Answer) → IfSome o (IsAnswerIn acceptor talk.request) → IfSome o (IsAnswerIn (acceptor ++ piece) talk.request)
-  by None q = tt
-  by (Some a) q = (q.0, q.1 ++ piece, ap (λ (l : List ℕ). l ++ piece) q.2 ∙ append_assoc q.0 q.1 piece, q.3)
+some_more : (t : Terms) (port : ℕ) (segments : List Segment) (s : Segment) (o : Option HandshakeVerdict) → IfSome o (IsGiven t port segments) → IfSome o (IsGiven t port (segments ++ s ∷ []))
+some_more t port segments s None p = tt
+some_more t port segments s (Some v) p = given_more t port segments s v p
 
--- ---- the same is said
+pub judged_given_more : (t : Terms) (port : ℕ) (segments : List Segment) (s : Segment) (o : Option Judged) → IfSome o (λ j. IfSome j.verdict (IsGiven t port segments))
+    → IfSome o (λ j. IfSome j.verdict (IsGiven t port (segments ++ s ∷ [])))
+judged_given_more t port segments s None p = tt
+judged_given_more t port segments s (Some j) p = some_more t port segments s j.verdict p
 
-pub same_talk : (dialler acceptor : List ℕ) (talk later : MapperTalk) → later.request ≡ talk.request → later.answer ≡ talk.answer
-    → TalkIn dialler acceptor talk → TalkIn dialler acceptor later
-same_talk dialler acceptor talk later request answer p = record {
-  asked = subst (λ (o : Option Request). IfSome o (λ r. asked_by None (first_body w16 dialler) ≡ Ok (Some r))) (sym request) p.asked;
-  answered = subst (λ (o : Option Request). IfSome later.answer (IsAnswerIn acceptor o)) (sym request)
-      (subst (λ (o : Option Answer). IfSome o (IsAnswerIn acceptor talk.request)) (sym answer) p.answered);
-}
-
--- ---- what waits is read
-
--- who asked nothing has no answer
-no_answer : (bytes : List ℕ) (o : Option Request) (a : Answer) → o ≡ None → IsAnswerIn bytes o a → ⊥
-no_answer bytes o a none p =
-    let no : Some a ≡ None = sym p.3 ∙ ap (λ (x : Option Request). answered_by x p.0) none in
-    cc
-
--- what is asked now was asked before, or is the first body
-asked_now : (dialler acceptor : List ℕ) (talk : MapperTalk) (request : Option Request) → asked_by talk.request (first_body w16 dialler) ≡ Ok request
-    → TalkIn dialler acceptor talk
-    → IfSome request (λ r. asked_by None (first_body w16 dialler) ≡ Ok (Some r))
-asked_now dialler acceptor talk request e p = by talk.request e p.asked request refl where
-  by : (o : Option Request) → asked_by o (first_body w16 dialler) ≡ Ok request → IfSome o (λ r. asked_by None (first_body w16 dialler) ≡ Ok (Some r))
-      → (now : Option Request) → request ≡ now → IfSome now (λ r. asked_by None (first_body w16 dialler) ≡ Ok (Some r))
-  by o is q None at = tt
-  by None is q (Some r) at = is ∙ ap (λ (x : Option Request). Ok x) at
-  by (Some before) is q (Some r) at = let same : before ≡ r = cc in subst (λ (x : Request). asked_by None (first_body w16 dialler) ≡ Ok (Some x)) same q
-
--- an answer that was there is one to what is asked now
-answer_kept : (dialler acceptor : List ℕ) (talk : MapperTalk) (request : Option Request) → asked_by talk.request (first_body w16 dialler) ≡ Ok request
-    → TalkIn dialler acceptor talk
-    → IfSome talk.answer (IsAnswerIn acceptor request)
-answer_kept dialler acceptor talk request e p = by talk.request refl talk.answer p.answered where
-  by : (o : Option Request) → talk.request ≡ o → (answer : Option Answer) → IfSome answer (IsAnswerIn acceptor talk.request)
-      → IfSome answer (IsAnswerIn acceptor request)
-  by o is None q = tt
-  by None is (Some a) q = absurd (no_answer acceptor talk.request a is q)
-  by (Some r) is (Some a) q =
-      let read : asked_by (Some r) (first_body w16 dialler) ≡ Ok request =
-      subst (λ (x : Option Request). asked_by x (first_body w16 dialler) ≡ Ok request) is e in
-      let same : talk.request ≡ request = cc in
-      subst (λ (x : Option Request). IsAnswerIn acceptor x a) same q
-
-answered_now : (acceptor : List ℕ) (request : Option Request) (before : Option Answer) → IfSome before (IsAnswerIn acceptor request)
-    → IfSome (option_or (answered_by request acceptor) before) (IsAnswerIn acceptor request)
-answered_now acceptor request before p = by (answered_by request acceptor) refl where
-  by : (o : Option Answer) → answered_by request acceptor ≡ o → IfSome (option_or o before) (IsAnswerIn acceptor request)
-  by None is = p
-  by (Some a) is = (acceptor, [], sym (append-nil acceptor), is)
-
-said_on : (dialler acceptor : List ℕ) (talk : MapperTalk) (request : Option Request) → asked_by talk.request (first_body w16 dialler) ≡ Ok request
-    → TalkIn dialler acceptor talk
-    → TalkIn dialler acceptor (record talk { request = request; answer = option_or (answered_by request acceptor) talk.answer })
-said_on dialler acceptor talk request e p = record {
-  asked = asked_now dialler acceptor talk request e p;
-  answered = answered_now acceptor request talk.answer (answer_kept dialler acceptor talk request e p);
-}
-
--- what is carried then stands in the bytes, all of which wait
-pub talk_holds : (talk : MapperTalk) (b : Sent) (f g : Flow) → AllWait b f g → TalkIn b.dialler b.acceptor talk
-    → IsOf (talk_read talk b.dialler b.acceptor) b f g × SaidBoth (talk_read talk b.dialler b.acceptor) b
-talk_holds talk b f g waits p = by (asked_by talk.request (first_body w16 b.dialler)) refl where
-  by : (r : Result (Option Request) EpmdError) → asked_by talk.request (first_body w16 b.dialler) ≡ r
-      → IsOf (talk_asked talk b.acceptor r) b f g × SaidBoth (talk_asked talk b.acceptor r) b
-  by (Ok request) is = let q = said_on b.dialler b.acceptor talk request is p in ((q, λ _. waits), q)
-  by (Err fault) is = (tt, tt)
-
--- all was read, or it was not
-pub whole_open : (b : Bool) → b ≡ true → b ≡ false → ⊥
-whole_open b whole goes = false≢true (sym goes ∙ whole)
+pub given_of : (t : Terms) (port : ℕ) (segments : List Segment) (c : Conversation) (now : ℕ) (j : Judged) → IsJudged t port segments c now j → IfSome j.verdict (IsGiven t port segments)
+given_of t port segments c now j p = by j.verdict refl where
+  by : (o : Option HandshakeVerdict) → j.verdict ≡ o → IfSome o (IsGiven t port segments)
+  by None e = tt
+  by (Some v) e = record { seen = c; now = now; judged = j; is = p; verdict = e }

@@ -1,174 +1,238 @@
--- A WHOLE CAPTURE: the attempts that its segments show, what is printed of them, and its exit status.
-use Rattle.std.specs.Prelude.{◌≡◌, ◌⊎◌, ◌<◌, ◌+◌, ℕ, min, Bool, false, not, ◌&&◌, ◌||◌, if◌then◌else◌, nat_le, nat_lt, MatchBool, IfSome}
-use Rattle.std.specs.Prelude.{List, length, [], ◌∷◌, ◌++◌, map, set, slice_get, sum_by, Option, None, Ok}
-use Rattle.std.specs.{Global.Global, List.All, List.Contains, List.FoldsTo, List.remove}
-use Rattle.std.specs.declared.boxed.Box.{Box}
-use Rattle.dist_capture.specs.Reading.{Reading, Was, is_cut_off, view_of, whole}
-use Rattle.dist_capture.specs.declared.{segment.Segment.Segment, skipped.SkippedCounts.SkippedCounts}
+-- A WHOLE CAPTURE: its attempts, each judged by its conversation; what is printed of them; and the exit status.
+use Rattle.std.specs.Prelude.{◌≡◌, ◌⊎◌, ℕ, Bool, true, false, ◌==◌, if◌then◌else◌, List, [], ◌∷◌, ◌++◌, map, slice_get, Option, Some, None, Ok, IfSome}
+use Rattle.std.specs.{Borrow.Bor, List.All, List.FoldsTo, Option.ok_or}
+use Rattle.std.specs.{Global.Global, declared.boxed.Box.Box}
+use Rattle.dist_capture.specs.{Reading.Reading, Reading.Was, Reading.is_cut_off, Reading.view_of, Reading.whole, declared.segment.Segment.Segment}
+use Rattle.dist_messages.specs.declared.message.Side.{TheVariants.Dialler}
 use Rattle.dist_talk.specs.declared.terms.Terms.{Terms}
-use Rattle.distping_capture.specs.{Carried.StandsOn, Connections.IsBetween, Connections.IsNew}
-use Rattle.distping_capture.specs.Exits.{Counts, Ends, EndsAll, History, IsExit, Renews, SameAttempts, TakesYet, exit_now}
-use Rattle.distping_capture.specs.{Printing.PrintsOutcome, Sizes.kept_of}
+use Rattle.dist_talk.specs.declared.terms.Viewpoint.TheVariants as viewpoint
+use Rattle.dist_talk.specs.declared.verdict.NoCookie.TheVariants as without
+use Rattle.dist_talk.specs.{Words.status_of, declared.verdict.HandshakeVerdict.HandshakeVerdict}
 use Rattle.distping_report.specs.Sinks.{SinkState}
-use Rattle.distping_capture.specs.declared.{connection.CapturedConnection.CapturedConnection, dials.PastDial.PastDial}
-use Rattle.distping_capture.specs.declared.{finder.Finder.Finder, left_out.PacketsLeftOut.PacketsLeftOut, register.Register.Register}
+use Rattle.dist_conversation.specs.Conversations.{IsBetween, IsConversation, begun, ended_or}
+use Rattle.dist_conversation.specs.Verdicts.{CarriesAtEnd, IsDueAs, name_said, verdict_on}
+use Rattle.dist_conversation.specs.declared.{carried.Judged.Judged, conversation.Conversation.Conversation, judge.OtherEnd.OtherEnd}
+use Rattle.distping_capture.specs.Crossings.{Meets}
+use Rattle.distping_capture.specs.Printing.{PrintsOne, PrintsOutcome, PrintsText}
+use Rattle.distping_capture.specs.declared.{connections.Connection.Connection, connections.Connections.Connections, dials.PastDial.PastDial}
+use Rattle.distping_capture.specs.declared.{journal.Journal.Journal, left_out.PacketsLeftOut.PacketsLeftOut}
 
--- THE EXIT STATUS after attempts that were judged by these terms, of what these segments show
-pub record CountsTo (t : Terms) (segments : List Segment) (status : ℕ) : Type 0 where
-  pub attempts : List PastDial
-  pub history : History t segments attempts
-  pub exit : IsExit attempts status
+-- some of these segments, in their order
+pub data IsPart : List Segment → List Segment → Type 0 where
+  NoPart : IsPart [] []
+  Shares : (part all : List Segment) (s : Segment) → IsPart part all → IsPart (s ∷ part) (s ∷ all)
+  Leaves : (part all : List Segment) (s : Segment) → IsPart part all → IsPart part (s ∷ all)
 
--- a connection is forgotten before another one: it ended, and the other one did not; or both did or neither, and it was quiet for longer
-abbrev pub is_older : CapturedConnection → CapturedConnection → Bool
-is_older c e =
-    if c.is_reported then (not e.is_reported || nat_lt c.latest e.latest) else (not e.is_reported && nat_lt c.latest e.latest)
+-- A CONVERSATION OF A CAPTURE: that of some of its segments, all of them between its two ports
+pub record IsOf (port : ℕ) (segments : List Segment) (c : Conversation) : Type 0 where
+  pub talk : List Segment
+  pub part : IsPart talk segments
+  pub between : All (IsBetween c) talk
+  pub is : IsConversation port talk c
 
--- how many open connections were forgotten, once this one was, as far as that is counted
-abbrev pub count_forgotten : CapturedConnection → ℕ → ℕ
-count_forgotten c count = if c.is_reported then count else min 18446744073709551615 (count + 1)
+-- it was due when it was judged, or at its end, of which this is the time
+abbrev pub IsWhen : Terms → Conversation → ℕ → Judged → Type 0
+IsWhen t c now j = IsDueAs c.shown t c j.carried ⊎ ((other : OtherEnd) × CarriesAtEnd t other c now j.carried)
 
--- these are all bytes that a reader had, where those are known
-abbrev pub AreAll : Option (List ℕ) → List ℕ → Type 0
-AreAll known bytes = IfSome known (λ all. bytes ≡ all)
+-- THIS CONVERSATION WAS JUDGED SO: what it carried is what its segments show; and the verdict is that on what it carried.
+pub record IsJudged (t : Terms) (port : ℕ) (segments : List Segment) (c : Conversation) (now : ℕ) (j : Judged) : Type 0 where
+  pub of : IsOf port segments c
+  pub carried : IsWhen t c now j
+  pub verdict : j.verdict ≡ verdict_on t c.is_at_mapper j.carried
 
-module _ {W : Type 0} where
-  -- the connections that are remembered
-  abbrev pub connections_of : Finder W → List CapturedConnection
-  connections_of f = map (λ b. b.value) f.connections.items
+-- a conversation was given this verdict
+pub record IsGiven (t : Terms) (port : ℕ) (segments : List Segment) (v : HandshakeVerdict) : Type 0 where
+  pub seen : Conversation
+  pub now : ℕ
+  pub judged : Judged
+  pub is : IsJudged t port segments seen now judged
+  pub verdict : judged.verdict ≡ Some v
 
-  -- THE EXIT STATUS once all connections that are remembered ended, and what is printed then; so many packets gave no segment
-  pub record FinishesWith (f : Finder W) (counts : SkippedCounts) (is_cut_off : Bool) (status : ℕ) (printed : SinkState) : Type 0 where
-    pub last : Register W
-    pub ends : EndsAll f.latest (connections_of f) f.register last
-    pub exit : status ≡ exit_now last
-    pub left_out : PacketsLeftOut
-    pub counted : left_out ≡ record { counts = counts; forgotten = f.forgotten; is_cut_off = is_cut_off }
-    pub prints : PrintsOutcome last.lines.quiet last.has_found left_out status last.results printed
+-- AN ATTEMPT of this conversation, which came up or ended by this time: it has the name that was said, and counts by the verdict's status
+pub record IsAttempt (c : Conversation) (now : ℕ) (j : Judged) (attempt : PastDial) : Type 0 where
+  pub verdict : j.verdict ≡ Some attempt.verdict
+  pub exit : attempt.exit ≡ status_of attempt.verdict
+  pub name : attempt.name ≡ name_said Dialler j.carried
+  pub between : (attempt.dialler ≡ c.dialler) × (attempt.acceptor ≡ c.acceptor)
+  pub times : (attempt.began ≡ c.began) × (attempt.ended ≡ ended_or c now)
 
-  -- nothing is remembered yet or was found, no attempt was judged, and no verdict printed; port mappers have this port
-  pub record IsFresh (t : Terms) (port : ℕ) (json : Bool) (out : SinkState) (f : Finder W) : Type 0 where
-    pub terms : f.register.terms ≡ t
-    pub port_is : f.mapper_port ≡ port
-    pub quiet : f.register.lines.quiet ≡ json
-    pub results : f.register.results ≡ out
-    pub connections : f.connections.items ≡ []
-    pub forgotten : f.forgotten ≡ 0
-    pub attempts : f.register.dials.items ≡ []
-    pub known : (f.register.hosts.items ≡ []) × (f.register.nodes.listeners.items ≡ [])
-    pub status : f.register.status ≡ 0
-    pub found : f.register.has_found ≡ false
+-- THE ATTEMPTS OF A CAPTURE, each judged, and added behind those before it: of two that cross, the one that gave way counts no more
+pub data History (t : Terms) (port : ℕ) (segments : List Segment) : List PastDial → Type 0 where
+  NoAttempt : History t port segments []
+  NextAttempt : (earlier before : List PastDial) → History t port segments (earlier ++ before) → (attempt : PastDial)
+      → (c : Conversation) (now : ℕ) (j : Judged) → IsJudged t port segments c now j → IsAttempt c now j attempt
+      → (left : PastDial) (others : List PastDial) → Meets attempt before left others → History t port segments (earlier ++ (others ++ left ∷ []))
 
-  -- ---- segment by segment
+-- THE EXIT STATUS: the first that is not 0 of the attempts; 12 if nothing was found
+abbrev pub first_exit : List PastDial → ℕ
+first_exit [] = 0
+first_exit (dial ∷ rest) = if dial.exit == 0 then first_exit rest else dial.exit
 
-  -- what the finder counts was judged of these segments, and what its connections carry stands in them
-  abbrev pub Tracks : Terms → List Segment → Finder W → Type 0
-  Tracks t segments f = Counts t segments f.register × All (λ c. StandsOn segments c.value) f.connections.items
+abbrev pub exit_of : Bool → List PastDial → ℕ
+exit_of found attempts = if found then first_exit attempts else 12
 
-  abbrev pub GoesOnTracking : Finder W → Finder W → Type 0
-  GoesOnTracking f g = (t : Terms) (segments : List Segment) → Tracks t segments f → Tracks t segments g
+-- WHAT IS PRINTED OF THE ATTEMPTS: the text of the verdict of each, in their order; or with `--json` objects, each of a verdict that was given
+abbrev pub verdicts_of : List PastDial → List HandshakeVerdict
+verdicts_of attempts = map (λ a. a.verdict) attempts
 
-  -- the same with this segment behind those that were taken
-  abbrev pub TracksNext : Segment → Finder W → Finder W → Type 0
-  TracksNext next f g = (t : Terms) (segments : List Segment) → Tracks t segments f → Tracks t (segments ++ next ∷ []) g
+abbrev pub PrintsAll : Bool → Terms → ℕ → List Segment → List PastDial → SinkState → SinkState → Type 0
+PrintsAll false t port segments attempts old new = FoldsTo (λ a v b. PrintsText v a b) old (verdicts_of attempts) new
+PrintsAll true t port segments attempts old new =
+    (verdicts : List HandshakeVerdict) × All (IsGiven t port segments) verdicts × FoldsTo (λ a v b. PrintsOne v a b) old verdicts new
 
-  -- a connection at this place is between the two ports of this segment
-  abbrev pub IsPlaceOf : Segment → Finder W → ℕ → Type 0
-  IsPlaceOf s f place = IfSome (slice_get f.connections.items place) (λ c. IsBetween c.value s)
+-- what the handshakes of a capture are judged by: a cookie, if one is known
+abbrev pub terms_of : Option (Bor (List ℕ)) → Terms
+terms_of cookie = record { viewpoint = viewpoint.Capture; target = None; cookie = ok_or cookie without.Missing }
 
-  -- the connection at this place is forgotten before any other one
-  abbrev pub IsOldest : Finder W → ℕ → Type 0
-  IsOldest f place = IfSome (slice_get f.connections.items place) (λ c. All (λ e. is_older e.value c.value ≡ false) f.connections.items)
-
-  -- the connection at this place was given up, and ended by this time
-  pub record GivesUp (now place : ℕ) (f g : Finder W) : Type 0 where
-    pub within : place < length f.connections.items
-    pub ends : IfSome (slice_get f.connections.items place) (λ c. Ends now c.value f.register g.register)
-    pub left : g.connections.items ≡ remove f.connections.items place
-
-  -- the connection at this place was forgotten; it is counted, if it had not ended before
-  pub record Forgets (now place : ℕ) (f g : Finder W) : Type 0 where
-    pub gives_up : GivesUp now place f g
-    pub counted : IfSome (slice_get f.connections.items place) (λ c. g.forgotten ≡ count_forgotten c.value f.forgotten)
-
-  -- the same connections are remembered, and the same attempts, and none was forgotten
-  abbrev pub Rests : Finder W → Finder W → Type 0
-  Rests f g = (g.connections.items ≡ f.connections.items) × SameAttempts f.register g.register × (g.forgotten ≡ f.forgotten)
-
-  -- none, or one if there is no room
-  abbrev pub MakesRoom : ℕ → Finder W → Finder W → Type 0
-  MakesRoom now f g =
-      MatchBool (nat_le 1024 (length f.connections.items)) ((place : ℕ) × IsOldest f place × Forgets now place f g) (Rests f g)
-
-  -- a new connection of this segment was added behind those that are remembered, once there was room
-  abbrev pub AddsNew : Segment → Finder W → Finder W → Type 0
-  AddsNew s f g =
-      (room : Finder W) × MakesRoom s.time f room × (c : Box CapturedConnection Global)
-      × (g.connections.items ≡ room.connections.items ++ c ∷ []) × IsNew f.mapper_port s c.value × (g.register ≡ room.register)
-      × (g.forgotten ≡ room.forgotten)
-
-  -- THERE IS A CONNECTION for this segment: one is remembered; or none is between its two ports, and a new one was added
-  abbrev pub MakesPlace : Segment → Finder W → Finder W → Type 0
-  MakesPlace s f g = Rests f g ⊎ (All (λ c. IsBetween c.value s → ⊥) f.connections.items × AddsNew s f g)
-
-  -- the connection at this place took the segment, or the one that was renewed by it
-  abbrev pub TakesAt : ℕ → Segment → ℕ → Finder W → Finder W → Type 0
-  TakesAt port s place f g = IfSome (slice_get f.connections.items place)
-      (λ c. (now : CapturedConnection) × (between : Register W) × (later : Box CapturedConnection Global)
-      × Renews port s c.value now f.register between × TakesYet s now later.value between g.register
-      × (g.connections.items ≡ set f.connections.items place later) × (g.forgotten ≡ f.forgotten))
-
-  -- too much is kept of all connections together (our own choice), and the one at this place was forgotten
-  abbrev pub ForgetsMuch : ℕ → ℕ → Finder W → Finder W → Type 0
-  ForgetsMuch now place f g = (32000000 < sum_by (λ c. kept_of c.value) f.connections.items) × Forgets now place f g
-
-  -- A SEGMENT WAS TAKEN, by a connection between its two ports; then one may be forgotten, if too much is kept
-  pub record TakesOne (s : Segment) (f g : Finder W) : Type 0 where
-    pub placed : Finder W
-    pub makes : MakesPlace s f placed
-    pub place : ℕ
-    pub within : place < length placed.connections.items
-    pub between : IsPlaceOf s placed place
-    pub taken : Finder W
-    pub takes : TakesAt f.mapper_port s place placed taken
-    pub same_port : g.mapper_port ≡ f.mapper_port
-    pub latest : g.latest ≡ s.time
-    pub leaves : (g ≡ record taken { kept = g.kept }) ⊎ ((at : ℕ) × ForgetsMuch s.time at taken g)
-
-  -- all of these were taken, each in turn
-  abbrev pub TakesAll : Finder W → List Segment → Finder W → Type 0
-  TakesAll = FoldsTo (λ f s g. TakesOne s f g)
-
-  -- a segment that is one of them was handed on to the connection at this place
-  abbrev pub HandsOn : Segment → ℕ → Finder W → Finder W → Type 0
-  HandsOn next place f g =
-      IsPlaceOf next f place → (t : Terms) (segments : List Segment) → Contains segments next → Tracks t segments f → Tracks t segments g
-
-  -- of these bytes, which were read, all segments were taken that the reader returned, each in turn since the first finder
-  pub record IsAt (t : Terms) (first : Finder W) (stream : List ℕ) (reading : Reading) (f : Finder W) : Type 0 where
-    pub segments : List Segment
-    pub was : Was reading stream (map view_of segments)
-    pub took : TakesAll first segments f
-    pub tracks : Tracks t segments f
-
-  -- segments were taken
-  abbrev pub TakesIn : Reading → Finder W → Reading → Finder W → Type 0
-  TakesIn r f s g = (t : Terms) (first : Finder W) (stream : List ℕ) → IsAt t first stream r f → IsAt t first stream s g
-
-  -- these bytes were read, and segments taken
-  abbrev pub ReadsIn : List ℕ → Reading → Finder W → Reading → Finder W → Type 0
-  ReadsIn bytes r f s g = (t : Terms) (first : Finder W) (stream : List ℕ) → IsAt t first stream r f → IsAt t first (stream ++ bytes) s g
-
--- THE EXIT STATUS OF A CAPTURE of these bytes, AND WHAT IS PRINTED OF ITS VERDICTS, with `--json` or without; port mappers have this port. The bytes
--- have these segments and no other one that is whole: all of them are taken, and then all connections end.
-pub record EndsWith (W : Type 0) (t : Terms) (port : ℕ) (json : Bool) (bytes : List ℕ) (old new : SinkState) (status : ℕ) : Type 0 where
+-- A CAPTURE OF THESE BYTES ENDED WITH THIS STATUS, AND THIS WAS PRINTED OF ITS VERDICTS, with `--json` or without: they have these segments and no other
+-- one that is whole
+pub record EndsWith (t : Terms) (port : ℕ) (json : Bool) (bytes : List ℕ) (old new : SinkState) (status : ℕ) : Type 0 where
   pub segments : List Segment
   pub reading : Reading
   pub was : Was reading bytes (map view_of segments)
   pub no_more : whole reading ≡ Ok None
-  pub begun : Finder W
-  pub fresh : IsFresh t port json old begun
-  pub last : Finder W
-  pub took : TakesAll begun segments last
-  pub finishes : FinishesWith last reading.counts (is_cut_off reading) status new
-  pub counts : CountsTo t segments status
+  pub attempts : List PastDial
+  pub history : History t port segments attempts
+  pub found : Bool
+  pub nothing : found ≡ false → attempts ≡ []
+  pub exit : status ≡ exit_of found attempts
+  pub printed : SinkState
+  pub verdicts : PrintsAll json t port segments attempts old printed
+  pub left_out : PacketsLeftOut
+  pub counted : (left_out.counts ≡ reading.counts) × (left_out.is_cut_off ≡ is_cut_off reading)
+  pub outcome : PrintsOutcome json found left_out status printed new
+
+-- ---- what is remembered
+
+module _ {W : Type 0} where
+  -- THE JOURNAL STANDS FOR THESE ATTEMPTS: the latest are remembered, of the earlier ones the first status that is not 0
+  pub record StandsFor (r : Journal W) (attempts : List PastDial) : Type 0 where
+    pub earlier : List PastDial
+    pub all : attempts ≡ earlier ++ r.dials.items
+    pub status : r.status ≡ first_exit earlier
+    pub nothing : r.has_found ≡ false → attempts ≡ []
+
+  abbrev pub exit_now : Journal W → ℕ
+  exit_now r = if r.has_found then (if r.status == 0 then first_exit r.dials.items else r.status) else 12
+
+  -- an attempt was added; of it and of those that are remembered the ones count no more that gave way to another
+  pub record Adds (attempt : PastDial) (r s : Journal W) : Type 0 where
+    pub left : PastDial
+    pub others : List PastDial
+    pub meets : Meets attempt r.dials.items left others
+    pub adds : (earlier : List PastDial) → r.status ≡ first_exit earlier → StandsFor s (earlier ++ (others ++ left ∷ []))
+    pub same : (s.results ≡ r.results) × (s.terms ≡ r.terms) × (s.lines ≡ r.lines)
+
+  -- the same of a conversation that was judged so
+  pub record AddsOf (c : Conversation) (now : ℕ) (j : Judged) (r s : Journal W) : Type 0 where
+    pub attempt : PastDial
+    pub is : IsAttempt c now j attempt
+    pub adds : Adds attempt r s
+
+  -- THE JOURNAL HAS ALL ATTEMPTS of these segments that were judged, and all verdicts were printed that were due
+  pub record Keeps (t : Terms) (port : ℕ) (segments : List Segment) (json : Bool) (old : SinkState) (r : Journal W) : Type 0 where
+    pub terms : r.terms ≡ t
+    pub quiet : r.lines.quiet ≡ json
+    pub attempts : List PastDial
+    pub history : History t port segments attempts
+    pub stands : StandsFor r attempts
+    pub printed : PrintsAll json t port segments attempts old r.results
+
+  -- it goes on so, of the same segments
+  abbrev pub GoesOn : Journal W → Journal W → Type 0
+  GoesOn r s = (t : Terms) (port : ℕ) (segments : List Segment) (json : Bool) (old : SinkState) → Keeps t port segments json old r → Keeps t port segments json old s
+
+  -- the same, if this conversation was judged so; or if this verdict was given
+  abbrev pub GoesOnBy : Conversation → ℕ → Judged → Journal W → Journal W → Type 0
+  GoesOnBy c now j r s = (t : Terms) (port : ℕ) (segments : List Segment) (json : Bool) (old : SinkState)
+      → IsJudged t port segments c now j → Keeps t port segments json old r → Keeps t port segments json old s
+
+  abbrev pub GoesOnOf : Option HandshakeVerdict → Journal W → Journal W → Type 0
+  GoesOnOf given r s = (t : Terms) (port : ℕ) (segments : List Segment) (json : Bool) (old : SinkState)
+      → IfSome given (IsGiven t port segments) → Keeps t port segments json old r → Keeps t port segments json old s
+
+-- ---- connections
+
+-- a conversation of these segments; or one of no segment yet, which this one begins
+abbrev pub IsOfOrNew : ℕ → List Segment → Segment → Conversation → Type 0
+IsOfOrNew port segments s c = IsOf port segments c ⊎ (c ≡ begun port s)
+
+-- A CONNECTION IS FOLLOWED: until it is judged it is a conversation of these segments; then its verdict was given
+pub record Follows (t : Terms) (port : ℕ) (segments : List Segment) (c : Connection) : Type 0 where
+  pub open_ : c.judged ≡ None → c.is_over ≡ false → IsOf port segments c.seen
+  pub given : IfSome c.judged (λ j. IfSome j.verdict (IsGiven t port segments))
+
+-- the same of one that this segment may begin
+pub record Awaits (t : Terms) (port : ℕ) (segments : List Segment) (s : Segment) (c : Connection) : Type 0 where
+  pub between : IsBetween c.seen s
+  pub open_ : c.judged ≡ None → c.is_over ≡ false → IsOfOrNew port segments s c.seen
+  pub given : IfSome c.judged (λ j. IfSome j.verdict (IsGiven t port segments))
+
+module _ {W : Type 0} where
+  -- what is followed, and what the journal has
+  pub record Has (t : Terms) (port : ℕ) (segments : List Segment) (json : Bool) (old : SinkState) (r : Journal W) (c : Connection) : Type 0 where
+    pub keeps : Keeps t port segments json old r
+    pub follows : Follows t port segments c
+
+  -- a connection ends
+  abbrev pub Ends : Connection → Connection → Journal W → Journal W → Type 0
+  Ends c e r s = (t : Terms) (port : ℕ) (segments : List Segment) (json : Bool) (old : SinkState)
+      → Follows t port segments c → Keeps t port segments json old r → Has t port segments json old s e
+
+  -- it ends if this segment begins another one between the same ports
+  abbrev pub Renews : Segment → ℕ → Connection → Connection → Journal W → Journal W → Type 0
+  Renews next port c e r s = (t : Terms) (segments : List Segment) (json : Bool) (old : SinkState)
+      → IsBetween c.seen next → Follows t port segments c → Keeps t port segments json old r → Keeps t port segments json old s × Awaits t port segments next e
+
+  -- it takes a segment
+  abbrev pub TakesNext : Segment → Connection → Connection → Journal W → Journal W → Type 0
+  TakesNext next c e r s = (t : Terms) (port : ℕ) (segments : List Segment) (json : Bool) (old : SinkState)
+      → Awaits t port segments next c → Keeps t port segments json old r → Has t port (segments ++ next ∷ []) json old s e
+
+  -- ALL CONNECTIONS ARE FOLLOWED
+  pub record FollowsAll (t : Terms) (port : ℕ) (segments : List Segment) (json : Bool) (old : SinkState) (f : Connections W) : Type 0 where
+    pub port_is : f.mapper_port ≡ port
+    pub keeps : Keeps t port segments json old f.journal
+    pub each : All (λ b. Follows t port segments b.value) f.connections.items
+
+  -- the connection at this place is between the two ports of this segment
+  abbrev pub IsPlaceOf : Segment → Connections W → ℕ → Type 0
+  IsPlaceOf s f place = IfSome (slice_get f.connections.items place) (λ b. IsBetween b.value.seen s)
+
+  abbrev pub GoesOnAll : Connections W → Connections W → Type 0
+  GoesOnAll f g = (t : Terms) (port : ℕ) (segments : List Segment) (json : Bool) (old : SinkState)
+      → FollowsAll t port segments json old f → FollowsAll t port segments json old g
+
+  abbrev pub TakesInAll : Segment → Connections W → Connections W → Type 0
+  TakesInAll next f g = (t : Terms) (port : ℕ) (segments : List Segment) (json : Bool) (old : SinkState)
+      → FollowsAll t port segments json old f → FollowsAll t port (segments ++ next ∷ []) json old g
+
+  -- ---- the reader
+
+  -- of these bytes, which were read, all segments were taken that the reader returned
+  pub record IsAt (t : Terms) (port : ℕ) (json : Bool) (old : SinkState) (stream : List ℕ) (reading : Reading) (f : Connections W) : Type 0 where
+    pub segments : List Segment
+    pub was : Was reading stream (map view_of segments)
+    pub follows : FollowsAll t port segments json old f
+
+  -- segments were taken
+  abbrev pub TakesIn : Reading → Connections W → Reading → Connections W → Type 0
+  TakesIn r f s g = (t : Terms) (port : ℕ) (json : Bool) (old : SinkState) (stream : List ℕ) → IsAt t port json old stream r f → IsAt t port json old stream s g
+
+  -- these bytes were read, and segments taken
+  abbrev pub ReadsIn : List ℕ → Reading → Connections W → Reading → Connections W → Type 0
+  ReadsIn bytes r f s g = (t : Terms) (port : ℕ) (json : Bool) (old : SinkState) (stream : List ℕ)
+      → IsAt t port json old stream r f → IsAt t port json old (stream ++ bytes) s g
+
+  -- THE EXIT STATUS OF ALL, and what is printed at the end
+  pub record Finishes (left_out : PacketsLeftOut) (status : ℕ) (r : Journal W) (printed : SinkState) : Type 0 where
+    pub exit : status ≡ exit_now r
+    pub outcome : PrintsOutcome r.lines.quiet r.has_found left_out status r.results printed
+
+  abbrev pub EndsAll : PacketsLeftOut → ℕ → Connections W → SinkState → Type 0
+  EndsAll left_out status f printed = (r : Journal W) × Finishes left_out status r printed
+      × ((t : Terms) (port : ℕ) (segments : List Segment) (json : Bool) (old : SinkState) → FollowsAll t port segments json old f → Keeps t port segments json old r)
+
+-- these are all bytes that a reader had, where those are known
+abbrev pub AreAll : Option (List ℕ) → List ℕ → Type 0
+AreAll known bytes = IfSome known (λ all. bytes ≡ all)

@@ -1,15 +1,3 @@
-pub mod Attempts
 pub mod Captures
-pub mod Carried
-pub mod Connections
 pub mod Crossings
-pub mod Delivered
-pub mod Endings
-pub mod Exits
-pub mod Flows
-pub mod Listeners
-pub mod Numbers
-pub mod Objects
 pub mod Printing
-pub mod Recognized
-pub mod Sizes

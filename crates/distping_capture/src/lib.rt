@@ -1,27 +1,20 @@
 //! What a capture shows of Erlang's distribution: what was said on each connection, how it ended, and what that means.
 //!
-//! It opens no socket and has no clock: it reads the segments of TCP in a capture, and prints lines of text. What both sides said is kept as
-//! the handshake of a live connection is, and has the verdict of the same table, with the name in the challenge as the one that was dialled.
+//! The conversations of a capture are collected and judged one by one (dist_conversation). Here they are RELATED: the attempts that were judged
+//! are compared with each other; and PRINTED, with the first exit status that is not 0.
+//!
+//! It opens no socket and has no clock: it reads the segments of TCP in a capture, and prints lines of text.
 #![tactic(auto)]
 
-mod attempt;
-mod connection;
+mod connections;
 mod dials;
-mod finder;
-mod flow;
-mod judging;
-mod laws;
+mod journal;
 mod left_out;
 mod lines;
-mod mapper_lines;
-mod messages;
 mod nodes;
-mod object;
+mod objects;
 mod reading;
-mod register;
-mod sizes;
+mod say;
 mod summary;
-mod traffic;
 
-pub use laws::the_bytes_alone;
 pub use reading::read_capture;

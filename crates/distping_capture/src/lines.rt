@@ -1,18 +1,18 @@
-//! The lines about one connection.
+//! The lines about one conversation.
 
 ghost use Rattle.std.specs.Prelude.{◌≡◌, Bool, IfNone, IfOk, IfSome, OnOk, false, string_bytes};
 ghost use Rattle.dist_talk.specs.Words.{status_of};
 ghost use Rattle.distping_capture.specs.Printing.{IsAttemptText, PrintsText, attempt_mark};
 ghost use Rattle.distping_report.specs.Texts.{mark_of};
 
-use crate::connection::{CapturedConnection, PATIENCE};
 use crate::dials::PastDial;
-use crate::flow::FlowEnd;
-use crate::mapper_lines::put_mapper_end;
-use crate::traffic::Traffic;
+use crate::say::say;
+use dist_conversation::{Carried, Conversation, Judged, MapperTalk, is_long, registration_of};
+use dist_epmd::{Answer, NodeInfo, Request};
+use dist_epmd_calls::LookupError;
 use dist_frames::first_body;
 use dist_messages::{Message, Side};
-use dist_names::{ByteString, Creation, Flags};
+use dist_names::{ByteString, Flags};
 use dist_talk::{
     Handshake, HandshakeVerdict, NodeDescription, SentContent, SentMessage, Terms, other_side,
 };
@@ -26,6 +26,20 @@ use std::io::Write;
 // which a node gives up. Our own choice.
 const SLOW: u64 = 3_500_000_000;
 
+// How long a side of a connection that is up may send nothing before that is said, in nanoseconds: a node looks in each quarter of
+// `net_ticktime`, which is 60 seconds if it is not set, whether it has to send a tick. Source: Kernel Reference Manual, kernel.
+const TICK: u64 = 15_000_000_000;
+
+// How close behind the acknowledgement an end is said to come at once, in nanoseconds. Our own choice.
+const SECOND: u64 = 1_000_000_000;
+
+/// Where the lines about one conversation are printed.
+#[derive(Clone, Copy)]
+pub struct Sheet<'l, 'c> {
+    pub lines: LineSink<'l>,
+    pub seen: &'c Conversation,
+}
+
 // A span of time in seconds, as `12.000345`.
 fn seconds_text(alloc: Global, nanoseconds: u64) -> Result<String, AllocError> {
     let micros = nanoseconds / 1000;
@@ -33,25 +47,8 @@ fn seconds_text(alloc: Global, nanoseconds: u64) -> Result<String, AllocError> {
     format!(in alloc; "{whole}.{rest:06}")
 }
 
-/// Prints from where to where a connection goes, and when it began.
-pub fn put_heading(lines: LineSink<'_>, connection: &CapturedConnection) -> Result<(), Fault> {
-    let time = utc_text(lines.alloc, connection.began / 1_000_000_000)?;
-    lines.put(&[
-        Text("-- "),
-        Host(connection.dialler.address),
-        Text(" port "),
-        Number(u32::from(connection.dialler.port)),
-        Text(" to "),
-        Host(connection.acceptor.address),
-        Text(" port "),
-        Number(u32::from(connection.acceptor.port)),
-        Text(", "),
-        Escaped(&time),
-    ])
-}
-
-/// The word for a side.
-pub fn side_word(side: Side) -> &'static str {
+// The word for a side.
+fn side_word(side: Side) -> &'static str {
     match side {
         Side::Dialler => "the dialler",
         Side::Acceptor => "the acceptor",
@@ -84,65 +81,16 @@ fn other_word(side: Side, body: &ByteString) -> (&'static str, LinePiece<'_>) {
     }
 }
 
-fn put_word<'x>(
-    lines: LineSink<'_>,
-    time: &'x str,
-    side: Side,
-    word: (&'static str, LinePiece<'x>),
-) -> Result<(), Fault> {
-    lines.put(&[
-        Text("   "),
-        Escaped(time),
-        Text("  "),
-        Text(side_word(side)),
-        Text(": "),
-        Text(word.0),
-        word.1,
-    ])
-}
-
-// Prints what a side says of itself in the older form, which has no creation.
-fn put_old_node(lines: LineSink<'_>, name: &ByteString, flags: u32) -> Result<(), Fault> {
-    lines.put(&[
-        Text("   node      "),
-        Name(name.as_slice()),
-        Text(", flags "),
-        Digits(Flags(u64::from(flags))),
-    ])
-}
-
-fn put_complement(lines: LineSink<'_>, high: u32, creation: Creation) -> Result<(), Fault> {
-    lines.put(&[
-        Text("   node      creation "),
-        Number(creation.0),
-        Text(", flags "),
-        Digits(Flags::of_halves(high, 0)),
-    ])
-}
-
-// Prints what a message says beside its name.
-fn put_content(lines: LineSink<'_>, message: &Message) -> Result<(), Fault> {
-    match message {
-        Message::OldName { flags, name } | Message::OldChallenge { flags, name, .. } => {
-            put_old_node(lines, name, *flags)
-        }
-        Message::NewName {
-            flags,
-            creation,
-            name,
-        }
-        | Message::NewChallenge {
-            flags,
-            creation,
-            name,
-            ..
-        } => lines.put_peer(NodeDescription {
-            name: name.as_slice(),
-            flags: *flags,
-            creation: Some(*creation),
-        }),
-        Message::Complement { high, creation } => put_complement(lines, *high, *creation),
-        Message::Status(_) | Message::Reply { .. } | Message::Ack { .. } => Ok(()),
+// The message that stands first of these, in the order of the capture.
+fn first_said<'m>(
+    dialler: &'m [SentMessage],
+    acceptor: &'m [SentMessage],
+) -> Option<(Side, &'m SentMessage)> {
+    match (dialler, acceptor) {
+        ([one, ..], [other, ..]) if other.number < one.number => Some((Side::Acceptor, other)),
+        ([one, ..], _) => Some((Side::Dialler, one)),
+        ([], [other, ..]) => Some((Side::Acceptor, other)),
+        ([], []) => None,
     }
 }
 
@@ -157,135 +105,355 @@ pub fn put_slow(
         return Ok(());
     }
     let seconds = seconds_text(lines.alloc, waited)?;
-    lines.put(&[
-        Text("!  slow      "),
-        Text(side_word(side)),
-        Text(" took "),
-        Escaped(&seconds),
-        Text(what),
-        Text("; a node gives up after 7 (net_setuptime)"),
-    ])
+    let form = "!  slow      % took %%; a node gives up after 7 (net_setuptime)";
+    say(
+        lines,
+        form,
+        &[Text(side_word(side)), Escaped(&seconds), Text(what)],
+    )
 }
 
-// Prints a message. `before` is when the one before it was there.
-fn put_message(
-    lines: LineSink<'_>,
-    began: u64,
-    before: u64,
-    side: Side,
-    sent: &SentMessage,
-) -> Result<(), Fault> {
-    let waited = sent.at.saturating_sub(before);
-    put_slow(lines, side, waited, " seconds")?;
-    let time = seconds_text(lines.alloc, sent.at.saturating_sub(began))?;
-    match &sent.content {
-        SentContent::Message(message) => {
-            put_word(lines, &time, side, word_of(message))?;
-            put_content(lines, message)
-        }
-        SentContent::Other(body) => put_word(lines, &time, side, other_word(side, body)),
+impl Sheet<'_, '_> {
+    // Prints a line of this form, with these pieces in place of its `%`.
+    fn say(self, form: &'static str, pieces: &[LinePiece<'_>]) -> Result<(), Fault> {
+        say(self.lines, form, pieces)
     }
-}
 
-// The message that was whole behind so many others.
-fn said_at(handshake: &Handshake, number: usize) -> Option<(Side, &SentMessage)> {
-    for side in [Side::Dialler, Side::Acceptor] {
-        for sent in handshake.messages_of(side) {
-            if sent.number == number {
-                return Some((side, sent));
+    // The same, of a side.
+    fn say_of(self, form: &'static str, side: Side) -> Result<(), Fault> {
+        say(self.lines, form, &[Text(side_word(side))])
+    }
+
+    /// Prints from where to where a connection goes, and when it began.
+    fn put_heading(self) -> Result<(), Fault> {
+        let (from, to) = (self.seen.dialler, self.seen.acceptor);
+        let (from_port, to_port) = (u32::from(from.port), u32::from(to.port));
+        let time = utc_text(self.lines.alloc, self.seen.began / 1_000_000_000)?;
+        self.lines.put(&[
+            Text("-- "),
+            Host(from.address),
+            Text(" port "),
+            Number(from_port),
+            Text(" to "),
+            Host(to.address),
+            Text(" port "),
+            Number(to_port),
+            Text(", "),
+            Escaped(&time),
+        ])
+    }
+
+    // ---- a handshake
+
+    // Prints what a message says beside its name; in the older form there is no creation.
+    fn put_content(self, message: &Message) -> Result<(), Fault> {
+        match message {
+            Message::OldName { flags, name } | Message::OldChallenge { flags, name, .. } => {
+                let flags = Digits(Flags(u64::from(*flags)));
+                self.say("   node      %, flags %", &[Name(name.as_slice()), flags])
+            }
+            Message::NewName {
+                flags,
+                creation,
+                name,
+            }
+            | Message::NewChallenge {
+                flags,
+                creation,
+                name,
+                ..
+            } => self.lines.put_peer(NodeDescription {
+                name: name.as_slice(),
+                flags: *flags,
+                creation: Some(*creation),
+            }),
+            Message::Complement { high, creation } => {
+                let flags = Digits(Flags::of_halves(*high, 0));
+                self.say(
+                    "   node      creation %, flags %",
+                    &[Number(creation.0), flags],
+                )
+            }
+            Message::Status(_) | Message::Reply { .. } | Message::Ack { .. } => Ok(()),
+        }
+    }
+
+    fn put_word<'x>(
+        self,
+        time: &'x str,
+        side: Side,
+        word: (&'static str, LinePiece<'x>),
+    ) -> Result<(), Fault> {
+        self.say(
+            "   %  %: %%",
+            &[Escaped(time), Text(side_word(side)), Text(word.0), word.1],
+        )
+    }
+
+    // Prints a message. `before` is when the one before it was there.
+    fn put_message(self, before: u64, side: Side, sent: &SentMessage) -> Result<(), Fault> {
+        put_slow(self.lines, side, sent.at.saturating_sub(before), " seconds")?;
+        let time = seconds_text(self.lines.alloc, sent.at.saturating_sub(self.seen.began))?;
+        match &sent.content {
+            SentContent::Message(message) => {
+                self.put_word(&time, side, word_of(message))?;
+                self.put_content(message)
+            }
+            SentContent::Other(body) => self.put_word(&time, side, other_word(side, body)),
+        }
+    }
+
+    // Prints the messages of a handshake, in the order in which they were whole.
+    fn put_messages(self, handshake: &Handshake) -> Result<(), Fault> {
+        let (mut dialler, mut acceptor, mut before) = (0, 0, self.seen.began);
+        for _ in 0..handshake.len() {
+            let (_, one) = handshake
+                .dialler
+                .split_at(dialler.min(handshake.dialler.len()));
+            let (_, other) = handshake
+                .acceptor
+                .split_at(acceptor.min(handshake.acceptor.len()));
+            if let Some((side, sent)) = first_said(one, other) {
+                self.put_message(before, side, sent)?;
+                before = sent.at;
+                match side {
+                    Side::Dialler => dialler = dialler.saturating_add(1),
+                    Side::Acceptor => acceptor = acceptor.saturating_add(1),
+                }
             }
         }
+        Ok(())
     }
-    None
-}
 
-// Prints the messages of a handshake, in the order in which they were whole.
-fn put_messages(lines: LineSink<'_>, began: u64, handshake: &Handshake) -> Result<(), Fault> {
-    let mut before = began;
-    for number in 0..handshake.len() {
-        if let Some((side, sent)) = said_at(handshake, number) {
-            put_message(lines, began, before, side, sent)?;
-            before = sent.at;
+    // Prints what the capture lacks of a handshake; if that is its beginning, who ended it.
+    fn put_missing(self, judged: &Judged, handshake: &Handshake) -> Result<(), Fault> {
+        let missing = handshake.missing;
+        if missing.beginning {
+            self.say("!  missing   the beginning of this connection", &[])?;
+        }
+        for (side, lacks) in [
+            (Side::Dialler, missing.dialler),
+            (Side::Acceptor, missing.acceptor),
+        ] {
+            if lacks {
+                self.say_of("!  missing   bytes of %, behind those that are shown", side)?;
+            }
+        }
+        match self.seen.any_end() {
+            Some((side, end)) if missing.beginning && judged.acknowledged_at().is_none() => {
+                let how = if end.is_reset {
+                    "   end       reset by %"
+                } else {
+                    "   end       closed by %"
+                };
+                self.say_of(how, side)
+            }
+            _ => Ok(()),
         }
     }
-    Ok(())
-}
 
-// Prints what the capture lacks of a connection; if that is its beginning, who ended it.
-fn put_missing(
-    lines: LineSink<'_>,
-    connection: &CapturedConnection,
-    handshake: &Handshake,
-) -> Result<(), Fault> {
-    let missing = handshake.missing;
-    if missing.beginning {
-        lines.put(&[Text("!  missing   the beginning of this connection")])?;
+    // Prints how many segments would have ended a connection, and did not.
+    fn put_strays(self) -> Result<(), Fault> {
+        let form =
+            "!  stray     a reset or an end with a number that the other side did not await, so it ended nothing: %";
+        if self.seen.strays == 0 {
+            return Ok(());
+        }
+        self.say(form, &[Number(self.seen.strays)])
     }
-    for (side, lacks) in [
-        (Side::Dialler, missing.dialler),
-        (Side::Acceptor, missing.acceptor),
-    ] {
-        if lacks {
-            lines.put(&[
-                Text("!  missing   bytes of "),
+
+    /// Prints that bytes of a side came behind the end on which the verdict rests.
+    pub fn put_doubt(self, side: Side) -> Result<(), Fault> {
+        self.put_heading()?;
+        let form =
+            "!  doubt     bytes of % came behind the end of this connection: others before them are missing, or that end was not its own";
+        self.say_of(form, side)
+    }
+
+    // ---- a talk with a port mapper
+
+    // Prints a registration, and its result.
+    fn put_registration(self, info: &NodeInfo, answer: &Answer) -> Result<(), Fault> {
+        let (name, port) = (Name(info.name.as_slice()), Number(u32::from(info.port)));
+        let (form, number) = match registration_of(answer) {
+            Some((0, creation)) => ("   registers % at port %: creation %", creation),
+            Some((code, _)) => (
+                "   registers % at port %: refused, result %",
+                u32::from(code),
+            ),
+            None => return Ok(()),
+        };
+        self.say(form, &[name, port, Number(number)])
+    }
+
+    // Prints what a port mapper was asked, and its answer.
+    fn put_answer(self, request: &Request, answer: &Answer) -> Result<(), Fault> {
+        self.put_heading()?;
+        let port = self.seen.acceptor.port;
+        match (request, answer) {
+            (Request::Alive(info), answer) => self.put_registration(info, answer),
+            (Request::PortPlease(name), Answer::Port(found)) => {
+                self.say("   looks up  %", &[Name(name.as_slice())])?;
+                match found {
+                    Ok(info) => self.lines.put_registration(port, info),
+                    Err(_) => self.lines.put_no_answer(port, LookupError::NotThere),
+                }
+            }
+            _ => Ok(()),
+        }
+    }
+
+    // Prints what a port mapper was asked that gave no answer, or none that is read.
+    fn put_unanswered(self, request: Option<&Request>) -> Result<(), Fault> {
+        let lacks = self.seen.lacks_bytes(Side::Acceptor);
+        let (form, name) = match request {
+            None if !self.seen.lacks_bytes(Side::Dialler) => return Ok(()),
+            None => ("!  missing   bytes of the request", Text("")),
+            Some(Request::Names) => ("   epmd      asked for the names of all nodes", Text("")),
+            Some(Request::Alive(info)) => {
+                let form = if lacks {
+                    "!  missing   bytes of the answer to the registration of %"
+                } else {
+                    "!  epmd      no answer to the registration of %"
+                };
+                (form, Name(info.name.as_slice()))
+            }
+            Some(Request::PortPlease(name)) => {
+                let form = if lacks {
+                    "!  missing   bytes of the answer to the lookup of %"
+                } else {
+                    "!  epmd      no answer to the lookup of %"
+                };
+                (form, Name(name.as_slice()))
+            }
+        };
+        self.put_heading()?;
+        self.say(form, &[name])
+    }
+
+    // Prints what was said to a port mapper.
+    fn put_talk(self, talk: &MapperTalk) -> Result<(), Fault> {
+        match (&talk.request, &talk.answer) {
+            (Some(request), Some(answer)) => self.put_answer(request, answer),
+            (request, _) => self.put_unanswered(request.as_ref()),
+        }
+    }
+
+    /// Prints that the registration of this name ended with its connection.
+    pub fn put_unregistered(self, name: &[u8]) -> Result<(), Fault> {
+        self.put_heading()?;
+        self.say("   epmd      the registration ended of %", &[Name(name)])
+    }
+
+    // ---- what was judged
+
+    /// Prints what was said on a connection, or to a port mapper, or that it carries TLS.
+    pub fn put_said(self, judged: &Judged) -> Result<(), Fault> {
+        match &judged.carried {
+            Carried::Handshake(handshake) => {
+                self.put_heading()?;
+                self.put_messages(handshake)?;
+                self.put_missing(judged, handshake)?;
+                self.put_strays()
+            }
+            Carried::Unreached(_) => {
+                self.put_heading()?;
+                self.put_strays()
+            }
+            Carried::Talk(talk) => self.put_talk(talk),
+            Carried::Tls => {
+                self.put_heading()?;
+                let form =
+                    "   tls       TLS is not looked into: a node of -proto_dist inet_tls, or another program";
+                self.say(form, &[])
+            }
+            Carried::Nothing => Ok(()),
+        }
+    }
+
+    // ---- the end of a connection that came up
+
+    // For how long a side had sent nothing at this time, and whether it had fallen silent: no tick came, or it did not receive what was sent to
+    // it again and again.
+    fn silence(self, side: Side, until: u64) -> (u64, bool) {
+        let (own, other) = (self.seen.flow(side), self.seen.flow(other_side(side)));
+        let waited = until.saturating_sub(own.latest);
+        (
+            waited,
+            waited >= 2 * TICK || other.again > 0 && is_long(own.latest, until),
+        )
+    }
+
+    // Prints for how long a side had sent nothing, if that was long, and how often it was sent something again.
+    fn put_silence(self, side: Side, until: u64) -> Result<(), Fault> {
+        let (waited, is_silent) = self.silence(side, until);
+        if waited < TICK && !is_silent {
+            return Ok(());
+        }
+        let mark = Text(if is_silent { "!" } else { " " });
+        let seconds = seconds_text(self.lines.alloc, waited)?;
+        let again = self.seen.flow(other_side(side)).again;
+        let form = if again == 0 {
+            "%  silent    for % seconds no byte came from %"
+        } else {
+            "%  silent    for % seconds no byte came from %, to which the other side had sent % packets again"
+        };
+        self.say(
+            form,
+            &[
+                mark,
+                Escaped(&seconds),
                 Text(side_word(side)),
-                Text(", behind those that are shown"),
-            ])?;
+                Number(again),
+            ],
+        )
+    }
+
+    // Prints how a connection ended that had been up for so long.
+    fn put_how(self, up: u64, now: u64) -> Result<(), Fault> {
+        let is_silent = self.silence(Side::Dialler, now).1 || self.silence(Side::Acceptor, now).1;
+        let (form, side) = match self.seen.any_end() {
+            Some((side, end)) if end.is_reset => (
+                "   end       up for % seconds, then reset by %",
+                side,
+            ),
+            Some((side, _)) => ("   end       up for % seconds, then closed by %", side),
+            None if is_silent => (
+                "   end       up for % seconds, and its end is not in the capture",
+                Side::Dialler,
+            ),
+            None => (
+                "   end       up for % seconds, and still when the capture ended",
+                Side::Dialler,
+            ),
+        };
+        let seconds = seconds_text(self.lines.alloc, up)?;
+        self.say(form, &[Escaped(&seconds), Text(side_word(side))])
+    }
+
+    /// Prints how a connection ended that came up then. `now` is the time of the last segment of the capture.
+    pub fn put_end(self, up_at: u64, now: u64) -> Result<(), Fault> {
+        let (ended, until) = (self.seen.any_end(), self.seen.end_or(now));
+        let up = until.saturating_sub(up_at);
+        self.put_heading()?;
+        self.put_how(up, now)?;
+        for side in [Side::Dialler, Side::Acceptor] {
+            if !matches!(ended, Some((closer, _)) if closer == side) {
+                self.put_silence(side, until)?;
+            }
         }
-    }
-    match connection.first_end() {
-        Some((side, end)) if missing.beginning && connection.acknowledged_at().is_none() => {
-            lines.put(&[
-                Text("   end       "),
-                Text(how_text(end)),
-                Text(side_word(side)),
-            ])
+        self.put_strays()?;
+        if ended.is_some() && up < SECOND {
+            let form = "!  at once   the connection ended within a second of the acknowledgement";
+            self.say(form, &[])?;
         }
-        _ => Ok(()),
+        Ok(())
     }
 }
 
-// How a connection ended; the side follows.
-fn how_text(end: FlowEnd) -> &'static str {
-    if end.is_reset {
-        "reset by "
-    } else {
-        "closed by "
-    }
-}
-
-// Prints how many segments would have ended a connection, and did not.
-fn put_strays(lines: LineSink<'_>, connection: &CapturedConnection) -> Result<(), Fault> {
-    if connection.strays == 0 {
-        return Ok(());
-    }
-    lines.put(&[
-        Text(
-            "!  stray     a reset or an end with a number that the other side did not await, so it ended nothing: ",
-        ),
-        Number(connection.strays),
-    ])
-}
-
-/// Prints that bytes of a side came behind the end on which the verdict rests.
-pub fn put_doubt(
-    lines: LineSink<'_>,
-    connection: &CapturedConnection,
-    side: Side,
-) -> Result<(), Fault> {
-    put_heading(lines, connection)?;
-    lines.put(&[
-        Text("!  doubt     bytes of "),
-        Text(side_word(side)),
-        Text(
-            " came behind the end of this connection: others before them are missing, or that end was not its own",
-        ),
-    ])
-}
-
-// Which side a verdict is about, as the other one sees it. `None` of one that is about both, or about none.
-fn subject_of(verdict: HandshakeVerdict) -> Option<Side> {
-    match verdict {
+// Prints which side a verdict is about, as the other one sees it, unless it is about both, or about none.
+fn put_subject(lines: LineSink<'_>, verdict: HandshakeVerdict) -> Result<(), Fault> {
+    let side = match verdict {
         HandshakeVerdict::Up
         | HandshakeVerdict::Finished
         | HandshakeVerdict::Dynamic
@@ -295,21 +463,15 @@ fn subject_of(verdict: HandshakeVerdict) -> Option<Side> {
         | HandshakeVerdict::NameInUse
         | HandshakeVerdict::MapperFault(_)
         | HandshakeVerdict::NothingFound
-        | HandshakeVerdict::NoMemory => None,
-        HandshakeVerdict::NoName | HandshakeVerdict::Left | HandshakeVerdict::Stopped => Some(
+        | HandshakeVerdict::NoMemory => return Ok(()),
+        HandshakeVerdict::NoName | HandshakeVerdict::Left | HandshakeVerdict::Stopped =>
             Side::Dialler,
-        ),
-        HandshakeVerdict::Foreign(side, _) | HandshakeVerdict::WrongCookie(side) => Some(side),
-        HandshakeVerdict::Silent(due, _) | HandshakeVerdict::Unexpected(due) => Some(due.side()),
-        _ => Some(Side::Acceptor),
-    }
-}
-
-fn subject_text(side: Side) -> &'static str {
-    match side {
-        Side::Dialler => "   of        the dialler, as the acceptor sees it",
-        Side::Acceptor => "   of        the acceptor, as the dialler sees it",
-    }
+        HandshakeVerdict::Foreign(side, _) | HandshakeVerdict::WrongCookie(side) => side,
+        HandshakeVerdict::Silent(due, _) | HandshakeVerdict::Unexpected(due) => due.side(),
+        _ => Side::Acceptor,
+    };
+    let (own, other) = (Text(side_word(side)), Text(side_word(other_side(side))));
+    say(lines, "   of        %, as % sees it", &[own, other])
 }
 
 // The mark before a verdict that has no remedy: nothing can be done, or nothing was concluded.
@@ -349,68 +511,25 @@ pub fn print_verdict<W: Write>(
 ) -> Result<(), Fault>
     ensures { OnOk result (PrintsText verdict out.old out.new) }
 {
-    if let Some(side) = subject_of(verdict) {
-        lines.put(&[Text(subject_text(side))])?;
-    }
+    put_subject(lines, verdict)?;
     lines.put_details(verdict)?;
     let text = attempt_text(lines, verdict, has_cookie)?;
     out.print(&text)
 }
 
-// Whether the accepting side is known to have refused the reply.
-fn is_refused(verdict: HandshakeVerdict) -> bool {
-    matches!(verdict, HandshakeVerdict::WrongCookie(_))
-}
-
 /// What both sides showed of the cookie that is known, in a sentence. `None` if a side showed nothing, or no cookie is known.
-pub fn cookie_sentence(
-    connection: &CapturedConnection,
-    terms: &Terms<'_>,
-    verdict: HandshakeVerdict,
-) -> Option<&'static str> {
-    let Ok(cookie) = terms.cookie else {
-        return None;
-    };
-    let check = connection
+pub fn cookie_sentence(judged: &Judged, terms: &Terms<'_>) -> Option<&'static str> {
+    let is_refused = matches!(judged.verdict, Some(HandshakeVerdict::WrongCookie(_)));
+    let check = judged
         .handshake()?
-        .check_cookie(cookie, is_refused(verdict))?;
+        .check_cookie(terms.cookie.ok()?, is_refused)?;
     Some(check.sentence())
 }
 
-// Prints what was said in an attempt.
-fn put_attempt(lines: LineSink<'_>, connection: &CapturedConnection) -> Result<(), Fault> {
-    put_heading(lines, connection)?;
-    if let Traffic::Handshake(handshake) = &connection.content {
-        put_messages(lines, connection.began, handshake)?;
-        put_missing(lines, connection, handshake)?;
-    }
-    put_strays(lines, connection)
-}
-
-/// Prints what was said on a connection, or to a port mapper that gave no answer, or that it carries TLS.
-pub fn put_said(lines: LineSink<'_>, connection: &CapturedConnection) -> Result<(), Fault> {
-    match &connection.content {
-        Traffic::Handshake(_) | Traffic::Unreached(_) => put_attempt(lines, connection),
-        Traffic::Mapper(talk) => put_mapper_end(lines, connection, talk),
-        Traffic::Tls => {
-            put_heading(lines, connection)?;
-            lines.put(&[Text(
-                "   tls       TLS is not looked into: a node of -proto_dist inet_tls, or another program",
-            )])
-        }
-        Traffic::Unknown | Traffic::Other => Ok(()),
-    }
-}
-
 /// Prints what both sides showed of the cookie, if they showed anything, and a cookie is known.
-pub fn put_cookie(
-    lines: LineSink<'_>,
-    connection: &CapturedConnection,
-    terms: &Terms<'_>,
-    verdict: HandshakeVerdict,
-) -> Result<(), Fault> {
-    match cookie_sentence(connection, terms, verdict) {
-        Some(sentence) => lines.put(&[Text("   cookie    "), Text(sentence)]),
+pub fn put_cookie(lines: LineSink<'_>, judged: &Judged, terms: &Terms<'_>) -> Result<(), Fault> {
+    match cookie_sentence(judged, terms) {
+        Some(sentence) => say(lines, "   cookie    %", &[Text(sentence)]),
         None => Ok(()),
     }
 }
@@ -426,125 +545,18 @@ fn name_piece(name: &[u8]) -> LinePiece<'_> {
 
 /// Prints how many attempts between two nodes came to what, and whether others of them leave that in doubt.
 pub fn put_pair(lines: LineSink<'_>, pair: &PastDial, is_doubted: bool) -> Result<(), Fault> {
-    let doubt = if is_doubted {
-        "; but they came up too: a cookie was changed, or a node was stopped when it ended the connection"
+    let form = if is_doubted {
+        "   pair      % and %: % %; but they came up too: a cookie was changed, or a node was stopped when it ended the connection"
     } else {
-        ""
+        "   pair      % and %: % %"
     };
-    lines.put(&[
-        Text("   pair      "),
+    let (one, other) = (
         name_piece(pair.name.as_slice()),
-        Text(" and "),
         name_piece(pair.other.as_slice()),
-        Text(": "),
-        Text(pair.verdict.name()),
-        Text(" "),
-        Number(pair.count),
-        Text(doubt),
-    ])
-}
-
-// How long a side of a connection that is up may send nothing before that is said, in nanoseconds: a node looks in each quarter of
-// `net_ticktime`, which is 60 seconds if it is not set, whether it has to send a tick. Source: Kernel Reference Manual, kernel.
-const TICK: u64 = 15_000_000_000;
-
-// How close behind the acknowledgement an end is said to come at once, in nanoseconds. Our own choice.
-const SECOND: u64 = 1_000_000_000;
-
-// For how long a side had sent nothing at this time.
-fn silence(connection: &CapturedConnection, side: Side, until: u64) -> u64 {
-    until.saturating_sub(connection.flow(side).latest)
-}
-
-// Whether a side had fallen silent at this time: no tick came, or it did not receive what was sent to it again and again.
-fn is_silent(connection: &CapturedConnection, side: Side, until: u64) -> bool {
-    let waited = silence(connection, side, until);
-    let again = connection.flow(other_side(side)).again;
-    waited >= 2 * TICK || again > 0 && waited >= PATIENCE
-}
-
-// Prints for how long a side had sent nothing, if that was long, and how often it was sent something again.
-fn put_silence(
-    lines: LineSink<'_>,
-    connection: &CapturedConnection,
-    side: Side,
-    until: u64,
-) -> Result<(), Fault> {
-    let (waited, other) = (silence(connection, side, until), other_side(side));
-    let is_silent = is_silent(connection, side, until);
-    if waited < TICK && !is_silent {
-        return Ok(());
-    }
-    let seconds = seconds_text(lines.alloc, waited)?;
-    let again = format!(in lines.alloc; "{}", connection.flow(other).again)?;
-    let (front, count, back) = match connection.flow(other).again {
-        0 => ("", "", ""),
-        _ => (
-            ", to which the other side had sent ",
-            again.as_str(),
-            " packets again",
-        ),
-    };
-    lines.put(&[
-        Text(if is_silent {
-            "!  silent    for "
-        } else {
-            "   silent    for "
-        }),
-        Escaped(&seconds),
-        Text(" seconds no byte came from "),
-        Text(side_word(side)),
-        Text(front),
-        Escaped(count),
-        Text(back),
-    ])
-}
-
-// How a connection ended that came up, and who ended it.
-fn end_texts(connection: &CapturedConnection, now: u64) -> (&'static str, &'static str) {
-    match connection.any_end() {
-        Some((side, end)) if end.is_reset => (", then reset by ", side_word(side)),
-        Some((side, _)) => (", then closed by ", side_word(side)),
-        None
-            if is_silent(connection, Side::Dialler, now)
-                || is_silent(connection, Side::Acceptor, now) => (
-            ", and its end is not in the capture",
-            "",
-        ),
-        None => (", and still when the capture ended", ""),
-    }
-}
-
-/// Prints how a connection ended that came up. `now` is the time of the last segment of the capture.
-pub fn put_end(
-    lines: LineSink<'_>,
-    connection: &CapturedConnection,
-    up_at: u64,
-    now: u64,
-) -> Result<(), Fault> {
-    let until = connection.end_or(now);
-    let (how, who) = end_texts(connection, now);
-    let up = until.saturating_sub(up_at);
-    let seconds = seconds_text(lines.alloc, up)?;
-    put_heading(lines, connection)?;
-    lines.put(&[
-        Text("   end       up for "),
-        Escaped(&seconds),
-        Text(" seconds"),
-        Text(how),
-        Text(who),
-    ])?;
-    let ended = connection.any_end();
-    for side in [Side::Dialler, Side::Acceptor] {
-        if !matches!(ended, Some((closer, _)) if closer == side) {
-            put_silence(lines, connection, side, until)?;
-        }
-    }
-    put_strays(lines, connection)?;
-    if ended.is_some() && up < SECOND {
-        lines.put(&[Text(
-            "!  at once   the connection ended within a second of the acknowledgement",
-        )])?;
-    }
-    Ok(())
+    );
+    say(
+        lines,
+        form,
+        &[one, other, Text(pair.verdict.name()), Number(pair.count)],
+    )
 }

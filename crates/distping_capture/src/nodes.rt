@@ -1,17 +1,16 @@
 //! The nodes that were seen: their restarts, names that two hosts use, who listens where, and which lookups no dial followed yet.
 
-ghost use Rattle.std.specs.Prelude.{◌≡◌, ◌↔◌, [], IsSome, IsTrue, OnOk, length, map};
-ghost use Rattle.std.specs.List.{Contains, Sorted.IsSearchInRange};
-ghost use Rattle.distping_capture.specs.Listeners.{Learns, places_of};
+ghost use Rattle.std.specs.{List.Sorted.IsSearchInRange, Prelude.length};
 
-use crate::connection::CapturedConnection;
 use crate::lines::put_slow;
+use crate::say::say;
 use dist_capture::Endpoint;
+use dist_conversation::{Conversation, Judged};
 use dist_epmd::NodeInfo;
 use dist_messages::Side;
 use dist_names::{ByteString, Creation, short_part};
 use dist_talk::NodeDescription;
-use distping_report::LinePiece::{Host, Name, Number, Text};
+use distping_report::LinePiece::{Host, Name, Number};
 use distping_report::LineSink;
 use distping_words::Fault;
 use std::alloc::{AllocError, Global};
@@ -60,32 +59,21 @@ impl KnownNode {
     ) -> Result<(), Fault> {
         let name = Name(self.name.as_slice());
         if self.ups > 0 && self.address != address {
-            return lines.put(&[
-                Text("!  moved     "),
-                name,
-                Text(" is at "),
-                Host(address),
-                Text(" now: creation "),
-                Number(creation.0),
-                Text(", before at "),
-                Host(self.address),
-                Text(": creation "),
-                Number(self.creation.0),
-            ]);
+            let form = "!  moved     % is at % now: creation %, before at %: creation %";
+            let before = (Host(self.address), Number(self.creation.0));
+            return say(
+                lines,
+                form,
+                &[name, Host(address), Number(creation.0), before.0, before.1],
+            );
         }
         let (latest, before) = if began < self.began {
             (self.creation, creation)
         } else {
             (creation, self.creation)
         };
-        lines.put(&[
-            Text("!  restart   "),
-            name,
-            Text(" was started again: creation "),
-            Number(latest.0),
-            Text(", before "),
-            Number(before.0),
-        ])
+        let form = "!  restart   % was started again: creation %, before %";
+        say(lines, form, &[name, Number(latest.0), Number(before.0)])
     }
 
     // Takes another incarnation of it, at this address, that an attempt showed which began then.
@@ -117,14 +105,13 @@ impl KnownNode {
         match self.elder {
             Some(elder) if creation == Some(elder.creation) && heard > elder.until => {
                 self.elder = None;
-                lines.put(&[
-                    Text("!  two hosts "),
-                    Name(self.name.as_slice()),
-                    Text(" was up from "),
-                    Host(elder.address),
-                    Text(" while another node of this name was at "),
-                    Host(self.address),
-                ])
+                let form = "!  two hosts % was up from % while another node of this name was at %";
+                let name = Name(self.name.as_slice());
+                say(
+                    lines,
+                    form,
+                    &[name, Host(elder.address), Host(self.address)],
+                )
             }
             _ => Ok(()),
         }
@@ -160,9 +147,7 @@ pub struct NodesSeen {
 
 impl NodesSeen {
     /// Nothing is known.
-    pub fn new(alloc: Global) -> NodesSeen
-        ensures { result.listeners.items ≡ [] }
-    {
+    pub fn new(alloc: Global) -> NodesSeen {
         NodesSeen {
             alloc,
             known: Vec::new(alloc),
@@ -170,29 +155,21 @@ impl NodesSeen {
         }
     }
 
-    // Remembers a side of an attempt, which is at this address, and prints that it changed, if it did. An attempt that began before the
-    // latest incarnation was seen can end behind its attempts.
+    // Remembers a side of an attempt that began then, which is at this address, and prints that it changed, if it did. An attempt that began
+    // before the latest incarnation was seen can end behind its attempts.
     fn note_side(
         &mut self,
         lines: LineSink<'_>,
-        side: Option<NodeDescription<'_>>,
+        node: NodeDescription<'_>,
         address: IpAddr,
-        connection: &CapturedConnection,
-    ) -> Result<(), Fault>
-        ensures { self.new ≡ record self.old { known = self.new.known } }
-    {
-        let Some(
-            NodeDescription {
-                name,
-                creation: Some(creation),
-                ..
-            },
-        ) = side
-        else {
+        began: u64,
+        is_up: bool,
+    ) -> Result<(), Fault> {
+        let Some(creation) = node.creation else {
             return Ok(());
         };
-        let (began, ups) = (connection.began, u32::from(connection.up_since().is_some()));
-        match place_of(&self.known, name) {
+        let ups = u32::from(is_up);
+        match place_of(&self.known, node.name) {
             Ok(at) => {
                 let known = &mut self.known[at];
                 if known.creation != creation {
@@ -206,7 +183,7 @@ impl NodesSeen {
                 known.ups = known.ups.saturating_add(ups);
             }
             Err(at) if self.known.len() < MOST => {
-                let name = ByteString::from_slice(self.alloc, name)?;
+                let name = ByteString::from_slice(self.alloc, node.name)?;
                 let met = KnownNode {
                     name,
                     creation,
@@ -226,35 +203,33 @@ impl NodesSeen {
     pub fn note_sides(
         &mut self,
         lines: LineSink<'_>,
-        connection: &CapturedConnection,
-    ) -> Result<(), Fault>
-        ensures { self.new ≡ record self.old { known = self.new.known } }
-    {
-        let Some(handshake) = connection.handshake() else {
-            return Ok(());
-        };
-        let dialler = handshake.description_of(Side::Dialler);
-        self.note_side(lines, dialler, connection.dialler.address, connection)?;
-        let acceptor = handshake.description_of(Side::Acceptor);
-        self.note_side(lines, acceptor, connection.acceptor.address, connection)
+        seen: &Conversation,
+        judged: &Judged,
+    ) -> Result<(), Fault> {
+        let is_up = judged.up_since().is_some();
+        for (side, address) in [
+            (Side::Dialler, seen.dialler.address),
+            (Side::Acceptor, seen.acceptor.address),
+        ] {
+            if let Some(node) = judged.description_of(side) {
+                self.note_side(lines, node, address, seen.began, is_up)?;
+            }
+        }
+        Ok(())
     }
 
     /// Notes that a connection ended that was up, and prints if one of the two was up while another node had its name.
     pub fn note_end(
         &mut self,
         lines: LineSink<'_>,
-        connection: &CapturedConnection,
-    ) -> Result<(), Fault>
-        ensures { self.new ≡ record self.old { known = self.new.known } }
-    {
-        let Some(handshake) = connection.handshake() else {
-            return Ok(());
-        };
+        seen: &Conversation,
+        judged: &Judged,
+    ) -> Result<(), Fault> {
         for side in [Side::Dialler, Side::Acceptor] {
-            if let Some(node) = handshake.description_of(side)
+            if let Some(node) = judged.description_of(side)
                 && let Ok(at) = place_of(&self.known, node.name)
             {
-                let heard = connection.flow(side).heard;
+                let heard = seen.flow(side).heard;
                 self.known[at].note_end(lines, node.creation, heard)?;
             }
         }
@@ -273,30 +248,17 @@ impl NodesSeen {
     }
 
     // Where the node that listens there stands.
-    fn place_of(&self, place: Endpoint) -> Option<usize>
-        ensures { IsSome result ↔ Contains (places_of self.now) place }
-    {
+    fn place_of(&self, place: Endpoint) -> Option<usize> {
         self.listeners.iter().position(|it| it.place == place)
     }
 
     /// Whether a node listens there.
-    pub fn is_at(&self, place: Endpoint) -> bool
-        ensures { IsTrue result ↔ Contains (places_of self.now) place }
-    {
+    pub fn is_at(&self, place: Endpoint) -> bool {
         self.place_of(place).is_some()
     }
 
-    /// The name of the node that listens there, if one does; empty if it is not known.
-    pub fn listener(&self, place: Endpoint) -> Option<&[u8]> {
-        let listener = self.listeners.get(self.place_of(place)?)?;
-        Some(listener.name.as_slice())
-    }
-
     // Gives the node at this place of the list this name, unless that is empty, or a part of what is known.
-    #[tactic(auto, using(crate::proofs::Listeners::same_places))]
-    fn rename(&mut self, at: usize, name: &[u8]) -> Result<(), AllocError>
-        ensures { places_of self.new ≡ places_of self.old }
-    {
+    fn rename(&mut self, at: usize, name: &[u8]) -> Result<(), AllocError> {
         if let Some(listener) = self.listeners.get_mut(at)
             && !name.is_empty()
             && short_part(listener.name.as_slice()) != name
@@ -307,9 +269,7 @@ impl NodesSeen {
     }
 
     /// Notes that a node listens there: with this name, if it is not empty and no part of what is known.
-    pub fn note(&mut self, place: Endpoint, name: &[u8]) -> Result<(), AllocError>
-        ensures { OnOk result (Learns place self.old self.new) }
-    {
+    pub fn note(&mut self, place: Endpoint, name: &[u8]) -> Result<(), AllocError> {
         match self.place_of(place) {
             Some(at) => self.rename(at, name),
             None if self.listeners.len() < MOST => {
@@ -323,52 +283,46 @@ impl NodesSeen {
     }
 
     /// The name of the node where an attempt went, by what it said there, which is remembered; empty if it is not known.
-    pub fn acceptor_name(&mut self, place: Endpoint, said: &[u8]) -> Result<ByteString, AllocError>
-        ensures { OnOk result (Learns place self.old self.new) }
-    {
+    pub fn acceptor_name(
+        &mut self,
+        place: Endpoint,
+        said: &[u8],
+    ) -> Result<ByteString, AllocError> {
         self.note(place, said)?;
-        ByteString::from_slice(self.alloc, self.listener(place).unwrap_or(said))
-    }
-
-    // Notes a lookup that gave this port.
-    #[tactic(auto, using(crate::proofs::Listeners::same_places))]
-    fn note_lookup(&mut self, place: Endpoint, lookup: Lookup)
-        ensures { places_of self.new ≡ places_of self.old }
-    {
-        if let Some(at) = self.place_of(place)
-            && let Some(listener) = self.listeners.get_mut(at)
-        {
-            listener.asked = Some(lookup);
+        match self.listeners.iter().find(|it| it.place == place) {
+            Some(listener) => ByteString::from_slice(self.alloc, listener.name.as_slice()),
+            None => ByteString::from_slice(self.alloc, said),
         }
     }
 
-    /// Notes that a port mapper gave a node's port on this connection, to a lookup of this name. Of the lookups by one host at another one
+    /// Notes that a port mapper gave a node's port in this conversation, to a lookup of this name. Of the lookups by one host at another one
     /// the latest counts.
     pub fn note_found(
         &mut self,
-        connection: &CapturedConnection,
+        seen: &Conversation,
         name: &[u8],
         info: &NodeInfo,
-    ) -> Result<(), AllocError>
-        ensures { OnOk result (Learns (record { address = connection.now.acceptor.address; port = info.now.port }) self.old self.new) }
-    {
-        let (by, address) = (connection.dialler.address, connection.acceptor.address);
+    ) -> Result<(), AllocError> {
+        let (by, address) = (seen.dialler.address, seen.acceptor.address);
         let port = info.port;
         let place = Endpoint { address, port };
         self.note(place, info.name.as_slice())?;
-        forget_lookups(&mut self.listeners, by, address);
-        let name = ByteString::from_slice(self.alloc, name)?;
-        let at = connection.latest;
-        self.note_lookup(place, Lookup { by, at, name });
+        let at = seen.latest;
+        for it in self.listeners.iter_mut() {
+            if it.place.address == address && it.is_asked_by(by) {
+                it.asked = None;
+            }
+            if it.place == place {
+                let name = ByteString::from_slice(self.alloc, name)?;
+                it.asked = Some(Lookup { by, at, name });
+            }
+        }
         Ok(())
     }
 
     // Takes away the lookup that a dial to a node of this name followed, if one did, and the port that it gave.
-    #[tactic(auto, using(crate::proofs::Listeners::same_places))]
-    fn take_lookup(&mut self, connection: &CapturedConnection, name: &[u8]) -> Option<(u16, Lookup)>
-        ensures { places_of self.new ≡ places_of self.old }
-    {
-        let is_its = |it: &Listener| it.is_asked_for(connection, name);
+    fn take_lookup(&mut self, seen: &Conversation, name: &[u8]) -> Option<(u16, Lookup)> {
+        let is_its = |it: &Listener| it.is_asked_for(seen, name);
         let at = self.listeners.iter().position(is_its)?;
         let listener = self.listeners.get_mut(at)?;
         let lookup = mem::replace(&mut listener.asked, None)?;
@@ -380,40 +334,19 @@ impl NodesSeen {
     pub fn put_lookup(
         &mut self,
         lines: LineSink<'_>,
-        connection: &CapturedConnection,
+        seen: &Conversation,
         name: &[u8],
-    ) -> Result<(), Fault>
-        ensures { places_of self.new ≡ places_of self.old }
-    {
-        let Some((port, lookup)) = self.take_lookup(connection, name) else {
+    ) -> Result<(), Fault> {
+        let Some((port, lookup)) = self.take_lookup(seen, name) else {
             return Ok(());
         };
-        lookup.put_followed(lines, port, connection, name)?;
-        let waited = connection.began.saturating_sub(lookup.at);
+        lookup.put_followed(lines, port, seen, name)?;
+        let waited = seen.began.saturating_sub(lookup.at);
         put_slow(lines, Side::Dialler, waited, " seconds from lookup to dial")
     }
 }
 
-// Forgets the lookups by one host at another one.
-#[tactic(auto, using(crate::proofs::Listeners::same_places))]
-fn forget_lookups(listeners: &mut [Listener], by: IpAddr, address: IpAddr)
-    ensures { map (λ l. l.place) listeners.new ≡ map (λ l. l.place) listeners.old }
-{
-    for it in listeners.iter_mut() {
-        it.forget(by, address);
-    }
-}
-
 impl Listener {
-    // Forgets its lookup, if it was by this host at that one.
-    fn forget(&mut self, by: IpAddr, address: IpAddr)
-        ensures { self.new.place ≡ self.old.place }
-    {
-        if self.place.address == address && self.is_asked_by(by) {
-            self.asked = None;
-        }
-    }
-
     // Whether this host looked it up, and did not dial yet.
     fn is_asked_by(&self, host: IpAddr) -> bool {
         match &self.asked {
@@ -423,13 +356,13 @@ impl Listener {
     }
 
     // Whether a dial to a node of this name followed the lookup that gave this port.
-    fn is_asked_for(&self, connection: &CapturedConnection, name: &[u8]) -> bool {
+    fn is_asked_for(&self, seen: &Conversation, name: &[u8]) -> bool {
         let Some(lookup) = &self.asked else {
             return false;
         };
-        let place = connection.acceptor;
-        lookup.by == connection.dialler.address
-            && lookup.at <= connection.began
+        let place = seen.acceptor;
+        lookup.by == seen.dialler.address
+            && lookup.at <= seen.began
             && self.place.address == place.address
             && (self.place.port == place.port || lookup.name.as_slice() == short_part(name))
     }
@@ -437,29 +370,22 @@ impl Listener {
 
 impl Lookup {
     // Prints if the dial went to another port than the one that was given, or met a node of another name.
-    fn put_followed<'x>(
-        &'x self,
+    fn put_followed(
+        &self,
         lines: LineSink<'_>,
         given: u16,
-        connection: &CapturedConnection,
-        name: &'x [u8],
+        seen: &Conversation,
+        name: &[u8],
     ) -> Result<(), Fault> {
-        if given != connection.acceptor.port {
-            return lines.put(&[
-                Text("!  lookup    the port mapper gave port "),
-                Number(u32::from(given)),
-                Text(" for this node, and the dial went to another"),
-            ]);
+        if given != seen.acceptor.port {
+            let form =
+                "!  lookup    the port mapper gave port % for this node, and the dial went to another";
+            return say(lines, form, &[Number(u32::from(given))]);
         }
         if name.is_empty() || short_part(name) == self.name.as_slice() {
             return Ok(());
         }
-        lines.put(&[
-            Text("!  lookup    the port mapper gave this port for "),
-            Name(self.name.as_slice()),
-            Text(", and "),
-            Name(name),
-            Text(" is there"),
-        ])
+        let form = "!  lookup    the port mapper gave this port for %, and % is there";
+        say(lines, form, &[Name(self.name.as_slice()), Name(name)])
     }
 }

@@ -1,10 +1,10 @@
 //! Reads a capture, and prints what it shows.
 
-ghost use Rattle.std.specs.Prelude.{◌≡◌, ℕ, List, IfOk, OnOk};
+ghost use Rattle.std.specs.Prelude.{◌≡◌, ℕ, List, IfOk, None, Ok, OnOk};
 ghost use Rattle.dist_capture.specs.Reading.{whole};
-ghost use Rattle.distping_capture.specs.{Captures.AreAll, Captures.EndsWith, Captures.ReadsIn, Captures.TakesIn, Exits.terms_of};
+ghost use Rattle.distping_capture.specs.Captures.{AreAll, EndsWith, ReadsIn, TakesIn, terms_of};
 
-use crate::finder::Finder;
+use crate::connections::Connections;
 use dist_capture::{Capture, CaptureFault};
 use dist_secret::Cookie;
 use dist_talk::{NoCookie, Terms, Viewpoint};
@@ -17,13 +17,16 @@ use std::io::{ErrorKind, Read, Write};
 const PIECE: usize = 65_536;
 
 // Takes the segments that are whole in what was read.
-fn take_segments<W: Write>(capture: &mut Capture, finder: &mut Finder<'_, W>) -> Result<(), Fault>
-    ensures taken { OnOk result (TakesIn capture.old finder.old capture.new finder.new) }
+fn take_segments<W: Write>(
+    capture: &mut Capture,
+    connections: &mut Connections<'_, W>,
+) -> Result<(), Fault>
+    ensures taken { OnOk result (TakesIn capture.old connections.old capture.new connections.new) }
     ensures no_more { OnOk result (whole capture.new ≡ Ok None) }
 {
     'segments: for _ in 0..u64::MAX {
         match capture.next() {
-            Ok(Some(segment)) => finder.take(&segment)?,
+            Ok(Some(segment)) => connections.take(&segment)?,
             Ok(None) => return Ok(()),
             Err(CaptureFault::NoMemory) => return Err(Fault::NoMemory),
             Err(_) => return Err(Fault::NoCapture),
@@ -36,16 +39,16 @@ fn take_segments<W: Write>(capture: &mut Capture, finder: &mut Finder<'_, W>) ->
 fn take_all<F: Read + Drop, W: Write>(
     file: F,
     capture: &mut Capture,
-    finder: &mut Finder<'_, W>,
+    connections: &mut Connections<'_, W>,
 ) -> Result<(), Fault>
     ensures all { OnOk result ((bytes : List ℕ) × AreAll (F.remaining file) bytes
-        × ReadsIn bytes capture.old finder.old capture.new finder.new) }
+        × ReadsIn bytes capture.old connections.old capture.new connections.new) }
     ensures no_more { OnOk result (whole capture.new ≡ Ok None) }
 {
     let mut file = file;
     let mut room = [0u8; PIECE];
     'pieces: for _ in 0..u64::MAX {
-        take_segments(capture, finder)?;
+        take_segments(capture, connections)?;
         let count = match file.read(&mut room) {
             Ok(count) => count,
             Err(error) if error.kind() == ErrorKind::Interrupted => continue,
@@ -69,17 +72,17 @@ fn read_whole<F: Read + Drop, W: Write + Drop>(
     out: ResultSink<W>,
 ) -> Result<(u8, ResultSink<W>), Fault>
     ensures { IfOk result (λ it. (bytes : List ℕ) × AreAll (F.remaining file) bytes
-        × EndsWith W terms.entry mapper_port lines.entry.quiet bytes out it.1 it.0) }
+        × EndsWith terms.entry mapper_port lines.entry.quiet bytes out it.1 it.0) }
 {
-    let mut finder = Finder::new(lines, terms, mapper_port, out);
+    let mut connections = Connections::new(lines, terms, mapper_port, out);
     let mut capture = Capture::new(lines.alloc);
-    match take_all(file, &mut capture, &mut finder) {
+    match take_all(file, &mut capture, &mut connections) {
         Ok(()) => {
-            let status = finder.finish(capture.counts(), capture.is_cut_off())?;
-            Ok((status, finder.into_results()))
+            let status = connections.finish(capture.counts(), capture.is_cut_off())?;
+            Ok((status, connections.into_results()))
         }
         Err(fault) => {
-            finder.give_up_all()?;
+            connections.give_up_all()?;
             Err(fault)
         }
     }
@@ -109,7 +112,7 @@ pub fn read_capture<W: Write + Drop>(
     out: ResultSink<W>,
 ) -> Result<(u8, ResultSink<W>), Fault>
     ensures { IfOk result (λ it. (bytes : List ℕ)
-        × EndsWith W (terms_of cookie.entry) choices.now.mapper_port choices.now.json bytes out it.1 it.0) }
+        × EndsWith (terms_of cookie.entry) choices.now.mapper_port choices.now.json bytes out it.1 it.0) }
 {
     let lines = LineSink::on_screen(rt, choices.json);
     let terms = Terms {

@@ -6,4 +6,4 @@ use Rattle.distping_capture.proofs.reading.take_all.Given as goal
 
 abbrev pub invariant-pieces : goal.invariant-pieces
 invariant-pieces g l =
-    (bytes : List ℕ) × Consumes (g.F.Read.remaining l.fn.file) (g.F.Read.remaining l.file) bytes × ReadsIn bytes l.initial.capture l.initial.finder l.capture l.finder
+    (bytes : List ℕ) × Consumes (g.F.Read.remaining l.fn.file) (g.F.Read.remaining l.file) bytes × ReadsIn bytes l.initial.capture l.initial.connections l.capture l.connections

@@ -1,6 +1,0 @@
--- The place is one of those before.
-use Rattle.std.proofs.Common.{◌<◌, ◌≤◌}
-use Rattle.distping_capture.proofs.finder.Finder.largest.Given as goal
-
-abbrev pub invariant-loop-at : goal.invariant-loop-at
-invariant-loop-at g l = (l.place ≤ l.at) × (0 < l.at → l.place < l.at)
