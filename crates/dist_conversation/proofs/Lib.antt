@@ -1,3 +1,5 @@
 pub mod Ending
+pub mod Ports
 pub mod Saying
+pub mod Standing
 pub mod Turning

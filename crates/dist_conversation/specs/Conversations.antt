@@ -228,6 +228,7 @@ pub record StandsAt (talk : List Segment) (from : Endpoint) (number byte : ℕ) 
   pub segment : Segment
   pub is_one : Contains talk segment
   pub is_from : segment.from ≡ from
+  pub no_reset : segment.is_reset ≡ false
   pub place : ℕ
   pub byte_is : slice_get segment.payload.items place ≡ Some byte
   pub number_is : number ≡ (number_of_first segment + place) % 2 ^ 32

@@ -1,7 +1,7 @@
 -- WHAT A CONVERSATION CARRIED, AND ITS VERDICT: how it ended, by the segments that close or reset it, and by silence; and then the one table of handshakes
 -- (dist_talk, Ended.antt).
 use Rattle.std.specs.Prelude.{◌≡◌, ◌⊎◌, ℕ, ◌+◌, ◌-◌, ◌==◌, ◌&&◌, ◌||◌, not, nat_le, nat_lt, max, Bool, true, false, MatchBool, if◌then◌else◌}
-use Rattle.std.specs.Prelude.{List, [], ◌∷◌, ◌++◌, length, slice_get, Option, Some, None, is_some, option_map, Ok, Err}
+use Rattle.std.specs.Prelude.{List, [], ◌∷◌, length, slice_get, Option, Some, None, is_some, option_map, Ok, Err}
 use Rattle.std.specs.Option.{option_map_or}
 use Rattle.dist_epmd.specs.declared.message.Answer.{Answer}
 use Rattle.dist_epmd.specs.declared.message.Answer.TheVariants as answer

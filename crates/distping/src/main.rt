@@ -19,8 +19,7 @@ mod watching;
 ghost use Rattle.std.specs.Prelude.{◌≡◌, IfOk, IfSome, List, None, ℕ};
 ghost use Rattle.std.specs.Option.{ok_or};
 ghost use Rattle.distping.specs.{Coming.EndsWith, Coming.ListenEndsWith, Runs.AreNodes, Runs.RunEndsWith, Runs.why_none};
-ghost use Rattle.distping_capture.specs.Captures.{EndsWith as CaptureEndsWith};
-ghost use Rattle.distping_capture.specs.Exits.{terms_of};
+ghost use Rattle.distping_capture.specs.Captures.{EndsWith as CaptureEndsWith, terms_of};
 ghost use Rattle.distping_words.specs.declared.command.CookieSource.TheVariants.{Nowhere};
 
 use common::Context;
@@ -145,7 +144,7 @@ fn carry_out<'x, R: Resolving + Sync, W: Write + Drop>(
     out: ResultSink<W>,
 ) -> Result<(u8, ResultSink<W>), Fault>
     ensures capture { IfSome wanted.now.choices.capture (λ path. IfOk result (λ it. (bytes : List ℕ)
-        × CaptureEndsWith W (terms_of cookie.entry) wanted.now.choices.mapper_port wanted.now.choices.json bytes out it.1 it.0)) }
+        × CaptureEndsWith (terms_of cookie.entry) wanted.now.choices.mapper_port wanted.now.choices.json bytes out it.1 it.0)) }
     ensures listen { wanted.now.choices.capture ≡ None → IfSome wanted.now.choices.listen (λ port. IfSome wanted.now.name (λ name. IfOk result (λ it.
         ListenEndsWith name (ok_or cookie.entry (why_none wanted.now.choices.cookie)) wanted.now.choices out it.1 it.0))) }
     ensures nodes { (names : List (List ℕ)) → wanted.now.choices.capture ≡ None → wanted.now.choices.listen ≡ None → wanted.now.choices.watch ≡ None

@@ -1,4 +1,4 @@
-use Rattle.std.proofs.Common.{◌∙◌, sym, rules}
+use Rattle.std.proofs.Common.{rules}
 use Rattle.dist_conversation.specs.Verdicts.{of_both}
 use Rattle.dist_conversation.proofs.Ending.{ends_upon}
 use Rattle.dist_conversation.proofs.judge.ending_of.Goals as goal

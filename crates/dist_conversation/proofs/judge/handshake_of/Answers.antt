@@ -1,5 +1,4 @@
 use Rattle.std.proofs.Common.{rules}
-use Rattle.dist_talk.specs.Standing.{standing}
 use Rattle.dist_conversation.proofs.Ending.{upon_said}
 use Rattle.dist_conversation.proofs.judge.handshake_of.Goals as goal
 

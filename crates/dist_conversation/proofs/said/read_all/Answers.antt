@@ -1,7 +1,7 @@
-use Rattle.std.proofs.Common.{◌≡◌, ◌+◌, ◌≤◌, List, ℕ, [], ◌∷◌, ◌++◌, length, drop, None, Some, sym, subst, ◌∙◌, arith, rules}
+use Rattle.std.proofs.Common.{◌≡◌, ◌+◌, ◌≤◌, List, ℕ, length, drop, None, Some, sym, subst, ◌∙◌, arith, rules}
 use Rattle.dist_talk.specs.declared.handshake.SentMessage.{SentMessage}
 use Rattle.dist_conversation.specs.Said.{body_in}
-use Rattle.dist_conversation.proofs.Saying.{Reads, reads_end, reads_full, reads_last, reads_more, reads_none}
+use Rattle.dist_conversation.proofs.Saying.{Reads, reads_end, reads_full, reads_last, reads_more}
 use Rattle.dist_conversation.proofs.said.read_all.Goals as goal
 
 pub returns-in_default-clause-messages : goal.returns-in_default-clause-messages

@@ -1,7 +1,7 @@
 use Rattle.std.proofs.Common.{◌≡◌, List, ℕ, ap, ◌∙◌}
 use Rattle.std.proofs.lemmas.Result.{IfOk-weaker}
 use Rattle.dist_conversation.specs.{Flows.bytes_of, Said.Said, Said.said_by, Said.said_from}
-use Rattle.dist_conversation.specs.declared.{flow.Flow.Flow, pieces.Piece.Piece}
+use Rattle.dist_conversation.specs.declared.{pieces.Piece.Piece}
 use Rattle.dist_conversation.proofs.said.said_by.Goals as goal
 
 whole : (c : goal.After-read_all) → said_from 8 c.args.side c.as_slice.result.now c.bytes-bytes.result.now 0 ≡ said_by c.args.side c.args.conversation.now

@@ -1,8 +1,7 @@
-use Rattle.std.proofs.Common.{◌∙◌, ap, arith, map, sym, subst, refl, get_or, ◌+◌, ◌<◌, length}
+use Rattle.std.proofs.Common.{◌∙◌, ap, arith, map, sym, subst, refl, get_or, ◌+◌}
 use Rattle.std.proofs.Math.ListN.{set}
 use Rattle.dist_messages.specs.declared.message.Side.{Side}
 use Rattle.dist_conversation.specs.Pieces.{turned}
-use Rattle.dist_conversation.specs.declared.pieces.Piece.{Piece}
 use Rattle.dist_conversation.proofs.Turning.{Turned, in_place, turned_all, turned_more}
 use Rattle.dist_conversation.proofs.pieces.Pieces.swap_sides.Goals as goal
 
