@@ -1,3 +1,5 @@
+pub mod Concluding
+pub mod Deciding
 pub mod Ending
 pub mod Ports
 pub mod Saying

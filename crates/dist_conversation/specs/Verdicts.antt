@@ -226,3 +226,17 @@ is_talk other = false
 abbrev pub name_said : Side → Carried → List ℕ
 name_said side (carried.Handshake h) = option_map_or (λ description. description.0) (description_of side h) []
 name_said side other = []
+
+-- ---- what verdicts show
+
+-- the accepting side closed the connection first, had received all that is there of the other one, and none of its own bytes is missing
+pub record IsRefusal (c : Conversation) : Type 0 where
+  pub end : FlowEnd
+  pub first : first_end c ≡ Some (Acceptor, end)
+  pub closed : end.is_reset ≡ false
+  pub all_read : is_unread c.from_dialler end ≡ false
+  pub whole : lacks_bytes Acceptor c ≡ false
+
+-- for six seconds nobody said anything whole; or the side that dialled ended it, which for six seconds had received nothing of what was sent again
+abbrev pub IsWaited : Conversation → Handshake → ℕ → Type 0
+IsWaited c h now = (is_overdue c h now ≡ true) ⊎ ((end : FlowEnd) × (first_end c ≡ Some (Dialler, end)) × (is_in_vain c h Dialler end ≡ true))

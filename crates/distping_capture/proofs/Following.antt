@@ -1,15 +1,15 @@
 -- Connections are followed.
-use Rattle.std.proofs.Common.{◌≡◌, ◌⊎◌, inl, inr, ℕ, suc, ◌<◌, Bool, true, false, List, [], ◌∷◌, ◌++◌, length, take, drop, set, get_or, slice_get, Option, Some, None, IfSome, Result, Ok, Err, IfOk, refl, sym, ap, subst, ◌∙◌}
+use Rattle.std.proofs.Common.{◌≡◌, inl, inr, ℕ, suc, ◌<◌, Bool, true, false, List, [], ◌∷◌, ◌++◌, length, take, drop, get_or, slice_get, Option, Some, None, IfSome, Result, Ok, Err, IfOk, sym, ap, subst, ◌∙◌}
 use Rattle.std.specs.{Global.Global, List.All, List.remove, declared.boxed.Box.Box}
 use Rattle.std.proofs.lemmas.{Bool.false≢true, Option.slice_get-get_or}
-use Rattle.std.proofs.lemmas.List.Elements.{All-append, All-drop, All-get_or, All-push, All-set, All-take, All-weaker}
+use Rattle.std.proofs.lemmas.List.Elements.{All-append, All-drop, All-get_or, All-push, All-take, All-weaker}
 use Rattle.dist_capture.specs.declared.segment.Segment.{Segment}
 use Rattle.dist_talk.specs.declared.terms.Terms.{Terms}
 use Rattle.dist_conversation.specs.Conversations.{IsBetween, Takes, begun}
 use Rattle.dist_conversation.specs.Verdicts.{verdict_on}
 use Rattle.dist_conversation.specs.declared.{carried.Judged.Judged, conversation.Conversation.Conversation}
 use Rattle.distping_report.specs.Sinks.{SinkState}
-use Rattle.distping_capture.specs.Captures.{Awaits, Ends, Follows, FollowsAll, GoesOnBy, Has, IsGiven, IsJudged, IsOfOrNew, IsWhen, Keeps, Renews, TakesInAll, TakesNext}
+use Rattle.distping_capture.specs.Captures.{Awaits, Ends, Follows, FollowsAll, GoesOnBy, IsGiven, IsJudged, IsWhen, Keeps, Renews, TakesInAll, TakesNext}
 use Rattle.distping_capture.specs.declared.{connections.Connection.Connection, connections.Connections.Connections, journal.Journal.Journal}
 use Rattle.distping_capture.proofs.Keeping.{IsStill, keeps_more, keeps_still}
 use Rattle.distping_capture.proofs.Talking.{given_of, judged_given_more, new_between, of_more, of_taken}

@@ -1,18 +1,18 @@
 -- What the journal has, and what was printed.
-use Rattle.std.proofs.Common.{◌≡◌, ℕ, inl, inr, Bool, true, false, List, [], ◌∷◌, ◌++◌, map, Option, Some, None, IfSome, Result, Ok, Err, refl, sym, ap, subst, ◌∙◌, append_assoc, codes}
+use Rattle.std.proofs.Common.{◌≡◌, ℕ, inl, inr, Bool, true, false, List, [], ◌∷◌, ◌++◌, Option, Some, None, IfSome, Result, Ok, Err, refl, sym, ap, subst, ◌∙◌, append_assoc, codes}
 use Rattle.std.specs.Prelude.{OnOk}
-use Rattle.std.specs.List.{All, AllZip, FoldsTo}
+use Rattle.std.specs.List.{AllZip, FoldsTo}
 use Rattle.std.proofs.lemmas.{List.map-append, Fn.FoldsTo-push, List.Elements.All-nil, List.Elements.All-push, List.Elements.All-weaker}
 use Rattle.dist_capture.specs.declared.segment.Segment.{Segment}
 use Rattle.dist_talk.specs.declared.{terms.Terms.Terms, verdict.HandshakeVerdict.HandshakeVerdict}
 use Rattle.dist_conversation.specs.Verdicts.{is_talk}
 use Rattle.dist_conversation.specs.declared.{carried.Judged.Judged, conversation.Conversation.Conversation}
 use Rattle.distping_report.specs.Sinks.{SinkState}
-use Rattle.distping_capture.specs.Captures.{AddsOf, GoesOn, GoesOnBy, GoesOnOf, History, IsGiven, IsJudged, Keeps, NextAttempt, NoAttempt, PrintsAll, StandsFor, verdicts_of}
+use Rattle.distping_capture.specs.Captures.{AddsOf, GoesOn, GoesOnBy, GoesOnOf, History, IsGiven, Keeps, NextAttempt, NoAttempt, PrintsAll, StandsFor, verdicts_of}
 use Rattle.distping_capture.specs.Crossings.{GivesWay, GivesWayTo, Meets}
 use Rattle.distping_capture.specs.Printing.{PrintsEnd, PrintsNoted, PrintsOne, PrintsText}
 use Rattle.distping_capture.specs.declared.{dials.PastDial.PastDial, journal.Journal.Journal}
-use Rattle.distping_capture.proofs.Talking.{given_more, given_of, judged_more}
+use Rattle.distping_capture.proofs.Talking.{given_more, judged_more}
 
 pub on_ok : {X E P R : Type 0} (result : Result X E) → OnOk result P → (P → R) → OnOk result R
 on_ok (Ok x) p f = f p

@@ -1,10 +1,9 @@
 -- A conversation of a capture takes a segment.
 use Rattle.std.proofs.Common.{◌≡◌, ◌⊎◌, inl, inr, ℕ, Bool, true, false, cond, List, [], ◌∷◌, ◌++◌, Option, Some, None, IfSome, refl, sym, ap, subst}
-use Rattle.std.specs.List.{All, FoldsTo}
 use Rattle.std.proofs.lemmas.{Fn.FoldsTo-push, List.Elements.All-nil, List.Elements.All-push, List.Elements.All-weaker}
 use Rattle.dist_capture.specs.declared.segment.Segment.{Segment}
 use Rattle.dist_talk.specs.declared.{terms.Terms.Terms, verdict.HandshakeVerdict.HandshakeVerdict}
-use Rattle.dist_conversation.specs.Conversations.{Goes, IsBetween, IsConversation, Takes, begun, is_from_dialler}
+use Rattle.dist_conversation.specs.Conversations.{Goes, IsBetween, Takes, begun, is_from_dialler}
 use Rattle.dist_conversation.specs.declared.{carried.Judged.Judged, conversation.Conversation.Conversation}
 use Rattle.dist_conversation.proofs.Ports.{between_taken}
 use Rattle.distping_capture.specs.Captures.{IsGiven, IsJudged, IsOf, IsOfOrNew, IsPart, Leaves, NoPart, Shares}

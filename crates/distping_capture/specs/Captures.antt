@@ -1,7 +1,6 @@
 -- A WHOLE CAPTURE: its attempts, each judged by its conversation; what is printed of them; and the exit status.
 use Rattle.std.specs.Prelude.{◌≡◌, ◌⊎◌, ℕ, Bool, true, false, ◌==◌, if◌then◌else◌, List, [], ◌∷◌, ◌++◌, map, slice_get, Option, Some, None, Ok, IfSome}
 use Rattle.std.specs.{Borrow.Bor, List.All, List.FoldsTo, Option.ok_or}
-use Rattle.std.specs.{Global.Global, declared.boxed.Box.Box}
 use Rattle.dist_capture.specs.{Reading.Reading, Reading.Was, Reading.is_cut_off, Reading.view_of, Reading.whole, declared.segment.Segment.Segment}
 use Rattle.dist_messages.specs.declared.message.Side.{TheVariants.Dialler}
 use Rattle.dist_talk.specs.declared.terms.Terms.{Terms}

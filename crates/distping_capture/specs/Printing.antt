@@ -1,5 +1,5 @@
 -- WHAT IS PRINTED OF VERDICTS: of each one that counts a text, or with `--json` an object, which shows just that verdict.
-use Rattle.std.specs.Prelude.{◌≡◌, Bool, true, false, ℕ, List, ◌∷◌, Option, Some, None, codes}
+use Rattle.std.specs.Prelude.{◌≡◌, Bool, true, false, ℕ, List, ◌∷◌, Option, Some, codes}
 use Rattle.std.specs.List.{concat}
 use Rattle.dist_talk.specs.{Words.status_of, Words.verdict_word}
 use Rattle.dist_talk.specs.declared.verdict.HandshakeVerdict.{HandshakeVerdict}

@@ -1,4 +1,4 @@
-use Rattle.std.proofs.Common.{◌≡◌, ◌∙◌, sym, subst}
+use Rattle.std.proofs.Common.{◌∙◌, sym, subst}
 use Rattle.distping_report.specs.Sinks.{SinkState}
 use Rattle.distping_capture.specs.Captures.{EndsAll}
 use Rattle.distping_capture.proofs.Taking.{read_ends}

@@ -1,4 +1,4 @@
-use Rattle.std.proofs.Common.{◌∷◌, ◌++◌, [], refl}
+use Rattle.std.proofs.Common.{refl}
 use Rattle.distping_capture.proofs.Following.{at_port, new_awaits, on_added}
 use Rattle.distping_capture.proofs.connections.Connections.begin.Goals as goal
 

@@ -1,6 +1,5 @@
-use Rattle.std.proofs.Common.{◌≡◌, ◌∷◌, ◌++◌, [], get_or, set, refl, rules}
+use Rattle.std.proofs.Common.{◌≡◌, ◌∷◌, ◌++◌, [], get_or, refl, rules}
 use Rattle.std.specs.Box.{with_value}
-use Rattle.std.specs.List.{All}
 use Rattle.std.proofs.lemmas.List.Elements.{All-set}
 use Rattle.distping_capture.proofs.Following.{IsOn, at_port, between_at, on_at, on_more}
 use Rattle.distping_capture.proofs.Keeping.{on_ok}

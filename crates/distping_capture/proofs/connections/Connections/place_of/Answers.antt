@@ -1,4 +1,4 @@
-use Rattle.std.proofs.Common.{◌≡◌, ◌<◌, ◌-◌, ◌+◌, length, subst, arith}
+use Rattle.std.proofs.Common.{◌<◌, ◌-◌, length, subst, arith}
 use Rattle.dist_conversation.specs.Conversations.{IsBetween}
 use Rattle.distping_capture.specs.declared.connections.Connection.{Connection}
 use Rattle.distping_capture.proofs.Following.{here_is, place_found}
