@@ -202,20 +202,6 @@ unreached_by c now None = if c.is_dialled_again && is_overdue_at c.began now the
 abbrev pub unreached_of : Conversation → ℕ → Option Unreached
 unreached_of c now = if c.is_made || not (is_some c.opening) then None else unreached_by c now c.from_acceptor.end
 
--- IT IS FINISHED: a side reset it, or both closed it; or it carries what is not looked into
-abbrev pub is_other : Shown → Bool
-is_other shown.Other = true
-is_other found = false
-
-abbrev pub is_finished : Conversation → Bool
-is_finished c = c.is_reset || ((is_some c.from_dialler.end && is_some c.from_acceptor.end) || is_other c.shown)
-
--- A SEGMENT BEGINS ANOTHER ONE between the same ports: it dials, with another number, and this one is over, or a side ended it, or it was long quiet
-abbrev pub is_before : Bool → Segment → Conversation → Bool
-is_before over s c =
-    (is_opening s && not (option_map_or (λ number. number == s.sequence) c.opening false))
-    && ((over || (is_some c.from_dialler.end || is_some c.from_acceptor.end)) || is_overdue_at c.latest s.time)
-
 -- ---- its bytes stand in its segments
 
 -- the port of a side

@@ -155,9 +155,3 @@ abbrev pub lacks_by : Flow → Option ℕ → Option FlowEnd → Bool
 lacks_by f None reader = is_some f.received
 lacks_by f (Some awaited) reader =
     is_known_ahead f.received (Some (number_behind f awaited)) || (is_past f (number_behind f awaited) && not (has_no_more awaited reader))
-
--- bytes of a segment begin behind a gap, or go on behind its end: what is known of the side is not all
-abbrev pub is_overrun : Segment → Flow → Bool
-is_overrun s f =
-    (not s.is_reset && not (number_of_first s == end_number s))
-    && (is_known_ahead (Some (number_of_first s)) (awaited_of f) || is_known_ahead (Some (end_number s)) (option_map (λ end. end.number) f.end))

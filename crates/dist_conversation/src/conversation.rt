@@ -1,8 +1,8 @@
 //! A conversation: what the segments between two ports came to, from the one that begins it on.
 
-ghost use Rattle.std.specs.Prelude.{◌≡◌, ◌↔◌, IsTrue, OnOk, is_some};
-ghost use Rattle.dist_conversation.specs.Conversations.{IsBetween, IsFrom, Takes, any_end, begun, can_end, ended_or, first_end, flow_of, is_before};
-ghost use Rattle.dist_conversation.specs.Conversations.{is_finished, is_from_dialler, is_overdue_at, lacks_bytes, left, recognized, swapped, unreached_of};
+ghost use Rattle.std.specs.Prelude.{◌≡◌, ◌↔◌, IsTrue, OnOk};
+ghost use Rattle.dist_conversation.specs.Conversations.{IsBetween, IsFrom, Takes, any_end, begun, can_end, ended_or, first_end, flow_of};
+ghost use Rattle.dist_conversation.specs.Conversations.{is_from_dialler, is_overdue_at, lacks_bytes, left, recognized, swapped, unreached_of};
 ghost use Rattle.dist_conversation.specs.{Conversations.with_ending, Conversations.with_pieces, Conversations.with_sign, Flows.with_answer, Flows.with_end};
 
 use crate::flow::{Flow, FlowEnd};
@@ -338,9 +338,7 @@ impl Conversation {
     }
 
     // Whether a segment shows that both sides, or one of them, ended it.
-    fn ends(&self) -> (bool, bool)
-        ensures { result ≡ (is_some self.now.from_dialler.end, is_some self.now.from_acceptor.end) }
-    {
+    fn ends(&self) -> (bool, bool) {
         (
             self.from_dialler.end.is_some(),
             self.from_acceptor.end.is_some(),
@@ -348,18 +346,14 @@ impl Conversation {
     }
 
     /// Whether both sides closed it, or one reset it; or it carries what is not looked into.
-    pub fn is_finished(&self) -> bool
-        ensures { result ≡ is_finished self.now }
-    {
+    pub fn is_finished(&self) -> bool {
         let (dialler, acceptor) = self.ends();
         self.is_reset || dialler && acceptor || matches!(self.shown, Shown::Other)
     }
 
     /// Whether this segment begins a new one between the same two ports: it dials, is no copy of the segment that began this one, and this
     /// one ended (`is_over`, or a side ended it) or was long quiet.
-    pub fn is_before(&self, segment: &Segment, is_over: bool) -> bool
-        ensures { result ≡ is_before is_over segment.now self.now }
-    {
+    pub fn is_before(&self, segment: &Segment, is_over: bool) -> bool {
         let is_dial = segment.is_syn && !segment.is_ack;
         let (dialler, acceptor) = self.ends();
         let is_past = is_over || dialler || acceptor || is_long(self.latest, segment.time);

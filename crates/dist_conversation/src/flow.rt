@@ -2,7 +2,7 @@
 
 ghost use Rattle.std.specs.Prelude.{◌≡◌, OnOk, length, nat_le};
 ghost use Rattle.dist_conversation.specs.Flows.{awaited_of, begun_by, bytes_of, end_before, first_read, gathered, gone, has_no_more, is_answer, is_behind};
-ghost use Rattle.dist_conversation.specs.Flows.{is_overrun, is_unread, lacks_by, may_end, new_flow, with_answer, with_bytes, with_end, with_segment};
+ghost use Rattle.dist_conversation.specs.Flows.{is_unread, lacks_by, may_end, new_flow, with_answer, with_bytes, with_end, with_segment};
 
 use crate::numbers::{end_number, first_of, is_ahead, is_beyond, is_known_ahead, latest_number};
 use dist_capture::{Segment, SegmentStream};
@@ -224,9 +224,7 @@ impl Flow {
     }
 
     /// Whether bytes of this segment show that what is known of this side is not all: they stand behind a gap, or behind its end.
-    pub fn is_overrun_by(&self, segment: &Segment) -> bool
-        ensures { result ≡ is_overrun segment.now self.now }
-    {
+    pub fn is_overrun_by(&self, segment: &Segment) -> bool {
         let (first, last) = (first_of(segment), end_number(segment));
         let is_past_gap = is_known_ahead(Some(first), self.next());
         let is_past_end = self.end.is_some_and(|end| is_ahead(last, end.number));
