@@ -8,7 +8,7 @@ use Rattle.dist_talk.specs.{Speaking.other_side, declared.unreached.Unreached.Un
 use Rattle.dist_talk.specs.declared.unreached.Unreached.TheVariants as unreached
 use Rattle.dist_conversation.specs.Flows.{awaited_of, bytes_of, end_before, gone, is_behind, lacks_by, may_end, new_flow, with_answer, with_end, with_segment}
 use Rattle.dist_conversation.specs.{Numbers.number_of_first, Pieces.turned, Recognized.look_of, Recognized.shown_of}
-use Rattle.dist_conversation.specs.declared.{conversation.Conversation.Conversation, pieces.Piece.Piece}
+use Rattle.dist_conversation.specs.declared.{conversation.Conversation.Conversation, pieces.Arrival.Arrival}
 use Rattle.dist_conversation.specs.declared.{flow.Flow.Flow, flow.FlowEnd.FlowEnd, looks.Shown.Shown}
 use Rattle.dist_conversation.specs.declared.looks.Shown.TheVariants as shown
 
@@ -81,7 +81,7 @@ with_sign s c = record c {
 }
 
 -- a side has so many bytes now: if that is more than before, a piece came
-abbrev pub with_piece : Side → ℕ → ℕ → ℕ → List Piece → List Piece
+abbrev pub with_piece : Side → ℕ → ℕ → ℕ → List Arrival → List Arrival
 with_piece side before until at pieces =
     if nat_lt before until then pieces ++ record { side = side; until = until; at = at } ∷ [] else pieces
 

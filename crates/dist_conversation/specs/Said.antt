@@ -14,7 +14,7 @@ use Rattle.dist_epmd.specs.declared.{epmd_error.EpmdError.EpmdError, message.Ans
 use Rattle.dist_epmd.specs.declared.message.Asked.TheVariants as asked
 use Rattle.dist_epmd.specs.declared.message.Request.TheVariants as request
 use Rattle.dist_conversation.specs.{Conversations.flow_of, Flows.bytes_of, Pieces.place_in, Pieces.time_in}
-use Rattle.dist_conversation.specs.declared.{conversation.Conversation.Conversation, pieces.Piece.Piece, mapper.MapperTalk.MapperTalk}
+use Rattle.dist_conversation.specs.declared.{conversation.Conversation.Conversation, pieces.Arrival.Arrival, mapper.MapperTalk.MapperTalk}
 
 -- the body of the first frame, if it is empty, or a tag of this side begins it
 abbrev pub is_body_of : Side → List ℕ → Bool
@@ -35,7 +35,7 @@ ends_part Dialler said = is_some (reply_in said)
 ends_part Acceptor said = is_some (ack_in said)
 
 -- THE MESSAGE OF A BODY, which is whole with so many bytes of its side: at the time of the piece with which these were there
-abbrev pub sent_by : Side → List Piece → List ℕ → ℕ → SentMessage
+abbrev pub sent_by : Side → List Arrival → List ℕ → ℕ → SentMessage
 sent_by side pieces body count = record {
   at = time_in side count pieces;
   number = place_in side count pieces;
@@ -52,7 +52,7 @@ with_first m said = record { messages = m ∷ said.messages; left = said.left }
 
 -- WHAT A SIDE SAID behind its first bytes, in so many messages at most: those of its frames, up to one that is not whole or begins with no tag of this
 -- side, and up to the last of its part
-unfoldable pub said_from : ℕ → Side → List Piece → List ℕ → ℕ → Said
+unfoldable pub said_from : ℕ → Side → List Arrival → List ℕ → ℕ → Said
 said_from zero side pieces bytes count = record { messages = []; left = [] }
 said_from (suc n) side pieces bytes count = option_map_or
     (λ body. let m = sent_by side pieces body (count + (length body + 2)) in

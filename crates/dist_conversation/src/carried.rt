@@ -29,7 +29,7 @@ pub enum Carried {
 
 /// A conversation was judged: what it carried, and the verdict on that, if it has one.
 #[derive(Drop)]
-pub struct Judged {
+pub struct Conclusion {
     pub carried: Carried,
     pub verdict: Option<HandshakeVerdict>,
 }
@@ -61,7 +61,7 @@ pub fn acknowledged_at(said: &[SentMessage]) -> Option<u64>
     }
 }
 
-impl Judged {
+impl Conclusion {
     /// The handshake, if it carried one.
     pub fn handshake(&self) -> Option<&Handshake> {
         match &self.carried {

@@ -7,7 +7,7 @@ ghost use Rattle.dist_conversation.specs.{Conversations.with_ending, Conversatio
 
 use crate::flow::{Flow, FlowEnd};
 use crate::looks::{Shown, look_at, shown_by};
-use crate::pieces::{Piece, Pieces};
+use crate::pieces::{Arrival, Pieces};
 use dist_capture::{Endpoint, Segment};
 use dist_messages::Side;
 use dist_talk::{Unreached, other_side};
@@ -180,7 +180,7 @@ impl Conversation {
         let until = self.flow(side).bytes().len();
         if until > before {
             let at = segment.time;
-            self.pieces.push(Piece { side, until, at })?;
+            self.pieces.push(Arrival { side, until, at })?;
         }
         Ok(())
     }
@@ -324,7 +324,7 @@ impl Conversation {
 
     /// Why it was never made: its first segment was answered by a reset, or by nothing until this time. `None` if it was made, or if
     /// that is not in the capture.
-    pub fn unreached(&self, now: u64) -> Option<Unreached>
+    pub fn connect_fault(&self, now: u64) -> Option<Unreached>
         ensures { result ≡ unreached_of self.now now }
     {
         if self.is_made || self.opening.is_none() {

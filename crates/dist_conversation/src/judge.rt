@@ -2,16 +2,17 @@
 
 ghost use Rattle.std.specs.Prelude.{◌≡◌, IfOk, IfSome};
 ghost use Rattle.dist_conversation.specs.Conversations.{first_end};
-ghost use Rattle.dist_conversation.specs.Verdicts.{CarriesAtEnd, EndsAt, EndsUpon, IsDueAs, IsHandshakeOf, begins_with_name, fault_of, how_ended, is_in_vain, is_whole};
+ghost use Rattle.dist_conversation.specs.Verdicts.{CarriesAtEnd, EndsAt, EndsUpon, IsDueAs, IsHandshakeOf, begins_with_name};
+ghost use Rattle.dist_conversation.specs.Verdicts.{fault_of, how_ended, is_in_vain, is_whole};
 ghost use Rattle.dist_conversation.specs.Verdicts.{is_overdue, is_quiet, is_settled, is_unanswered, last_said, missing_of, of_both, talk_of, verdict_on};
 ghost use Rattle.dist_talk.specs.Standing.{standing};
 
-use crate::carried::{Carried, Judged, acknowledged_at};
+use crate::carried::{Carried, Conclusion, acknowledged_at};
 use crate::conversation::{Conversation, is_long};
 use crate::flow::FlowEnd;
 use crate::looks::Shown;
 use crate::mapper::{MapperTalk, talk_in};
-use crate::said::{Said, said_by};
+use crate::said::{SideSaid, said_by};
 use dist_epmd_calls::LookupError;
 use dist_messages::{Message, Side};
 use dist_talk::{
@@ -152,7 +153,7 @@ fn left_of<'l>(side: Side, left: (&'l [u8], &'l [u8])) -> &'l [u8]
 }
 
 // How a handshake ended where a message is due, and these bytes of both sides wait.
-fn ending_of(
+fn due_end(
     seen: &Conversation,
     handshake: &Handshake,
     terms: &Terms<'_>,
@@ -170,7 +171,7 @@ fn ending_of(
 
 // The handshake of a conversation as it stands at this time: what both sides said, what the capture lacks, and, where a message is due, how it
 // ended.
-fn handshake_of(
+fn read_handshake(
     alloc: Global,
     seen: &Conversation,
     terms: &Terms<'_>,
@@ -185,7 +186,7 @@ fn handshake_of(
     handshake.acceptor = acceptor.messages;
     handshake.missing = missing_of(seen, &handshake);
     let left = (dialler.left, acceptor.left);
-    handshake.ending = ending_of(seen, &handshake, terms, left, now);
+    handshake.ending = due_end(seen, &handshake, terms, left, now);
     Ok(handshake)
 }
 
@@ -241,7 +242,7 @@ fn is_unanswered(seen: &Conversation, now: u64) -> bool
 }
 
 // What is said to a port mapper.
-fn talk_of(alloc: Global, seen: &Conversation) -> Result<Option<MapperTalk>, AllocError>
+fn read_talk(alloc: Global, seen: &Conversation) -> Result<Option<MapperTalk>, AllocError>
     ensures { IfOk result (λ talk. talk ≡ talk_of seen.now) }
 {
     talk_in(
@@ -262,10 +263,10 @@ fn carried_now(
 {
     match seen.shown {
         Shown::Handshake => {
-            let handshake = handshake_of(alloc, seen, terms, seen.latest)?;
+            let handshake = read_handshake(alloc, seen, terms, seen.latest)?;
             Ok(is_settled(seen, &handshake).then_some(Carried::Handshake(handshake)))
         }
-        Shown::Mapper => match talk_of(alloc, seen)? {
+        Shown::Mapper => match read_talk(alloc, seen)? {
             Some(talk) if talk.answer.is_some() => Ok(Some(Carried::Talk(talk))),
             Some(_) => Ok(None),
             None => Ok(Some(Carried::Nothing)),
@@ -285,17 +286,17 @@ fn carried_at_end(
     ensures { IfOk result (CarriesAtEnd terms.now other seen.now now) }
 {
     if (other.is_node || seen.is_at_mapper && other.is_seen)
-        && let Some(unreached) = seen.unreached(now)
+        && let Some(unreached) = seen.connect_fault(now)
     {
         return Ok(Carried::Unreached(unreached));
     }
     match seen.shown {
-        Shown::Handshake => Ok(Carried::Handshake(handshake_of(alloc, seen, terms, now)?)),
+        Shown::Handshake => Ok(Carried::Handshake(read_handshake(alloc, seen, terms, now)?)),
         Shown::Nothing if other.is_node && seen.lacks_bytes(Side::Dialler) => {
-            Ok(Carried::Handshake(handshake_of(alloc, seen, terms, now)?))
+            Ok(Carried::Handshake(read_handshake(alloc, seen, terms, now)?))
         }
         Shown::Mapper => {
-            let Some(mut talk) = talk_of(alloc, seen)? else {
+            let Some(mut talk) = read_talk(alloc, seen)? else {
                 return Ok(Carried::Nothing);
             };
             if talk.is_awaited() {
@@ -314,11 +315,11 @@ fn carried_at_end(
 }
 
 // This is carried, and judged by these terms.
-fn judged(seen: &Conversation, carried: Carried, terms: &Terms<'_>) -> Judged
+fn conclude(seen: &Conversation, carried: Carried, terms: &Terms<'_>) -> Conclusion
     ensures { (result.carried ≡ carried) × (result.verdict ≡ verdict_on terms.now seen.now.is_at_mapper carried) }
 {
     let verdict = carried.verdict(terms, seen.is_at_mapper);
-    Judged { carried, verdict }
+    Conclusion { carried, verdict }
 }
 
 /// Judges an open conversation, if it is due.
@@ -326,12 +327,12 @@ pub fn judge_now(
     alloc: Global,
     seen: &Conversation,
     terms: &Terms<'_>,
-) -> Result<Option<Judged>, AllocError>
+) -> Result<Option<Conclusion>, AllocError>
     ensures due { IfOk result (λ due. IfSome due (λ j. IsDueAs seen.now.shown terms.now seen.now j.carried)) }
     ensures verdict { IfOk result (λ due. IfSome due (λ j. j.verdict ≡ verdict_on terms.now seen.now.is_at_mapper j.carried)) }
 {
     match carried_now(alloc, seen, terms)? {
-        Some(carried) => Ok(Some(judged(seen, carried, terms))),
+        Some(carried) => Ok(Some(conclude(seen, carried, terms))),
         None => Ok(None),
     }
 }
@@ -343,10 +344,10 @@ pub fn judge_at_end(
     other: OtherEnd,
     terms: &Terms<'_>,
     now: u64,
-) -> Result<Judged, AllocError>
+) -> Result<Conclusion, AllocError>
     ensures carried { IfOk result (λ j. CarriesAtEnd terms.now other seen.now now j.carried) }
     ensures verdict { IfOk result (λ j. j.verdict ≡ verdict_on terms.now seen.now.is_at_mapper j.carried) }
 {
     let carried = carried_at_end(alloc, seen, other, terms, now)?;
-    Ok(judged(seen, carried, terms))
+    Ok(conclude(seen, carried, terms))
 }

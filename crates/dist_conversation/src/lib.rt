@@ -18,11 +18,11 @@ mod numbers;
 mod pieces;
 mod said;
 
-pub use carried::{Carried, Judged};
+pub use carried::{Carried, Conclusion};
 pub use conversation::{Conversation, is_long};
 pub use flow::{Flow, FlowEnd};
 pub use judge::{OtherEnd, judge_at_end, judge_now};
 pub use laws::bytes_stand;
 pub use looks::Shown;
 pub use mapper::{MapperTalk, registration_of};
-pub use pieces::Piece;
+pub use pieces::Arrival;

@@ -10,7 +10,7 @@ use std::marker::Model;
 
 /// Bytes of a side that came in one segment, or had waited for it.
 #[derive(Clone, Copy)]
-pub struct Piece {
+pub struct Arrival {
     /// The side that sent it.
     pub side: Side,
     /// How many bytes of this side are there with it.
@@ -22,14 +22,14 @@ pub struct Piece {
 /// Pieces of both sides, in the order of the capture.
 #[derive(Drop)]
 pub struct Pieces {
-    list: Vec<Piece>,
+    list: Vec<Arrival>,
 }
 
 impl Model for Pieces {
     ghost use Rattle.std.specs.Prelude.{List};
-    ghost use Rattle.dist_conversation.specs.declared.pieces.Piece.{Piece};
+    ghost use Rattle.dist_conversation.specs.declared.pieces.Arrival.{Arrival};
 
-    ghost Value = { List Piece };
+    ghost Value = { List Arrival };
 
     ghost view = { λ p. p.list.items };
 }
@@ -45,14 +45,14 @@ impl Pieces {
     }
 
     /// All of them.
-    pub fn as_slice(&self) -> &[Piece]
+    pub fn as_slice(&self) -> &[Arrival]
         ensures { result.now ≡ self.now }
     {
         &self.list
     }
 
     /// Adds one.
-    pub fn push(&mut self, piece: Piece) -> Result<(), AllocError>
+    pub fn push(&mut self, piece: Arrival) -> Result<(), AllocError>
         ensures { OnOk result (self.new ≡ self.old ++ piece ∷ []) }
     {
         self.list.push(piece)?;

@@ -6,7 +6,7 @@ ghost use Rattle.dist_conversation.specs.Pieces.{has_bytes, place_in, time_in};
 ghost use Rattle.dist_conversation.specs.Said.{body_in, ends_part, said_by, said_from, sent_by};
 
 use crate::conversation::Conversation;
-use crate::pieces::Piece;
+use crate::pieces::Arrival;
 use dist_messages::Side;
 use dist_talk::{NextBody, SentContent, SentMessage, content_of, next_body};
 use std::alloc::{AllocError, Global};
@@ -16,7 +16,7 @@ const MOST_MESSAGES: usize = 8;
 
 /// What a side said in a handshake.
 #[derive(Drop)]
-pub struct Said<'c> {
+pub struct SideSaid<'c> {
     /// Its messages, in order.
     pub messages: Vec<SentMessage>,
     /// The bytes behind them; none once it said the last message of its part.
@@ -34,7 +34,7 @@ fn ends_part(side: Side, content: &SentContent) -> bool
 }
 
 // Whether so many bytes of a side are there with a piece.
-fn has_bytes(piece: &Piece, side: Side, count: usize) -> bool
+fn has_bytes(piece: &Arrival, side: Side, count: usize) -> bool
     ensures { result ≡ has_bytes side count piece.now }
 {
     match (piece.side, side) {
@@ -44,7 +44,7 @@ fn has_bytes(piece: &Piece, side: Side, count: usize) -> bool
 }
 
 // When so many bytes of a side were there.
-fn time_in(pieces: &[Piece], side: Side, count: usize) -> u64
+fn time_in(pieces: &[Arrival], side: Side, count: usize) -> u64
     ensures { result ≡ time_in side count pieces.now }
 {
     match pieces {
@@ -55,7 +55,7 @@ fn time_in(pieces: &[Piece], side: Side, count: usize) -> u64
 }
 
 // With which piece they were there.
-fn place_in(pieces: &[Piece], side: Side, count: usize) -> usize
+fn place_in(pieces: &[Arrival], side: Side, count: usize) -> usize
     ensures is { result ≡ place_in side count pieces.now }
     ensures within { result ≤ length pieces.now }
 {
@@ -81,7 +81,7 @@ fn whole_body(side: Side, bytes: &[u8]) -> Option<&[u8]>
 fn message_of(
     alloc: Global,
     side: Side,
-    pieces: &[Piece],
+    pieces: &[Arrival],
     body: &[u8],
     count: usize,
 ) -> Result<SentMessage, AllocError>
@@ -99,9 +99,9 @@ fn message_of(
 fn read_all<'c>(
     alloc: Global,
     side: Side,
-    pieces: &[Piece],
+    pieces: &[Arrival],
     bytes: &'c [u8],
-) -> Result<Said<'c>, AllocError>
+) -> Result<SideSaid<'c>, AllocError>
     ensures messages { IfOk result (λ said. said.messages.items ≡ (said_from 8 side pieces.now bytes.now 0).messages) }
     ensures left { IfOk result (λ said. said.left.now ≡ (said_from 8 side pieces.now bytes.now 0).left) }
 {
@@ -109,20 +109,20 @@ fn read_all<'c>(
     'messages: while messages.len() < MOST_MESSAGES {
         let (_, left) = bytes.split_at(count);
         let Some(body) = whole_body(side, left) else {
-            return Ok(Said { messages, left });
+            return Ok(SideSaid { messages, left });
         };
         count += body.len() + 2;
         let sent = message_of(alloc, side, pieces, body, count)?;
         let is_last = ends_part(side, &sent.content);
         messages.push(sent)?;
         if is_last {
-            return Ok(Said {
+            return Ok(SideSaid {
                 messages,
                 left: b"",
             });
         }
     }
-    Ok(Said {
+    Ok(SideSaid {
         messages,
         left: b"",
     })
@@ -133,7 +133,7 @@ pub fn said_by<'c>(
     alloc: Global,
     conversation: &'c Conversation,
     side: Side,
-) -> Result<Said<'c>, AllocError>
+) -> Result<SideSaid<'c>, AllocError>
     ensures messages { IfOk result (λ said. said.messages.items ≡ (said_by side conversation.now).messages) }
     ensures left { IfOk result (λ said. said.left.now ≡ (said_by side conversation.now).left) }
 {

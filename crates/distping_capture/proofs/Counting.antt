@@ -3,7 +3,7 @@ use Rattle.std.proofs.Common.{◌≡◌, ℕ, ◌<◌, Bool, true, false, cond, 
 use Rattle.std.proofs.lemmas.List.{take_all}
 use Rattle.std.specs.List.{remove}
 use Rattle.distping_capture.specs.Captures.{StandsFor, exit_now, exit_of, first_exit}
-use Rattle.distping_capture.specs.declared.{dials.PastDial.PastDial, journal.Journal.Journal}
+use Rattle.distping_capture.specs.declared.{dials.PastDial.PastDial, journal.CaptureJournal.CaptureJournal}
 
 -- ---- the first status
 
@@ -28,7 +28,7 @@ first_exit-push xs dial = first_exit-append xs (dial ∷ []) ∙ ap (or_else (fi
 
 module _ {W : Type 0} where
   -- the status by what is remembered is that of all attempts
-  pub exit_is : (r : Journal W) (attempts : List PastDial) → StandsFor r attempts → exit_now r ≡ exit_of r.has_found attempts
+  pub exit_is : (r : CaptureJournal W) (attempts : List PastDial) → StandsFor r attempts → exit_now r ≡ exit_of r.has_found attempts
   exit_is r attempts p =
       let all : or_else r.status (first_exit r.dials.items) ≡ first_exit attempts =
       ap (λ (n : ℕ). or_else n (first_exit r.dials.items)) p.status ∙ sym (ap first_exit p.all ∙ first_exit-append p.earlier r.dials.items) in
@@ -41,7 +41,7 @@ split [] oldest some is = absurd (omega arith)
 split (x ∷ xs) oldest some is = ap (λ (d : PastDial). d ∷ xs) (sym is)
 
 module _ {W : Type 0} where
-  pub older : (r s : Journal W) (oldest : PastDial) → 0 < length r.dials.items → oldest ≡ get_or r.dials.items 0 oldest → s.dials.items ≡ remove r.dials.items 0 → s.status ≡ or_else r.status oldest.exit
+  pub older : (r s : CaptureJournal W) (oldest : PastDial) → 0 < length r.dials.items → oldest ≡ get_or r.dials.items 0 oldest → s.dials.items ≡ remove r.dials.items 0 → s.status ≡ or_else r.status oldest.exit
       → s.has_found ≡ r.has_found → (attempts : List PastDial) → StandsFor r attempts → StandsFor s attempts
   older r s oldest some is dials status found attempts p =
       let front : r.dials.items ≡ oldest ∷ s.dials.items = split r.dials.items oldest some is ∙ ap (λ (l : List PastDial). oldest ∷ l) (sym dials) in
@@ -52,13 +52,13 @@ module _ {W : Type 0} where
         nothing = λ e. p.nothing (sym found ∙ e);
       }
 
-  abbrev pub dials_of : Journal W → List PastDial
+  abbrev pub dials_of : CaptureJournal W → List PastDial
   dials_of r = r.dials.items
 
-  abbrev pub status_in : Journal W → ℕ
+  abbrev pub status_in : CaptureJournal W → ℕ
   status_in r = r.status
 
-  abbrev pub found_in : Journal W → Bool
+  abbrev pub found_in : CaptureJournal W → Bool
   found_in r = r.has_found
 
 -- those that are remembered were written in place

@@ -6,12 +6,12 @@ use Rattle.std.proofs.lemmas.{List.map-append, Fn.FoldsTo-push, List.Elements.Al
 use Rattle.dist_capture.specs.declared.segment.Segment.{Segment}
 use Rattle.dist_talk.specs.declared.{terms.Terms.Terms, verdict.HandshakeVerdict.HandshakeVerdict}
 use Rattle.dist_conversation.specs.Verdicts.{is_talk}
-use Rattle.dist_conversation.specs.declared.{carried.Judged.Judged, conversation.Conversation.Conversation}
+use Rattle.dist_conversation.specs.declared.{carried.Conclusion.Conclusion, conversation.Conversation.Conversation}
 use Rattle.distping_report.specs.Sinks.{SinkState}
 use Rattle.distping_capture.specs.Captures.{AddsOf, GoesOn, GoesOnBy, GoesOnOf, History, IsGiven, Keeps, NextAttempt, NoAttempt, PrintsAll, StandsFor, verdicts_of}
 use Rattle.distping_capture.specs.Crossings.{GivesWay, GivesWayTo, Meets}
 use Rattle.distping_capture.specs.Printing.{PrintsEnd, PrintsNoted, PrintsOne, PrintsText}
-use Rattle.distping_capture.specs.declared.{dials.PastDial.PastDial, journal.Journal.Journal}
+use Rattle.distping_capture.specs.declared.{dials.PastDial.PastDial, journal.CaptureJournal.CaptureJournal}
 use Rattle.distping_capture.proofs.Talking.{given_more, judged_more}
 
 pub on_ok : {X E P R : Type 0} (result : Result X E) → OnOk result P → (P → R) → OnOk result R
@@ -90,7 +90,7 @@ prints_more true t port segments s xs old new p =
     (p.0, All-weaker (IsGiven t port segments) (IsGiven t port (segments ++ s ∷ [])) (λ v q. given_more t port segments s v q) p.0 p.1, p.2)
 
 module _ {W : Type 0} where
-  pub keeps_more : (t : Terms) (port : ℕ) (segments : List Segment) (s : Segment) (json : Bool) (old : SinkState) (r : Journal W) → Keeps t port segments json old r
+  pub keeps_more : (t : Terms) (port : ℕ) (segments : List Segment) (s : Segment) (json : Bool) (old : SinkState) (r : CaptureJournal W) → Keeps t port segments json old r
       → Keeps t port (segments ++ s ∷ []) json old r
   keeps_more t port segments s json old r p = record {
     terms = p.terms;
@@ -104,14 +104,14 @@ module _ {W : Type 0} where
   -- ---- the journal goes on
 
   -- the same attempts are remembered, and it is judged by the same terms
-  pub record IsSame (r s : Journal W) : Type 0 where
+  pub record IsSame (r s : CaptureJournal W) : Type 0 where
     pub terms : s.terms ≡ r.terms
     pub lines : s.lines ≡ r.lines
     pub dials : s.dials.items ≡ r.dials.items
     pub status : s.status ≡ r.status
     pub found : s.has_found ≡ false → r.has_found ≡ false
 
-  stands_same : (r s : Journal W) → IsSame r s → (attempts : List PastDial) → StandsFor r attempts → StandsFor s attempts
+  stands_same : (r s : CaptureJournal W) → IsSame r s → (attempts : List PastDial) → StandsFor r attempts → StandsFor s attempts
   stands_same r s same attempts p = record {
     earlier = p.earlier;
     all = p.all ∙ ap (λ (l : List PastDial). p.earlier ++ l) (sym same.dials);
@@ -120,7 +120,7 @@ module _ {W : Type 0} where
   }
 
   -- nothing was printed
-  pub keeps_same : (r s : Journal W) → IsSame r s → s.results ≡ r.results → GoesOn r s
+  pub keeps_same : (r s : CaptureJournal W) → IsSame r s → s.results ≡ r.results → GoesOn r s
   keeps_same r s same results t port segments json old p = record {
     terms = same.terms ∙ p.terms;
     quiet = ap (λ l. l.quiet) same.lines ∙ p.quiet;
@@ -131,7 +131,7 @@ module _ {W : Type 0} where
   }
 
   -- what there is to say at an end was printed
-  pub keeps_ended : (given : Option HandshakeVerdict) (talk : Bool) (r s : Journal W) → IsSame r s → PrintsEnd r.lines.quiet talk given r.results s.results → GoesOnOf given r s
+  pub keeps_ended : (given : Option HandshakeVerdict) (talk : Bool) (r s : CaptureJournal W) → IsSame r s → PrintsEnd r.lines.quiet talk given r.results s.results → GoesOnOf given r s
   keeps_ended given talk r s same prints t port segments json old is p = record {
     terms = same.terms ∙ p.terms;
     quiet = ap (λ l. l.quiet) same.lines ∙ p.quiet;
@@ -142,7 +142,7 @@ module _ {W : Type 0} where
   }
 
   -- an attempt was noted
-  pub keeps_noted : (c : Conversation) (now : ℕ) (j : Judged) (v : HandshakeVerdict) (r s u : Journal W) → j.verdict ≡ Some v → IsSame r s → PrintsNoted r.lines.quiet (is_talk j.carried) v r.results s.results
+  pub keeps_noted : (c : Conversation) (now : ℕ) (j : Conclusion) (v : HandshakeVerdict) (r s u : CaptureJournal W) → j.verdict ≡ Some v → IsSame r s → PrintsNoted r.lines.quiet (is_talk j.carried) v r.results s.results
       → AddsOf c now j s u → GoesOnBy c now j r u
   keeps_noted c now j v r s u is_verdict same prints added t port segments json old judged p =
       let adds = added.adds in
@@ -169,72 +169,72 @@ module _ {W : Type 0} where
   -- ---- what does not print
 
   -- the same, and nothing was printed
-  pub record IsStill (r s : Journal W) : Type 0 where
+  pub record IsStill (r s : CaptureJournal W) : Type 0 where
     pub same : IsSame r s
     pub results : s.results ≡ r.results
 
   -- the same but for what is known of nodes; of an end of a registration; of hosts; of what was found; and of what was printed
-  pub still_nodes : (r s : Journal W) → s ≡ record r { nodes = s.nodes } → IsStill r s
+  pub still_nodes : (r s : CaptureJournal W) → s ≡ record r { nodes = s.nodes } → IsStill r s
   still_nodes r s is = record {
     same = record {
-      terms = ap (λ (x : Journal W). x.terms) is;
-      lines = ap (λ (x : Journal W). x.lines) is;
-      dials = ap (λ (x : Journal W). x.dials.items) is;
-      status = ap (λ (x : Journal W). x.status) is;
-      found = λ e. sym (ap (λ (x : Journal W). x.has_found) is) ∙ e;
+      terms = ap (λ (x : CaptureJournal W). x.terms) is;
+      lines = ap (λ (x : CaptureJournal W). x.lines) is;
+      dials = ap (λ (x : CaptureJournal W). x.dials.items) is;
+      status = ap (λ (x : CaptureJournal W). x.status) is;
+      found = λ e. sym (ap (λ (x : CaptureJournal W). x.has_found) is) ∙ e;
     };
-    results = ap (λ (x : Journal W). x.results) is;
+    results = ap (λ (x : CaptureJournal W). x.results) is;
   }
 
-  pub still_unregistered : (r s : Journal W) → s ≡ record r { unregistered = s.unregistered } → IsStill r s
+  pub still_unregistered : (r s : CaptureJournal W) → s ≡ record r { unregistered = s.unregistered } → IsStill r s
   still_unregistered r s is = record {
     same = record {
-      terms = ap (λ (x : Journal W). x.terms) is;
-      lines = ap (λ (x : Journal W). x.lines) is;
-      dials = ap (λ (x : Journal W). x.dials.items) is;
-      status = ap (λ (x : Journal W). x.status) is;
-      found = λ e. sym (ap (λ (x : Journal W). x.has_found) is) ∙ e;
+      terms = ap (λ (x : CaptureJournal W). x.terms) is;
+      lines = ap (λ (x : CaptureJournal W). x.lines) is;
+      dials = ap (λ (x : CaptureJournal W). x.dials.items) is;
+      status = ap (λ (x : CaptureJournal W). x.status) is;
+      found = λ e. sym (ap (λ (x : CaptureJournal W). x.has_found) is) ∙ e;
     };
-    results = ap (λ (x : Journal W). x.results) is;
+    results = ap (λ (x : CaptureJournal W). x.results) is;
   }
 
-  pub still_hosts : (r s : Journal W) → s ≡ record r { hosts = s.hosts } → IsStill r s
+  pub still_hosts : (r s : CaptureJournal W) → s ≡ record r { hosts = s.hosts } → IsStill r s
   still_hosts r s is = record {
     same = record {
-      terms = ap (λ (x : Journal W). x.terms) is;
-      lines = ap (λ (x : Journal W). x.lines) is;
-      dials = ap (λ (x : Journal W). x.dials.items) is;
-      status = ap (λ (x : Journal W). x.status) is;
-      found = λ e. sym (ap (λ (x : Journal W). x.has_found) is) ∙ e;
+      terms = ap (λ (x : CaptureJournal W). x.terms) is;
+      lines = ap (λ (x : CaptureJournal W). x.lines) is;
+      dials = ap (λ (x : CaptureJournal W). x.dials.items) is;
+      status = ap (λ (x : CaptureJournal W). x.status) is;
+      found = λ e. sym (ap (λ (x : CaptureJournal W). x.has_found) is) ∙ e;
     };
-    results = ap (λ (x : Journal W). x.results) is;
+    results = ap (λ (x : CaptureJournal W). x.results) is;
   }
 
-  pub still_asked : (r s : Journal W) → s ≡ record r { has_found = s.has_found } → (s.has_found ≡ false → r.has_found ≡ false) → IsStill r s
+  pub still_asked : (r s : CaptureJournal W) → s ≡ record r { has_found = s.has_found } → (s.has_found ≡ false → r.has_found ≡ false) → IsStill r s
   still_asked r s is found = record {
     same = record {
-      terms = ap (λ (x : Journal W). x.terms) is;
-      lines = ap (λ (x : Journal W). x.lines) is;
-      dials = ap (λ (x : Journal W). x.dials.items) is;
-      status = ap (λ (x : Journal W). x.status) is;
+      terms = ap (λ (x : CaptureJournal W). x.terms) is;
+      lines = ap (λ (x : CaptureJournal W). x.lines) is;
+      dials = ap (λ (x : CaptureJournal W). x.dials.items) is;
+      status = ap (λ (x : CaptureJournal W). x.status) is;
       found = found;
     };
-    results = ap (λ (x : Journal W). x.results) is;
+    results = ap (λ (x : CaptureJournal W). x.results) is;
   }
 
-  pub same_printed : (r s : Journal W) → s ≡ record r { results = s.results } → IsSame r s
+  pub same_printed : (r s : CaptureJournal W) → s ≡ record r { results = s.results } → IsSame r s
   same_printed r s is = record {
-    terms = ap (λ (x : Journal W). x.terms) is;
-    lines = ap (λ (x : Journal W). x.lines) is;
-    dials = ap (λ (x : Journal W). x.dials.items) is;
-    status = ap (λ (x : Journal W). x.status) is;
-    found = λ e. sym (ap (λ (x : Journal W). x.has_found) is) ∙ e;
+    terms = ap (λ (x : CaptureJournal W). x.terms) is;
+    lines = ap (λ (x : CaptureJournal W). x.lines) is;
+    dials = ap (λ (x : CaptureJournal W). x.dials.items) is;
+    status = ap (λ (x : CaptureJournal W). x.status) is;
+    found = λ e. sym (ap (λ (x : CaptureJournal W). x.has_found) is) ∙ e;
   }
 
-  pub keeps_still : (r s : Journal W) → IsStill r s → GoesOn r s
+  pub keeps_still : (r s : CaptureJournal W) → IsStill r s → GoesOn r s
   keeps_still r s p = keeps_same r s p.same p.results
 
-  pub keeps_none : (r : Journal W) → r.dials.items ≡ [] → r.status ≡ 0 → (port : ℕ) → Keeps r.terms port [] r.lines.quiet r.results r
+  pub keeps_none : (r : CaptureJournal W) → r.dials.items ≡ [] → r.status ≡ 0 → (port : ℕ) → Keeps r.terms port [] r.lines.quiet r.results r
   keeps_none r dials status port = record {
     terms = refl;
     quiet = refl;

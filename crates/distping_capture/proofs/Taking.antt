@@ -8,7 +8,7 @@ use Rattle.dist_talk.specs.declared.terms.Terms.{Terms}
 use Rattle.distping_report.specs.Sinks.{SinkState}
 use Rattle.distping_capture.specs.Captures.{AreAll, EndsAll, EndsWith, FollowsAll, IsAt, ReadsIn, TakesIn, TakesInAll}
 use Rattle.distping_capture.specs.Printing.{PrintsOutcome}
-use Rattle.distping_capture.specs.declared.{connections.Connections.Connections, left_out.PacketsLeftOut.PacketsLeftOut}
+use Rattle.distping_capture.specs.declared.{connections.CapturedConnections.CapturedConnections, left_out.PacketsLeftOut.PacketsLeftOut}
 use Rattle.distping_capture.proofs.Counting.{exit_is}
 
 said_behind : (segments : List Segment) (s : Segment) → map view_of (segments ++ s ∷ []) ≡ map view_of segments ++ view_of s ∷ []
@@ -20,7 +20,7 @@ was_on : (r mid : Reading) (stream : List ℕ) (segments : List (ℕ × Said)) �
 was_on r mid stream segments was reads = subst (Was mid stream) (append-nil segments) (Asked r mid stream segments [] was reads)
 
 module _ {W : Type 0} where
-  pub took : (r mid later : Reading) (f e : Connections W) (s : Segment) → Reads r [] mid → EndsAt mid (Some (view_of s)) later → TakesInAll s f e → TakesIn r f later e
+  pub took : (r mid later : Reading) (f e : CapturedConnections W) (s : Segment) → Reads r [] mid → EndsAt mid (Some (view_of s)) later → TakesInAll s f e → TakesIn r f later e
   took r mid later f e s reads gives takes t port json old stream p =
       let one : Reads mid (view_of s ∷ []) later = Next mid later later (Some (view_of s)) [] (view_of s ∷ []) gives (Done later) refl in
       let was = Asked mid later stream (map view_of p.segments) (view_of s ∷ []) (was_on r mid stream (map view_of p.segments) p.was reads) one in
@@ -30,19 +30,19 @@ module _ {W : Type 0} where
         follows = takes t port p.segments json old p.follows;
       }
 
-  pub rests : (r mid later : Reading) (f : Connections W) → Reads r [] mid → EndsAt mid None later → TakesIn r f later f
+  pub rests : (r mid later : Reading) (f : CapturedConnections W) → Reads r [] mid → EndsAt mid None later → TakesIn r f later f
   rests r mid later f reads ends t port json old stream p =
       let was : Was later stream (map view_of p.segments) = subst (λ (x : Reading). Was x stream (map view_of p.segments)) (sym ends.1) (was_on r mid stream (map view_of p.segments) p.was reads) in
       record { segments = p.segments; was = was; follows = p.follows }
 
-  pub takes_then : (r s u : Reading) (f e k : Connections W) → TakesIn r f s e → TakesIn s e u k → TakesIn r f u k
+  pub takes_then : (r s u : Reading) (f e k : CapturedConnections W) → TakesIn r f s e → TakesIn s e u k → TakesIn r f u k
   takes_then r s u f e k p q t port json old stream w = q t port json old stream (p t port json old stream w)
 
   -- all segments of the bytes that were read are taken, and then a piece is read
-  pub reads_taken : (r s u : Reading) (f e k : Connections W) (bytes : List ℕ) → ReadsIn bytes r f s e → TakesIn s e u k → ReadsIn bytes r f u k
+  pub reads_taken : (r s u : Reading) (f e k : CapturedConnections W) (bytes : List ℕ) → ReadsIn bytes r f s e → TakesIn s e u k → ReadsIn bytes r f u k
   reads_taken r s u f e k bytes p q t port json old stream w = q t port json old (stream ++ bytes) (p t port json old stream w)
 
-  pub reads_fed : (r s fed : Reading) (f e : Connections W) (bytes piece : List ℕ) → ReadsIn bytes r f s e → fed ≡ with_bytes s piece → ReadsIn (bytes ++ piece) r f fed e
+  pub reads_fed : (r s fed : Reading) (f e : CapturedConnections W) (bytes piece : List ℕ) → ReadsIn bytes r f s e → fed ≡ with_bytes s piece → ReadsIn (bytes ++ piece) r f fed e
   reads_fed r s fed f e bytes piece p is t port json old stream w =
       let before = p t port json old stream w in
       let more : IsAt t port json old ((stream ++ bytes) ++ piece) (with_bytes s piece) e = record {
@@ -52,11 +52,11 @@ module _ {W : Type 0} where
       } in
       subst (λ (l : List ℕ). IsAt t port json old l fed e) (append_assoc stream bytes piece) (subst (λ (x : Reading). IsAt t port json old ((stream ++ bytes) ++ piece) x e) (sym is) more)
 
-  pub reads_none : (r : Reading) (f : Connections W) → ReadsIn [] r f r f
+  pub reads_none : (r : Reading) (f : CapturedConnections W) → ReadsIn [] r f r f
   reads_none r f t port json old stream p = subst (λ (l : List ℕ). IsAt t port json old l r f) (sym (append-nil stream)) p
 
   -- all of it was read, and all connections ended
-  pub read_ends : (t : Terms) (port : ℕ) (json : Bool) (r s : Reading) (f e : Connections W) (bytes : List ℕ) (old new : SinkState) (status : ℕ) (left_out : PacketsLeftOut) → FollowsAll t port [] json old f → r ≡ unread
+  pub read_ends : (t : Terms) (port : ℕ) (json : Bool) (r s : Reading) (f e : CapturedConnections W) (bytes : List ℕ) (old new : SinkState) (status : ℕ) (left_out : PacketsLeftOut) → FollowsAll t port [] json old f → r ≡ unread
       → ReadsIn bytes r f s e → whole s ≡ Ok None → left_out.counts ≡ s.counts → left_out.is_cut_off ≡ is_cut_off s → EndsAll left_out status e new → EndsWith t port json bytes old new status
   read_ends t port json r s f e bytes old new status left_out follows new_ reads no_more counts cut (last, finishes, goes) =
       let begun : IsAt t port json old [] r f = record { segments = []; was = subst (λ (x : Reading). Was x [] []) (sym new_) Opened; follows = follows } in

@@ -4,7 +4,7 @@ use Rattle.std.proofs.lemmas.{Fn.FoldsTo-push, List.Elements.All-nil, List.Eleme
 use Rattle.dist_capture.specs.declared.segment.Segment.{Segment}
 use Rattle.dist_talk.specs.declared.{terms.Terms.Terms, verdict.HandshakeVerdict.HandshakeVerdict}
 use Rattle.dist_conversation.specs.Conversations.{Goes, IsBetween, Takes, begun, is_from_dialler}
-use Rattle.dist_conversation.specs.declared.{carried.Judged.Judged, conversation.Conversation.Conversation}
+use Rattle.dist_conversation.specs.declared.{carried.Conclusion.Conclusion, conversation.Conversation.Conversation}
 use Rattle.dist_conversation.proofs.Ports.{between_taken}
 use Rattle.distping_capture.specs.Captures.{IsGiven, IsJudged, IsOf, IsOfOrNew, IsPart, Leaves, NoPart, Shares}
 
@@ -55,7 +55,7 @@ of_taken port segments s c e between takes (inr new) = record {
 pub of_more : (port : ℕ) (segments : List Segment) (s : Segment) (c : Conversation) → IsOf port segments c → IsOf port (segments ++ s ∷ []) c
 of_more port segments s c p = record { talk = p.talk; part = part_more p.talk segments s p.part; between = p.between; is = p.is }
 
-pub judged_more : (t : Terms) (port : ℕ) (segments : List Segment) (s : Segment) (c : Conversation) (now : ℕ) (j : Judged) → IsJudged t port segments c now j → IsJudged t port (segments ++ s ∷ []) c now j
+pub judged_more : (t : Terms) (port : ℕ) (segments : List Segment) (s : Segment) (c : Conversation) (now : ℕ) (j : Conclusion) → IsJudged t port segments c now j → IsJudged t port (segments ++ s ∷ []) c now j
 judged_more t port segments s c now j p = record { of = of_more port segments s c p.of; carried = p.carried; verdict = p.verdict }
 
 pub given_more : (t : Terms) (port : ℕ) (segments : List Segment) (s : Segment) (v : HandshakeVerdict) → IsGiven t port segments v → IsGiven t port (segments ++ s ∷ []) v
@@ -65,12 +65,12 @@ some_more : (t : Terms) (port : ℕ) (segments : List Segment) (s : Segment) (o 
 some_more t port segments s None p = tt
 some_more t port segments s (Some v) p = given_more t port segments s v p
 
-pub judged_given_more : (t : Terms) (port : ℕ) (segments : List Segment) (s : Segment) (o : Option Judged) → IfSome o (λ j. IfSome j.verdict (IsGiven t port segments))
+pub judged_given_more : (t : Terms) (port : ℕ) (segments : List Segment) (s : Segment) (o : Option Conclusion) → IfSome o (λ j. IfSome j.verdict (IsGiven t port segments))
     → IfSome o (λ j. IfSome j.verdict (IsGiven t port (segments ++ s ∷ [])))
 judged_given_more t port segments s None p = tt
 judged_given_more t port segments s (Some j) p = some_more t port segments s j.verdict p
 
-pub given_of : (t : Terms) (port : ℕ) (segments : List Segment) (c : Conversation) (now : ℕ) (j : Judged) → IsJudged t port segments c now j → IfSome j.verdict (IsGiven t port segments)
+pub given_of : (t : Terms) (port : ℕ) (segments : List Segment) (c : Conversation) (now : ℕ) (j : Conclusion) → IsJudged t port segments c now j → IfSome j.verdict (IsGiven t port segments)
 given_of t port segments c now j p = by j.verdict refl where
   by : (o : Option HandshakeVerdict) → j.verdict ≡ o → IfSome o (IsGiven t port segments)
   by None e = tt

@@ -10,11 +10,12 @@ use Rattle.dist_talk.specs.{Words.status_of, declared.verdict.HandshakeVerdict.H
 use Rattle.distping_report.specs.Sinks.{SinkState}
 use Rattle.dist_conversation.specs.Conversations.{IsBetween, IsConversation, begun, ended_or}
 use Rattle.dist_conversation.specs.Verdicts.{CarriesAtEnd, IsDueAs, name_said, verdict_on}
-use Rattle.dist_conversation.specs.declared.{carried.Judged.Judged, conversation.Conversation.Conversation, judge.OtherEnd.OtherEnd}
+use Rattle.dist_conversation.specs.declared.{carried.Conclusion.Conclusion, conversation.Conversation.Conversation, judge.OtherEnd.OtherEnd}
 use Rattle.distping_capture.specs.Crossings.{Meets}
 use Rattle.distping_capture.specs.Printing.{PrintsOne, PrintsOutcome, PrintsText}
-use Rattle.distping_capture.specs.declared.{connections.Connection.Connection, connections.Connections.Connections, dials.PastDial.PastDial}
-use Rattle.distping_capture.specs.declared.{journal.Journal.Journal, left_out.PacketsLeftOut.PacketsLeftOut}
+use Rattle.distping_capture.specs.declared.{connections.CapturedConnection.CapturedConnection, dials.PastDial.PastDial}
+use Rattle.distping_capture.specs.declared.connections.CapturedConnections.{CapturedConnections}
+use Rattle.distping_capture.specs.declared.{journal.CaptureJournal.CaptureJournal, left_out.PacketsLeftOut.PacketsLeftOut}
 
 -- some of these segments, in their order
 pub data IsPart : List Segment → List Segment → Type 0 where
@@ -30,11 +31,11 @@ pub record IsOf (port : ℕ) (segments : List Segment) (c : Conversation) : Type
   pub is : IsConversation port talk c
 
 -- it was due when it was judged, or at its end, of which this is the time
-abbrev pub IsWhen : Terms → Conversation → ℕ → Judged → Type 0
+abbrev pub IsWhen : Terms → Conversation → ℕ → Conclusion → Type 0
 IsWhen t c now j = IsDueAs c.shown t c j.carried ⊎ ((other : OtherEnd) × CarriesAtEnd t other c now j.carried)
 
 -- THIS CONVERSATION WAS JUDGED SO: what it carried is what its segments show; and the verdict is that on what it carried.
-pub record IsJudged (t : Terms) (port : ℕ) (segments : List Segment) (c : Conversation) (now : ℕ) (j : Judged) : Type 0 where
+pub record IsJudged (t : Terms) (port : ℕ) (segments : List Segment) (c : Conversation) (now : ℕ) (j : Conclusion) : Type 0 where
   pub of : IsOf port segments c
   pub carried : IsWhen t c now j
   pub verdict : j.verdict ≡ verdict_on t c.is_at_mapper j.carried
@@ -43,12 +44,12 @@ pub record IsJudged (t : Terms) (port : ℕ) (segments : List Segment) (c : Conv
 pub record IsGiven (t : Terms) (port : ℕ) (segments : List Segment) (v : HandshakeVerdict) : Type 0 where
   pub seen : Conversation
   pub now : ℕ
-  pub judged : Judged
+  pub judged : Conclusion
   pub is : IsJudged t port segments seen now judged
   pub verdict : judged.verdict ≡ Some v
 
 -- AN ATTEMPT of this conversation, which came up or ended by this time: it has the name that was said, and counts by the verdict's status
-pub record IsAttempt (c : Conversation) (now : ℕ) (j : Judged) (attempt : PastDial) : Type 0 where
+pub record IsAttempt (c : Conversation) (now : ℕ) (j : Conclusion) (attempt : PastDial) : Type 0 where
   pub verdict : j.verdict ≡ Some attempt.verdict
   pub exit : attempt.exit ≡ status_of attempt.verdict
   pub name : attempt.name ≡ name_said Dialler j.carried
@@ -59,7 +60,7 @@ pub record IsAttempt (c : Conversation) (now : ℕ) (j : Judged) (attempt : Past
 pub data History (t : Terms) (port : ℕ) (segments : List Segment) : List PastDial → Type 0 where
   NoAttempt : History t port segments []
   NextAttempt : (earlier before : List PastDial) → History t port segments (earlier ++ before) → (attempt : PastDial)
-      → (c : Conversation) (now : ℕ) (j : Judged) → IsJudged t port segments c now j → IsAttempt c now j attempt
+      → (c : Conversation) (now : ℕ) (j : Conclusion) → IsJudged t port segments c now j → IsAttempt c now j attempt
       → (left : PastDial) (others : List PastDial) → Meets attempt before left others → History t port segments (earlier ++ (others ++ left ∷ []))
 
 -- THE EXIT STATUS: the first that is not 0 of the attempts; 12 if nothing was found
@@ -105,17 +106,17 @@ pub record EndsWith (t : Terms) (port : ℕ) (json : Bool) (bytes : List ℕ) (o
 
 module _ {W : Type 0} where
   -- THE JOURNAL STANDS FOR THESE ATTEMPTS: the latest are remembered, of the earlier ones the first status that is not 0
-  pub record StandsFor (r : Journal W) (attempts : List PastDial) : Type 0 where
+  pub record StandsFor (r : CaptureJournal W) (attempts : List PastDial) : Type 0 where
     pub earlier : List PastDial
     pub all : attempts ≡ earlier ++ r.dials.items
     pub status : r.status ≡ first_exit earlier
     pub nothing : r.has_found ≡ false → attempts ≡ []
 
-  abbrev pub exit_now : Journal W → ℕ
+  abbrev pub exit_now : CaptureJournal W → ℕ
   exit_now r = if r.has_found then (if r.status == 0 then first_exit r.dials.items else r.status) else 12
 
   -- an attempt was added; of it and of those that are remembered the ones count no more that gave way to another
-  pub record Adds (attempt : PastDial) (r s : Journal W) : Type 0 where
+  pub record Adds (attempt : PastDial) (r s : CaptureJournal W) : Type 0 where
     pub left : PastDial
     pub others : List PastDial
     pub meets : Meets attempt r.dials.items left others
@@ -123,13 +124,13 @@ module _ {W : Type 0} where
     pub same : (s.results ≡ r.results) × (s.terms ≡ r.terms) × (s.lines ≡ r.lines)
 
   -- the same of a conversation that was judged so
-  pub record AddsOf (c : Conversation) (now : ℕ) (j : Judged) (r s : Journal W) : Type 0 where
+  pub record AddsOf (c : Conversation) (now : ℕ) (j : Conclusion) (r s : CaptureJournal W) : Type 0 where
     pub attempt : PastDial
     pub is : IsAttempt c now j attempt
     pub adds : Adds attempt r s
 
   -- THE JOURNAL HAS ALL ATTEMPTS of these segments that were judged, and all verdicts were printed that were due
-  pub record Keeps (t : Terms) (port : ℕ) (segments : List Segment) (json : Bool) (old : SinkState) (r : Journal W) : Type 0 where
+  pub record Keeps (t : Terms) (port : ℕ) (segments : List Segment) (json : Bool) (old : SinkState) (r : CaptureJournal W) : Type 0 where
     pub terms : r.terms ≡ t
     pub quiet : r.lines.quiet ≡ json
     pub attempts : List PastDial
@@ -138,15 +139,16 @@ module _ {W : Type 0} where
     pub printed : PrintsAll json t port segments attempts old r.results
 
   -- it goes on so, of the same segments
-  abbrev pub GoesOn : Journal W → Journal W → Type 0
-  GoesOn r s = (t : Terms) (port : ℕ) (segments : List Segment) (json : Bool) (old : SinkState) → Keeps t port segments json old r → Keeps t port segments json old s
+  abbrev pub GoesOn : CaptureJournal W → CaptureJournal W → Type 0
+  GoesOn r s = (t : Terms) (port : ℕ) (segments : List Segment) (json : Bool) (old : SinkState)
+      → Keeps t port segments json old r → Keeps t port segments json old s
 
   -- the same, if this conversation was judged so; or if this verdict was given
-  abbrev pub GoesOnBy : Conversation → ℕ → Judged → Journal W → Journal W → Type 0
+  abbrev pub GoesOnBy : Conversation → ℕ → Conclusion → CaptureJournal W → CaptureJournal W → Type 0
   GoesOnBy c now j r s = (t : Terms) (port : ℕ) (segments : List Segment) (json : Bool) (old : SinkState)
       → IsJudged t port segments c now j → Keeps t port segments json old r → Keeps t port segments json old s
 
-  abbrev pub GoesOnOf : Option HandshakeVerdict → Journal W → Journal W → Type 0
+  abbrev pub GoesOnOf : Option HandshakeVerdict → CaptureJournal W → CaptureJournal W → Type 0
   GoesOnOf given r s = (t : Terms) (port : ℕ) (segments : List Segment) (json : Bool) (old : SinkState)
       → IfSome given (IsGiven t port segments) → Keeps t port segments json old r → Keeps t port segments json old s
 
@@ -157,80 +159,83 @@ abbrev pub IsOfOrNew : ℕ → List Segment → Segment → Conversation → Typ
 IsOfOrNew port segments s c = IsOf port segments c ⊎ (c ≡ begun port s)
 
 -- A CONNECTION IS FOLLOWED: until it is judged it is a conversation of these segments; then its verdict was given
-pub record Follows (t : Terms) (port : ℕ) (segments : List Segment) (c : Connection) : Type 0 where
+pub record Follows (t : Terms) (port : ℕ) (segments : List Segment) (c : CapturedConnection) : Type 0 where
   pub open_ : c.judged ≡ None → c.is_over ≡ false → IsOf port segments c.seen
   pub given : IfSome c.judged (λ j. IfSome j.verdict (IsGiven t port segments))
 
 -- the same of one that this segment may begin
-pub record Awaits (t : Terms) (port : ℕ) (segments : List Segment) (s : Segment) (c : Connection) : Type 0 where
+pub record Awaits (t : Terms) (port : ℕ) (segments : List Segment) (s : Segment) (c : CapturedConnection) : Type 0 where
   pub between : IsBetween c.seen s
   pub open_ : c.judged ≡ None → c.is_over ≡ false → IsOfOrNew port segments s c.seen
   pub given : IfSome c.judged (λ j. IfSome j.verdict (IsGiven t port segments))
 
 module _ {W : Type 0} where
   -- what is followed, and what the journal has
-  pub record Has (t : Terms) (port : ℕ) (segments : List Segment) (json : Bool) (old : SinkState) (r : Journal W) (c : Connection) : Type 0 where
+  pub record Has (t : Terms) (port : ℕ) (segments : List Segment) (json : Bool) (old : SinkState) (r : CaptureJournal W) (c : CapturedConnection) : Type 0 where
     pub keeps : Keeps t port segments json old r
     pub follows : Follows t port segments c
 
   -- a connection ends
-  abbrev pub Ends : Connection → Connection → Journal W → Journal W → Type 0
+  abbrev pub Ends : CapturedConnection → CapturedConnection → CaptureJournal W → CaptureJournal W → Type 0
   Ends c e r s = (t : Terms) (port : ℕ) (segments : List Segment) (json : Bool) (old : SinkState)
       → Follows t port segments c → Keeps t port segments json old r → Has t port segments json old s e
 
   -- it ends if this segment begins another one between the same ports
-  abbrev pub Renews : Segment → ℕ → Connection → Connection → Journal W → Journal W → Type 0
+  abbrev pub Renews : Segment → ℕ → CapturedConnection → CapturedConnection → CaptureJournal W → CaptureJournal W → Type 0
   Renews next port c e r s = (t : Terms) (segments : List Segment) (json : Bool) (old : SinkState)
-      → IsBetween c.seen next → Follows t port segments c → Keeps t port segments json old r → Keeps t port segments json old s × Awaits t port segments next e
+      → IsBetween c.seen next → Follows t port segments c → Keeps t port segments json old r
+      → Keeps t port segments json old s × Awaits t port segments next e
 
   -- it takes a segment
-  abbrev pub TakesNext : Segment → Connection → Connection → Journal W → Journal W → Type 0
+  abbrev pub TakesNext : Segment → CapturedConnection → CapturedConnection → CaptureJournal W → CaptureJournal W → Type 0
   TakesNext next c e r s = (t : Terms) (port : ℕ) (segments : List Segment) (json : Bool) (old : SinkState)
       → Awaits t port segments next c → Keeps t port segments json old r → Has t port (segments ++ next ∷ []) json old s e
 
   -- ALL CONNECTIONS ARE FOLLOWED
-  pub record FollowsAll (t : Terms) (port : ℕ) (segments : List Segment) (json : Bool) (old : SinkState) (f : Connections W) : Type 0 where
+  pub record FollowsAll (t : Terms) (port : ℕ) (segments : List Segment) (json : Bool) (old : SinkState) (f : CapturedConnections W) : Type 0 where
     pub port_is : f.mapper_port ≡ port
     pub keeps : Keeps t port segments json old f.journal
     pub each : All (λ b. Follows t port segments b.value) f.connections.items
 
   -- the connection at this place is between the two ports of this segment
-  abbrev pub IsPlaceOf : Segment → Connections W → ℕ → Type 0
+  abbrev pub IsPlaceOf : Segment → CapturedConnections W → ℕ → Type 0
   IsPlaceOf s f place = IfSome (slice_get f.connections.items place) (λ b. IsBetween b.value.seen s)
 
-  abbrev pub GoesOnAll : Connections W → Connections W → Type 0
+  abbrev pub GoesOnAll : CapturedConnections W → CapturedConnections W → Type 0
   GoesOnAll f g = (t : Terms) (port : ℕ) (segments : List Segment) (json : Bool) (old : SinkState)
       → FollowsAll t port segments json old f → FollowsAll t port segments json old g
 
-  abbrev pub TakesInAll : Segment → Connections W → Connections W → Type 0
+  abbrev pub TakesInAll : Segment → CapturedConnections W → CapturedConnections W → Type 0
   TakesInAll next f g = (t : Terms) (port : ℕ) (segments : List Segment) (json : Bool) (old : SinkState)
       → FollowsAll t port segments json old f → FollowsAll t port (segments ++ next ∷ []) json old g
 
   -- ---- the reader
 
   -- of these bytes, which were read, all segments were taken that the reader returned
-  pub record IsAt (t : Terms) (port : ℕ) (json : Bool) (old : SinkState) (stream : List ℕ) (reading : Reading) (f : Connections W) : Type 0 where
+  pub record IsAt (t : Terms) (port : ℕ) (json : Bool) (old : SinkState) (stream : List ℕ) (reading : Reading) (f : CapturedConnections W) : Type 0 where
     pub segments : List Segment
     pub was : Was reading stream (map view_of segments)
     pub follows : FollowsAll t port segments json old f
 
   -- segments were taken
-  abbrev pub TakesIn : Reading → Connections W → Reading → Connections W → Type 0
-  TakesIn r f s g = (t : Terms) (port : ℕ) (json : Bool) (old : SinkState) (stream : List ℕ) → IsAt t port json old stream r f → IsAt t port json old stream s g
+  abbrev pub TakesIn : Reading → CapturedConnections W → Reading → CapturedConnections W → Type 0
+  TakesIn r f s g = (t : Terms) (port : ℕ) (json : Bool) (old : SinkState) (stream : List ℕ)
+      → IsAt t port json old stream r f → IsAt t port json old stream s g
 
   -- these bytes were read, and segments taken
-  abbrev pub ReadsIn : List ℕ → Reading → Connections W → Reading → Connections W → Type 0
+  abbrev pub ReadsIn : List ℕ → Reading → CapturedConnections W → Reading → CapturedConnections W → Type 0
   ReadsIn bytes r f s g = (t : Terms) (port : ℕ) (json : Bool) (old : SinkState) (stream : List ℕ)
       → IsAt t port json old stream r f → IsAt t port json old (stream ++ bytes) s g
 
   -- THE EXIT STATUS OF ALL, and what is printed at the end
-  pub record Finishes (left_out : PacketsLeftOut) (status : ℕ) (r : Journal W) (printed : SinkState) : Type 0 where
+  pub record Finishes (left_out : PacketsLeftOut) (status : ℕ) (r : CaptureJournal W) (printed : SinkState) : Type 0 where
     pub exit : status ≡ exit_now r
     pub outcome : PrintsOutcome r.lines.quiet r.has_found left_out status r.results printed
 
-  abbrev pub EndsAll : PacketsLeftOut → ℕ → Connections W → SinkState → Type 0
-  EndsAll left_out status f printed = (r : Journal W) × Finishes left_out status r printed
-      × ((t : Terms) (port : ℕ) (segments : List Segment) (json : Bool) (old : SinkState) → FollowsAll t port segments json old f → Keeps t port segments json old r)
+  abbrev pub EndsAll : PacketsLeftOut → ℕ → CapturedConnections W → SinkState → Type 0
+  EndsAll left_out status f printed = (r : CaptureJournal W) × Finishes left_out status r printed
+      × ((t : Terms) (port : ℕ) (segments : List Segment) (json : Bool) (old : SinkState)
+      → FollowsAll t port segments json old f → Keeps t port segments json old r)
 
 -- these are all bytes that a reader had, where those are known
 abbrev pub AreAll : Option (List ℕ) → List ℕ → Type 0

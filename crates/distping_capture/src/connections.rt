@@ -8,10 +8,10 @@ ghost use Rattle.distping_capture.specs.Captures.{Ends, EndsAll, Follows, Follow
 ghost use Rattle.distping_capture.specs.declared.left_out.PacketsLeftOut.{PacketsLeftOut};
 ghost use Rattle.distping_report.specs.Sinks.{SinkState};
 
-use crate::journal::Journal;
+use crate::journal::CaptureJournal;
 use crate::left_out::PacketsLeftOut;
 use dist_capture::{Segment, SkippedCounts};
-use dist_conversation::{Carried, Conversation, Judged, judge_at_end, judge_now};
+use dist_conversation::{Carried, Conclusion, Conversation, judge_at_end, judge_now};
 use dist_talk::Terms;
 use distping_report::{LineSink, ResultSink};
 use distping_words::Fault;
@@ -24,21 +24,21 @@ const MOST_CONNECTIONS: usize = 1024;
 
 /// A connection: its conversation, what that came to, once it was judged, and whether all was printed that there is to say of it.
 #[derive(Drop)]
-pub struct Connection {
+pub struct CapturedConnection {
     seen: Conversation,
-    judged: Option<Judged>,
+    judged: Option<Conclusion>,
     is_over: bool,
     // Whether the verdict rests on how it ended, and no segment has left that in doubt.
     rests_on_end: bool,
 }
 
-impl Connection {
+impl CapturedConnection {
     // The connection that this segment begins, which was not taken yet.
-    fn new(alloc: Global, segment: &Segment, mapper_port: u16) -> Connection
+    fn new(alloc: Global, segment: &Segment, mapper_port: u16) -> CapturedConnection
         ensures seen { result.seen ≡ begun mapper_port segment.now }
         ensures open_ { (result.judged ≡ None) × (result.is_over ≡ false) }
     {
-        Connection {
+        CapturedConnection {
             seen: Conversation::new(alloc, segment, mapper_port),
             judged: None,
             is_over: false,
@@ -47,7 +47,7 @@ impl Connection {
     }
 
     // Whether it is forgotten before another one: it ended, and the other one did not; or both did or neither, and it was quiet for longer.
-    fn is_older(&self, other: &Connection) -> bool {
+    fn is_older(&self, other: &CapturedConnection) -> bool {
         if self.is_over == other.is_over {
             self.seen.latest < other.seen.latest
         } else {
@@ -58,8 +58,8 @@ impl Connection {
     // It is judged so: that is printed, and no more is read.
     fn note<W: Write>(
         &mut self,
-        journal: &mut Journal<'_, W>,
-        judged: Judged,
+        journal: &mut CaptureJournal<'_, W>,
+        judged: Conclusion,
         now: u64,
     ) -> Result<(), Fault>
         ensures keeps { OnOk result (GoesOnBy self.old.seen now judged journal.old journal.new) }
@@ -75,7 +75,11 @@ impl Connection {
     }
 
     // It is judged, if it is due.
-    fn judge_open<W: Write>(&mut self, journal: &mut Journal<'_, W>, now: u64) -> Result<(), Fault>
+    fn judge_open<W: Write>(
+        &mut self,
+        journal: &mut CaptureJournal<'_, W>,
+        now: u64,
+    ) -> Result<(), Fault>
         ensures { OnOk result (self.old.is_over ≡ false → Ends self.old self.new journal.old journal.new) }
     {
         if self.judged.is_some() {
@@ -88,7 +92,11 @@ impl Connection {
     }
 
     // It is judged at its end, unless it was before.
-    fn judge_last<W: Write>(&mut self, journal: &mut Journal<'_, W>, now: u64) -> Result<(), Fault>
+    fn judge_last<W: Write>(
+        &mut self,
+        journal: &mut CaptureJournal<'_, W>,
+        now: u64,
+    ) -> Result<(), Fault>
         ensures { OnOk result (self.old.is_over ≡ false → Ends self.old self.new journal.old journal.new) }
     {
         if self.judged.is_some() {
@@ -101,7 +109,11 @@ impl Connection {
     }
 
     // Prints how it ended, and returns whether the verdict rests on that.
-    fn put_end<W: Write>(&self, journal: &mut Journal<'_, W>, now: u64) -> Result<bool, Fault>
+    fn put_end<W: Write>(
+        &self,
+        journal: &mut CaptureJournal<'_, W>,
+        now: u64,
+    ) -> Result<bool, Fault>
         ensures { OnOk result ((t : Terms) (port : ℕ) (segments : List Segment) (json : Bool) (old : SinkState)
             → Follows t port segments self.now → Keeps t port segments json old journal.old → Keeps t port segments json old journal.new) }
     {
@@ -113,7 +125,7 @@ impl Connection {
     }
 
     // Prints what there is to say of it at its end, once: it is judged, unless it was before. What was said on it is then forgotten.
-    fn end<W: Write>(&mut self, journal: &mut Journal<'_, W>, now: u64) -> Result<(), Fault>
+    fn end<W: Write>(&mut self, journal: &mut CaptureJournal<'_, W>, now: u64) -> Result<(), Fault>
         ensures { OnOk result (Ends self.old self.new journal.old journal.new) }
     {
         if self.is_over {
@@ -129,7 +141,7 @@ impl Connection {
     // Takes a segment behind its end: a copy of a packet, or bytes that leave the verdict in doubt.
     fn take_late<W: Write>(
         &mut self,
-        journal: &Journal<'_, W>,
+        journal: &CaptureJournal<'_, W>,
         segment: &Segment,
     ) -> Result<(), Fault>
         ensures { OnOk result (self.new ≡ record self.old { rests_on_end = self.new.rests_on_end }) }
@@ -145,7 +157,7 @@ impl Connection {
     // Notes the host of a segment, if it is the first of its side.
     fn note_host<W: Write>(
         &self,
-        journal: &mut Journal<'_, W>,
+        journal: &mut CaptureJournal<'_, W>,
         segment: &Segment,
     ) -> Result<(), Fault>
         ensures { OnOk result (journal.new ≡ record journal.old { hosts = journal.new.hosts }) }
@@ -160,7 +172,7 @@ impl Connection {
     fn is_at_end(&self) -> bool {
         let is_nothing = matches!(
             &self.judged,
-            Some(Judged {
+            Some(Conclusion {
                 carried: Carried::Nothing,
                 ..
             },)
@@ -171,7 +183,7 @@ impl Connection {
     // It ends, if it does with the segment that was taken.
     fn end_if_finished<W: Write>(
         &mut self,
-        journal: &mut Journal<'_, W>,
+        journal: &mut CaptureJournal<'_, W>,
         now: u64,
     ) -> Result<(), Fault>
         ensures { OnOk result (Ends self.old self.new journal.old journal.new) }
@@ -185,7 +197,7 @@ impl Connection {
     // Takes a segment of it. It ends with it, or is judged, if it is due.
     fn take<W: Write>(
         &mut self,
-        journal: &mut Journal<'_, W>,
+        journal: &mut CaptureJournal<'_, W>,
         segment: &Segment,
     ) -> Result<(), Fault>
         ensures { OnOk result (TakesNext segment.now self.old self.new journal.old journal.new) }
@@ -203,7 +215,7 @@ impl Connection {
     // in the capture.
     fn renew<W: Write>(
         &mut self,
-        journal: &mut Journal<'_, W>,
+        journal: &mut CaptureJournal<'_, W>,
         segment: &Segment,
         mapper_port: u16,
     ) -> Result<(), Fault>
@@ -214,37 +226,37 @@ impl Connection {
         }
         let latest = self.seen.latest;
         self.end(journal, latest)?;
-        *self = Connection::new(journal.lines.alloc, segment, mapper_port);
+        *self = CapturedConnection::new(journal.lines.alloc, segment, mapper_port);
         Ok(())
     }
 }
 
 /// All connections.
 #[derive(Drop)]
-pub struct Connections<'x, W: Write> {
-    journal: Journal<'x, W>,
+pub struct CapturedConnections<'x, W: Write> {
+    journal: CaptureJournal<'x, W>,
     // The port of port mappers.
     mapper_port: u16,
     // Those that are open, and those that ended and were not forgotten: so a late copy of a packet begins none. The oldest first.
-    connections: Vec<Box<Connection>>,
+    connections: Vec<Box<CapturedConnection>>,
     // The time of the latest segment.
     latest: u64,
     // How many were forgotten that were open.
     forgotten: u64,
 }
 
-impl<'x, W: Write> Connections<'x, W> {
+impl<'x, W: Write> CapturedConnections<'x, W> {
     /// Nothing was seen. The texts of verdicts go to `results`.
     pub fn new(
         lines: LineSink<'x>,
         terms: Terms<'x>,
         mapper_port: u16,
         results: ResultSink<W>,
-    ) -> Connections<'x, W>
+    ) -> CapturedConnections<'x, W>
         ensures { FollowsAll terms.entry mapper_port [] lines.entry.quiet results result }
     {
-        Connections {
-            journal: Journal::new(lines, terms, results),
+        CapturedConnections {
+            journal: CaptureJournal::new(lines, terms, results),
             mapper_port,
             connections: Vec::new(lines.alloc),
             latest: 0,
@@ -327,7 +339,7 @@ impl<'x, W: Write> Connections<'x, W> {
         ensures { OnOk result (TakesInAll segment.now self.old self.new) }
     {
         let alloc = self.journal.lines.alloc;
-        let mut connection = Connection::new(alloc, segment, self.mapper_port);
+        let mut connection = CapturedConnection::new(alloc, segment, self.mapper_port);
         connection.take(&mut self.journal, segment)?;
         let made = Box::new(alloc, connection)?;
         self.connections.push(made)?;

@@ -16,7 +16,7 @@ use crate::objects::{attempt_object, capture_object, doubt_object, mapper_object
 use crate::say::say;
 use crate::summary::{count_all, put_pairs};
 use dist_capture::{Endpoint, Segment};
-use dist_conversation::{Conversation, Judged, OtherEnd};
+use dist_conversation::{Conclusion, Conversation, OtherEnd};
 use dist_epmd::{Answer, Request};
 use dist_messages::Side;
 use dist_names::ByteString;
@@ -40,7 +40,7 @@ const STOPPED: &str =
 
 /// Prints, and remembers.
 #[derive(Drop)]
-pub struct Journal<'x, W: Write> {
+pub struct CaptureJournal<'x, W: Write> {
     /// Where lines are printed; if they are left out, objects are.
     pub lines: LineSink<'x>,
     /// Where the texts of verdicts are printed, or their objects.
@@ -72,13 +72,17 @@ fn first_exit(dials: &[PastDial]) -> u8
     }
 }
 
-impl<'x, W: Write> Journal<'x, W> {
+impl<'x, W: Write> CaptureJournal<'x, W> {
     /// Nothing is remembered.
-    pub fn new(lines: LineSink<'x>, terms: Terms<'x>, results: ResultSink<W>) -> Journal<'x, W>
+    pub fn new(
+        lines: LineSink<'x>,
+        terms: Terms<'x>,
+        results: ResultSink<W>,
+    ) -> CaptureJournal<'x, W>
         ensures { (port : ℕ) → Keeps terms.entry port [] lines.entry.quiet results result }
     {
         let alloc = lines.alloc;
-        Journal {
+        CaptureJournal {
             lines,
             results,
             terms,
@@ -179,7 +183,7 @@ impl<'x, W: Write> Journal<'x, W> {
     fn note_names(
         &mut self,
         seen: &Conversation,
-        judged: &Judged,
+        judged: &Conclusion,
     ) -> Result<(ByteString, ByteString), Fault>
         ensures rest { OnOk result (self.new ≡ record self.old { nodes = self.new.nodes }) }
         ensures name { IfOk result (λ names. names.0 ≡ name_said Dialler judged.now.carried) }
@@ -200,7 +204,7 @@ impl<'x, W: Write> Journal<'x, W> {
     fn note_attempt(
         &mut self,
         seen: &Conversation,
-        judged: &Judged,
+        judged: &Conclusion,
         verdict: HandshakeVerdict,
         now: u64,
     ) -> Result<(), Fault>
@@ -226,7 +230,7 @@ impl<'x, W: Write> Journal<'x, W> {
     fn put_verdict(
         &mut self,
         seen: &Conversation,
-        judged: &Judged,
+        judged: &Conclusion,
         verdict: HandshakeVerdict,
     ) -> Result<(), Fault>
         ensures rest { OnOk result (self.new ≡ record self.old { results = self.new.results }) }
@@ -249,7 +253,7 @@ impl<'x, W: Write> Journal<'x, W> {
     }
 
     // Remembers the node that a port mapper found, if it did.
-    fn note_found(&mut self, seen: &Conversation, judged: &Judged) -> Result<(), AllocError>
+    fn note_found(&mut self, seen: &Conversation, judged: &Conclusion) -> Result<(), AllocError>
         ensures { OnOk result (self.new ≡ record self.old { nodes = self.new.nodes }) }
     {
         let Some(talk) = judged.talk() else {
@@ -264,7 +268,7 @@ impl<'x, W: Write> Journal<'x, W> {
     }
 
     // Notes that something was found, if a port mapper was asked anything.
-    fn note_asked(&mut self, judged: &Judged)
+    fn note_asked(&mut self, judged: &Conclusion)
         ensures rest { self.new ≡ record self.old { has_found = self.new.has_found } }
         ensures found { self.new.has_found ≡ false → self.old.has_found ≡ false }
     {
@@ -274,7 +278,7 @@ impl<'x, W: Write> Journal<'x, W> {
     }
 
     /// Prints what a conversation came to that is judged now, and remembers it.
-    pub fn note(&mut self, seen: &Conversation, judged: &Judged, now: u64) -> Result<(), Fault>
+    pub fn note(&mut self, seen: &Conversation, judged: &Conclusion, now: u64) -> Result<(), Fault>
         ensures { OnOk result (GoesOnBy seen.now now judged.now self.old self.new) }
     {
         let lines = self.lines;
@@ -291,7 +295,7 @@ impl<'x, W: Write> Journal<'x, W> {
     // ---- the end of a conversation
 
     // Prints that a registration ended with its connection, and whether an attempt did so at once.
-    fn put_unregistered(&mut self, seen: &Conversation, judged: &Judged) -> Result<(), Fault>
+    fn put_unregistered(&mut self, seen: &Conversation, judged: &Conclusion) -> Result<(), Fault>
         ensures { OnOk result (self.new ≡ record self.old { unregistered = self.new.unregistered }) }
     {
         if let Some((port, at)) = judged.lost_registration(seen)
@@ -308,7 +312,7 @@ impl<'x, W: Write> Journal<'x, W> {
     }
 
     // Prints how a connection ended that came up.
-    fn put_end(&mut self, seen: &Conversation, judged: &Judged, now: u64) -> Result<(), Fault>
+    fn put_end(&mut self, seen: &Conversation, judged: &Conclusion, now: u64) -> Result<(), Fault>
         ensures { OnOk result (self.new ≡ record self.old { nodes = self.new.nodes }) }
     {
         let Some(up_at) = judged.up_since() else {
@@ -320,7 +324,12 @@ impl<'x, W: Write> Journal<'x, W> {
     }
 
     // Prints the object of an attempt, which is no talk with a port mapper.
-    fn put_object(&mut self, seen: &Conversation, judged: &Judged, now: u64) -> Result<(), Fault>
+    fn put_object(
+        &mut self,
+        seen: &Conversation,
+        judged: &Conclusion,
+        now: u64,
+    ) -> Result<(), Fault>
         ensures rest { OnOk result (self.new ≡ record self.old { results = self.new.results }) }
         ensures prints { OnOk result (PrintsEnd self.old.lines.quiet (is_talk judged.now.carried) judged.now.verdict self.old.results self.new.results) }
     {
@@ -337,7 +346,7 @@ impl<'x, W: Write> Journal<'x, W> {
 
     /// Prints how a conversation ended by this time, which was judged: of one that came up, or was the registration of a node, lines; and the
     /// object of an attempt.
-    pub fn end(&mut self, seen: &Conversation, judged: &Judged, now: u64) -> Result<(), Fault>
+    pub fn end(&mut self, seen: &Conversation, judged: &Conclusion, now: u64) -> Result<(), Fault>
         ensures { OnOk result (GoesOnOf judged.now.verdict self.old self.new) }
     {
         self.put_end(seen, judged, now)?;

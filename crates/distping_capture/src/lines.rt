@@ -7,7 +7,7 @@ ghost use Rattle.distping_report.specs.Texts.{mark_of};
 
 use crate::dials::PastDial;
 use crate::say::say;
-use dist_conversation::{Carried, Conversation, Judged, MapperTalk, is_long, registration_of};
+use dist_conversation::{Carried, Conclusion, Conversation, MapperTalk, is_long, registration_of};
 use dist_epmd::{Answer, NodeInfo, Request};
 use dist_epmd_calls::LookupError;
 use dist_frames::first_body;
@@ -120,7 +120,7 @@ impl Sheet<'_, '_> {
     }
 
     // The same, of a side.
-    fn say_of(self, form: &'static str, side: Side) -> Result<(), Fault> {
+    fn say_side(self, form: &'static str, side: Side) -> Result<(), Fault> {
         say(self.lines, form, &[Text(side_word(side))])
     }
 
@@ -226,7 +226,7 @@ impl Sheet<'_, '_> {
     }
 
     // Prints what the capture lacks of a handshake; if that is its beginning, who ended it.
-    fn put_missing(self, judged: &Judged, handshake: &Handshake) -> Result<(), Fault> {
+    fn put_missing(self, judged: &Conclusion, handshake: &Handshake) -> Result<(), Fault> {
         let missing = handshake.missing;
         if missing.beginning {
             self.say("!  missing   the beginning of this connection", &[])?;
@@ -236,7 +236,7 @@ impl Sheet<'_, '_> {
             (Side::Acceptor, missing.acceptor),
         ] {
             if lacks {
-                self.say_of("!  missing   bytes of %, behind those that are shown", side)?;
+                self.say_side("!  missing   bytes of %, behind those that are shown", side)?;
             }
         }
         match self.seen.any_end() {
@@ -246,7 +246,7 @@ impl Sheet<'_, '_> {
                 } else {
                     "   end       closed by %"
                 };
-                self.say_of(how, side)
+                self.say_side(how, side)
             }
             _ => Ok(()),
         }
@@ -267,7 +267,7 @@ impl Sheet<'_, '_> {
         self.put_heading()?;
         let form =
             "!  doubt     bytes of % came behind the end of this connection: others before them are missing, or that end was not its own";
-        self.say_of(form, side)
+        self.say_side(form, side)
     }
 
     // ---- a talk with a port mapper
@@ -348,7 +348,7 @@ impl Sheet<'_, '_> {
     // ---- what was judged
 
     /// Prints what was said on a connection, or to a port mapper, or that it carries TLS.
-    pub fn put_said(self, judged: &Judged) -> Result<(), Fault> {
+    pub fn put_said(self, judged: &Conclusion) -> Result<(), Fault> {
         match &judged.carried {
             Carried::Handshake(handshake) => {
                 self.put_heading()?;
@@ -518,7 +518,7 @@ pub fn print_verdict<W: Write>(
 }
 
 /// What both sides showed of the cookie that is known, in a sentence. `None` if a side showed nothing, or no cookie is known.
-pub fn cookie_sentence(judged: &Judged, terms: &Terms<'_>) -> Option<&'static str> {
+pub fn cookie_sentence(judged: &Conclusion, terms: &Terms<'_>) -> Option<&'static str> {
     let is_refused = matches!(judged.verdict, Some(HandshakeVerdict::WrongCookie(_)));
     let check = judged
         .handshake()?
@@ -527,7 +527,11 @@ pub fn cookie_sentence(judged: &Judged, terms: &Terms<'_>) -> Option<&'static st
 }
 
 /// Prints what both sides showed of the cookie, if they showed anything, and a cookie is known.
-pub fn put_cookie(lines: LineSink<'_>, judged: &Judged, terms: &Terms<'_>) -> Result<(), Fault> {
+pub fn put_cookie(
+    lines: LineSink<'_>,
+    judged: &Conclusion,
+    terms: &Terms<'_>,
+) -> Result<(), Fault> {
     match cookie_sentence(judged, terms) {
         Some(sentence) => say(lines, "   cookie    %", &[Text(sentence)]),
         None => Ok(()),

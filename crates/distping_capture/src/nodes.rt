@@ -5,7 +5,7 @@ ghost use Rattle.std.specs.{List.Sorted.IsSearchInRange, Prelude.length};
 use crate::lines::put_slow;
 use crate::say::say;
 use dist_capture::Endpoint;
-use dist_conversation::{Conversation, Judged};
+use dist_conversation::{Conclusion, Conversation};
 use dist_epmd::NodeInfo;
 use dist_messages::Side;
 use dist_names::{ByteString, Creation, short_part};
@@ -204,7 +204,7 @@ impl NodesSeen {
         &mut self,
         lines: LineSink<'_>,
         seen: &Conversation,
-        judged: &Judged,
+        judged: &Conclusion,
     ) -> Result<(), Fault> {
         let is_up = judged.up_since().is_some();
         for (side, address) in [
@@ -223,7 +223,7 @@ impl NodesSeen {
         &mut self,
         lines: LineSink<'_>,
         seen: &Conversation,
-        judged: &Judged,
+        judged: &Conclusion,
     ) -> Result<(), Fault> {
         for side in [Side::Dialler, Side::Acceptor] {
             if let Some(node) = judged.description_of(side)

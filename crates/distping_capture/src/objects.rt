@@ -6,7 +6,7 @@ ghost use Rattle.distping_capture.specs.Printing.{ShowsVerdict};
 use crate::dials::PastDial;
 use crate::left_out::PacketsLeftOut;
 use crate::lines::cookie_sentence;
-use dist_conversation::{Conversation, Judged};
+use dist_conversation::{Conclusion, Conversation};
 use dist_epmd::Request;
 use dist_messages::Side;
 use dist_talk::{HandshakeVerdict, NodeDescription, Terms};
@@ -57,7 +57,7 @@ fn side_values(side: Option<NodeDescription<'_>>) -> [Value<'_>; 3] {
 pub fn attempt_object(
     alloc: Global,
     seen: &Conversation,
-    judged: &Judged,
+    judged: &Conclusion,
     verdict: HandshakeVerdict,
     terms: &Terms<'_>,
     now: u64,
@@ -116,7 +116,7 @@ fn request_values(request: Option<&Request>) -> [Value<'_>; 2] {
 pub fn mapper_object(
     alloc: Global,
     seen: &Conversation,
-    judged: &Judged,
+    judged: &Conclusion,
     verdict: HandshakeVerdict,
 ) -> Result<String, AllocError>
     ensures { IfOk result (λ line. ShowsVerdict (codes "mapper") verdict (string_bytes line)) }

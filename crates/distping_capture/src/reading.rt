@@ -4,7 +4,7 @@ ghost use Rattle.std.specs.Prelude.{◌≡◌, ℕ, List, IfOk, None, Ok, OnOk};
 ghost use Rattle.dist_capture.specs.Reading.{whole};
 ghost use Rattle.distping_capture.specs.Captures.{AreAll, EndsWith, ReadsIn, TakesIn, terms_of};
 
-use crate::connections::Connections;
+use crate::connections::CapturedConnections;
 use dist_capture::{Capture, CaptureFault};
 use dist_secret::Cookie;
 use dist_talk::{NoCookie, Terms, Viewpoint};
@@ -19,7 +19,7 @@ const PIECE: usize = 65_536;
 // Takes the segments that are whole in what was read.
 fn take_segments<W: Write>(
     capture: &mut Capture,
-    connections: &mut Connections<'_, W>,
+    connections: &mut CapturedConnections<'_, W>,
 ) -> Result<(), Fault>
     ensures taken { OnOk result (TakesIn capture.old connections.old capture.new connections.new) }
     ensures no_more { OnOk result (whole capture.new ≡ Ok None) }
@@ -39,7 +39,7 @@ fn take_segments<W: Write>(
 fn take_all<F: Read + Drop, W: Write>(
     file: F,
     capture: &mut Capture,
-    connections: &mut Connections<'_, W>,
+    connections: &mut CapturedConnections<'_, W>,
 ) -> Result<(), Fault>
     ensures all { OnOk result ((bytes : List ℕ) × AreAll (F.remaining file) bytes
         × ReadsIn bytes capture.old connections.old capture.new connections.new) }
@@ -74,7 +74,7 @@ fn read_whole<F: Read + Drop, W: Write + Drop>(
     ensures { IfOk result (λ it. (bytes : List ℕ) × AreAll (F.remaining file) bytes
         × EndsWith terms.entry mapper_port lines.entry.quiet bytes out it.1 it.0) }
 {
-    let mut connections = Connections::new(lines, terms, mapper_port, out);
+    let mut connections = CapturedConnections::new(lines, terms, mapper_port, out);
     let mut capture = Capture::new(lines.alloc);
     match take_all(file, &mut capture, &mut connections) {
         Ok(()) => {
