@@ -1,7 +1,7 @@
 -- A text is its first part and the parts behind it.
-use Rattle.std.proofs.Common.{◌≡◌, ◌∙◌, ℕ, zero, suc, ◌+◌, ◌-◌, ◌<◌, ◌≤◌, true, false, List, [], ◌∷◌, length, take, drop, refl, sym, ap, arith}
+use Rattle.std.proofs.Common.{◌≡◌, ◌∙◌, ℕ, zero, suc, ◌+◌, ◌-◌, ◌<◌, true, List, [], ◌∷◌, length, take, drop, refl, sym, ap, arith}
 use Rattle.std.proofs.lemmas.{List.take_rest, Bool.cond-true, Bool.cond-false, Bool.false_from_ne_true}
-use Rattle.std.specs.Prelude.{◌==◌, if◌then◌else◌}
+use Rattle.std.specs.Prelude.{◌==◌}
 use Rattle.memchr.specs.Find.{Nowhere, NoneBefore, Passes, is_byte}
 use Rattle.dist_conformance.specs.Texts.{parts_of, before_first}
 
@@ -25,16 +25,3 @@ module _ (byte : ℕ) where
   pub at_none : (text : List ℕ) → Nowhere (Passes (is_byte byte) text) 0 (length text) → parts_of byte text ≡ text ∷ []
   at_none [] none = refl
   at_none (c ∷ cs) none = another c cs (none 0 (omega arith) (omega arith)) ∙ ap (before_first c) (at_none cs (λ i l m. none (suc i) (omega arith) (omega arith)))
-
-some_before : (c : ℕ) (parts : List (List ℕ)) → 1 ≤ length (before_first c parts)
-some_before c [] = omega arith
-some_before c (part ∷ parts) = omega arith
-
--- a text has one part at least
-pub some_parts : (byte : ℕ) (text : List ℕ) → 1 ≤ length (parts_of byte text)
-some_parts byte [] = omega arith
-some_parts byte (c ∷ cs) =
-    elim (c == byte) as (λ b. 1 ≤ length (if b then [] ∷ parts_of byte cs else before_first c (parts_of byte cs))) [
-      | true ↦ omega arith
-      | false ↦ some_before c (parts_of byte cs)
-    ]

@@ -1,15 +1,13 @@
 -- THE JUDGEMENT: what it means that this came.
-use Rattle.std.specs.Prelude.{ℕ, ◌+◌, ◌-◌, ◌==◌, Bool, true, false, not, ◌&&◌, ◌||◌, nat_le, nat_lt, if◌then◌else◌, List, [], ◌∷◌, length, drop, map}
+use Rattle.std.specs.Prelude.{ℕ, ◌+◌, ◌-◌, ◌==◌, Bool, true, false, not, ◌&&◌, ◌||◌, nat_le, nat_lt, if◌then◌else◌, List, [], ◌∷◌, ◌++◌, length, drop, decimal, map}
 use Rattle.std.specs.Prelude.{Option, Some, None, is_some, option_map, option_and_then, unwrap_or}
-use Rattle.std.specs.{List.list_any, List.list_all, List.ends_with, Int.w16, Int.w32}
+use Rattle.std.specs.{List.list_any, List.list_all, List.ends_with, Int.w32}
+use Rattle.md5.specs.Md5.{md5}
 use Rattle.dist_names.specs.{Fields.number_at, Flags.has_all, Order.same_name, declared.flags.Flags.Flags}
 use Rattle.dist_conformance.specs.{Texts.lines_of, Bodies.begins_with, Bodies.value_in, Bodies.whole, Bodies.number_in, Bodies.number_of_32}
-use Rattle.dist_conformance.specs.{Packets.packets_of, Packets.is_part, Saying.digest_of}
+use Rattle.dist_conformance.specs.{Packets.packets_of, Packets.is_part}
 use Rattle.dist_conformance.specs.declared.patterns.{Test.Test, Check.Check, NamesCheck.NamesCheck, PacketCheck.PacketCheck, Pattern.Pattern}
 use Rattle.dist_conformance.specs.declared.outcomes.{Passage.Passage, Deviation.Deviation, PatternOutcome.PatternOutcome, Observed.Observed}
-use Rattle.dist_conformance.specs.declared.shapes.FieldForm.{FieldForm}
-use Rattle.dist_conformance.specs.declared.shapes.FieldForm.TheVariants as form
-use Rattle.dist_conformance.specs.declared.shapes.Framing.TheVariants as framing
 use Rattle.dist_conformance.specs.declared.{shapes.Framing.Framing, shapes.Shape.Shape, packets.PacketState.PacketState}
 use Rattle.dist_conformance.specs.declared.{steps.Demand.Demand, say.Learned.Learned, judging.Judgement.Judgement}
 use Rattle.dist_conformance.specs.declared.patterns.Test.TheVariants as test
@@ -106,6 +104,10 @@ first_flags (l ∷ ls) = or_first l.flags (first_flags ls)
 abbrev pub are_same : ℕ → Option Flags → Bool
 are_same n None = true
 are_same n (Some flags) = flags.0 == n
+
+-- the digest of the cookie's bytes and then the challenge in decimal digits
+abbrev pub digest_of : List ℕ → ℕ → List ℕ
+digest_of cookie challenge = md5 (cookie ++ decimal challenge)
 
 -- WHAT A FIELD HAS TO BE
 abbrev pub test_passes : List Learned → List ℕ → List ℕ → Test → Bool
@@ -213,16 +215,6 @@ abbrev pub by_names : NamesCheck → ℕ → Option (ℕ × List ℕ) → Patter
 by_names which count None = outcome.Fails deviation.Closed
 by_names which count (Some answer) =
     if are_lines answer.1 && names_pass which answer.0 answer.1 then passes count else outcome.Fails deviation.Field
-
--- a registration: its tag, port, type, protocol, highest and lowest version, name and extra, and what stands behind them
-abbrev pub registration : List FieldForm
-registration = form.Tag 0x78 ∷ form.Fixed 2 ∷ form.Fixed 1 ∷ form.Fixed 1 ∷ form.Fixed 2 ∷ form.Fixed 2 ∷ form.Sized ∷ form.Sized ∷ form.Rest ∷ []
-
--- THE PORT THAT IS REGISTERED in what came, if that begins with a registration
-abbrev pub registered_port : List ℕ → Option ℕ
-registered_port came =
-    option_and_then (λ (t : List ℕ × List ℕ).
-    option_and_then (λ port. option_map (λ (n : ℕ × List ℕ). n.0) (number_at w16 port)) (value_in registration 1 t.0)) (whole framing.Frame came)
 
 -- ---- patterns
 

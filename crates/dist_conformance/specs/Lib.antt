@@ -1,8 +1,6 @@
-pub mod Lines
 pub mod Texts
 pub mod Bodies
 pub mod Packets
-pub mod Saying
 pub mod Judging
 pub mod Outcomes
 pub mod Verdicts

@@ -1,9 +1,8 @@
 //! The digests of replies, right ones and wrong ones.
 
-ghost use Rattle.std.specs.Prelude.{◌≡◌, ◌<◌, ◌++◌, ◌==◌};
-ghost use Rattle.std.specs.List.{list_any};
+ghost use Rattle.std.specs.Prelude.{◌≡◌, ◌<◌, ◌++◌};
 ghost use Rattle.md5.specs.Md5.{md5};
-ghost use Rattle.dist_conformance.specs.Saying.{digest_of, digest_said, is_possible, with_bit};
+ghost use Rattle.dist_conformance.specs.Judging.{digest_of};
 
 use dist_secret::Cookie;
 use itoa::Buffer;
@@ -75,20 +74,23 @@ pub fn digest(cookie: &Cookie, challenge: u32) -> [u8; 16]
 // The digest with these bits of one byte changed.
 fn with_bit(mut digest: [u8; 16], place: usize, bit: u8) -> [u8; 16]
     requires { place < 16 }
-    ensures { result ≡ with_bit digest place bit }
 {
     digest[place] ^= bit;
     digest
 }
 
-/// The digest of a reply to this challenge. `earlier` is the first number of the talk.
-pub fn digest_to_say(kind: ReplyDigest, cookie: &Cookie, challenge: u32, earlier: u32) -> [u8; 16]
-    ensures { result ≡ digest_said kind cookie.now challenge earlier }
-{
+/// The digest of a reply to this challenge, if there is one. `earlier` is the first number of the talk.
+pub fn digest_to_say(
+    kind: ReplyDigest,
+    cookie: &Cookie,
+    challenge: u32,
+    earlier: u32,
+) -> Option<[u8; 16]> {
     let mut buffer = Buffer::new();
     let digits = buffer.format(challenge).as_bytes();
-    match kind {
-        ReplyDigest::Right => digest(cookie, challenge),
+    let right = digest(cookie, challenge);
+    Some(match kind {
+        ReplyDigest::Right => right,
         ReplyDigest::Wrong => md5_of(cookie.bytes(), b"x", digits),
         ReplyDigest::Newline => md5_of(cookie.bytes(), b"\n", digits),
         ReplyDigest::NoCookie => md5_of(b"", b"", digits),
@@ -96,25 +98,10 @@ pub fn digest_to_say(kind: ReplyDigest, cookie: &Cookie, challenge: u32, earlier
         ReplyDigest::Raw => md5_of(b"", cookie.bytes(), &challenge.to_be_bytes()),
         ReplyDigest::Other => digest(cookie, challenge ^ 1),
         ReplyDigest::Earlier => digest(cookie, earlier),
-        ReplyDigest::FlipFirst => with_bit(digest(cookie, challenge), 0, 1),
-        ReplyDigest::FlipLast => with_bit(digest(cookie, challenge), 15, 128),
+        ReplyDigest::FlipFirst => with_bit(right, 0, 1),
+        ReplyDigest::FlipLast => with_bit(right, 15, 128),
         ReplyDigest::Zero => [0; 16],
-        ReplyDigest::BehindZero => with_bit(digest(cookie, challenge), 15, 1),
-    }
-}
-
-fn has_zero(bytes: &[u8]) -> bool
-    ensures { result ≡ list_any (λ byte. byte == 0) bytes.now }
-{
-    bytes.iter().any(|byte| *byte == 0)
-}
-
-/// Whether there is such a digest of this challenge.
-pub fn is_possible(kind: ReplyDigest, cookie: &Cookie, challenge: u32) -> bool
-    ensures { result ≡ is_possible kind cookie.now challenge }
-{
-    match kind {
-        ReplyDigest::BehindZero => has_zero(&digest(cookie, challenge)[..15]),
-        _ => true,
-    }
+        ReplyDigest::BehindZero if right[..15].contains(&0) => with_bit(right, 15, 1),
+        ReplyDigest::BehindZero => return None,
+    })
 }

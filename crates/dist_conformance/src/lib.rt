@@ -48,5 +48,4 @@ pub use say::{Learned, bytes_to_say};
 pub use shapes::{FieldForm, FieldKey, Framing, Shape};
 pub use steps::{Action, Demand, SaidField, SaidPart, SaidValue, Saying, TalkStep};
 pub use terms::SuiteNames;
-pub use texts::first_part;
 pub use verdicts::{TalkVerdict, is_counted};

@@ -3,9 +3,9 @@
 ghost use Rattle.std.specs.{Prelude.◌≡◌, Prelude.length, Prelude.option_map, Prelude.if◌then◌else◌, Int.w32, List.list_all};
 ghost use Rattle.dist_names.specs.Fields.{number_at};
 ghost use Rattle.dist_conformance.specs.Judging.{observation_of, passes, part_outcome, open_for, if_nothing, by_bytes, passes_if};
-ghost use Rattle.dist_conformance.specs.Judging.{check_passes, learned_from, passage_of, by_message, body_outcome, by_whole, by_packets, registered_port};
+ghost use Rattle.dist_conformance.specs.Judging.{check_passes, learned_from, passage_of, by_message, body_outcome, by_whole, by_packets};
 ghost use Rattle.dist_conformance.specs.Judging.{are_lines, is_line, has_line, names_pass, by_names, outcome_of};
-ghost use Rattle.dist_conformance.specs.{Bodies.value_in, Outcomes.IsWithin, Outcomes.deviation_word};
+ghost use Rattle.dist_conformance.specs.Outcomes.{IsWithin};
 ghost use Rattle.dist_conformance.specs.declared.outcomes.PatternOutcome.TheVariants as outcome;
 
 use crate::bodies::{number_in, number_of_32, value_in, whole};
@@ -79,9 +79,7 @@ pub enum Deviation {
 
 impl Deviation {
     /// Its word in reports.
-    pub fn name(self) -> &'static str
-        ensures { result.now ≡ deviation_word self }
-    {
+    pub fn name(self) -> &'static str {
         match self {
             Deviation::Other => "other",
             Deviation::Field => "field",
@@ -252,9 +250,7 @@ fn whole_outcome(
 }
 
 /// The port that is registered in what came, if that begins with a registration.
-pub fn registered_port(came: &[u8]) -> Option<u16>
-    ensures { result ≡ registered_port came.now }
-{
+pub fn registered_port(came: &[u8]) -> Option<u16> {
     let (body, _) = whole(ALIVE.framing, came)?;
     let (port, _) = value_in(ALIVE.fields, 1, body)?.split_first_chunk::<2>()?;
     Some(u16::from_be_bytes(*port))

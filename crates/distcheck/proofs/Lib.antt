@@ -1,6 +1,7 @@
+pub mod Confirmed
 pub mod Hearing
 pub mod Lanes
 pub mod Order
+pub mod Printed
 pub mod Steps
-pub mod Words
 pub mod Worst

@@ -1,10 +1,7 @@
-pub mod Deciding
-pub mod Faults
 pub mod Lanes
-pub mod LeftOut
 pub mod Played
 pub mod Playing
+pub mod Reports
 pub mod Rows
 pub mod Seeing
 pub mod Trying
-pub mod Wanted

@@ -1,16 +1,14 @@
 -- THE VERDICT OF A TALK: by its steps, and what was seen in each.
 use Rattle.std.specs.Prelude.{ℕ, Bool, true, false, ◌||◌, nat_le, nat_lt, if◌then◌else◌, List, [], ◌∷◌, ◌++◌, length, drop, Option, Some, None, slice_set}
 use Rattle.std.specs.List.{slice_index_or}
-use Rattle.dist_names.specs.Order.{same_name}
 use Rattle.dist_conformance.specs.Judging.{Observation, judgement_of, learned_from}
-use Rattle.dist_conformance.specs.Saying.{bytes_said}
 use Rattle.dist_conformance.specs.declared.{outcomes.Passage.Passage, say.Learned.Learned, judging.Judgement.Judgement, verdicts.TalkVerdict.TalkVerdict}
 use Rattle.dist_conformance.specs.declared.steps.{Action.Action, Demand.Demand, TalkStep.TalkStep}
 use Rattle.dist_conformance.specs.declared.steps.Action.TheVariants as action
 use Rattle.dist_conformance.specs.declared.judging.Judgement.TheVariants as judgement
 use Rattle.dist_conformance.specs.declared.verdicts.TalkVerdict.TheVariants as verdict
 use Rattle.distcheck.specs.{Seeing.end_of, declared.standing.JudgingTerms.JudgingTerms, declared.standing.TalkState.TalkState}
-use Rattle.distcheck.specs.declared.seen.{Timing.Timing, HeardBytes.HeardBytes, StepFact.StepFact, PlayedStep.PlayedStep}
+use Rattle.distcheck.specs.declared.{seen.Timing.Timing, seen.StepFact.StepFact, seen.PlayedStep.PlayedStep, waiting.HeardBytes.HeardBytes}
 use Rattle.distcheck.specs.declared.seen.StepFact.TheVariants as seen
 
 -- how a talk stands: by what it is judged, its verdict so far, whether that is final, what was learned, and of each connection the bytes
@@ -77,16 +75,10 @@ after_hearing conn (action.Want demand) h s = by_demand verdict.Deviates conn de
 after_hearing conn (action.Tell ms) h s = record s { verdict = verdict.Noted; left = with_left conn [] s.left }
 after_hearing conn other h s = ends_by verdict.Blocked s
 
--- these bytes are what is due
-abbrev pub is_due : Option (List ℕ) → List ℕ → Bool
-is_due None said = false
-is_due (Some due) said = same_name due said
-
--- what was said in a step `say` is what the step says
-unfoldable pub after_saying : ℕ → Action → List ℕ → Standing → Standing
-after_saying conn (action.Say saying) said s =
-    if is_due (bytes_said saying conn s.learned s.terms.cookie.now) said then s else ends_by verdict.Blocked s
-after_saying conn other said s = ends_by verdict.Blocked s
+-- something was said in a step `say`
+unfoldable pub after_saying : Action → Standing → Standing
+after_saying (action.Say saying) s = s
+after_saying other s = ends_by verdict.Blocked s
 
 -- a step that says or listens is not just made; by one that connects nothing is left of that connection
 unfoldable pub after_making : ℕ → Action → Standing → Standing
@@ -103,12 +95,11 @@ after_making conn other s = record s { left = with_left conn [] s.left }
 -- WHAT A STEP COMES TO in which this was seen
 unfoldable pub after : TalkStep → StepFact → Standing → Standing
 after step seen.Made s = after_making step.conn step.action s
-after step (seen.Said bytes is_whole) s = after_saying step.conn step.action bytes s
+after step (seen.Said said) s = after_saying step.action s
 after step (seen.Heard h) s = after_hearing step.conn step.action h s
 after step seen.Came s = ends_by verdict.Deviates s
 after step seen.Refused s = ends_by verdict.Blocked s
 after step seen.Unsaid s = ends_by verdict.Skipped s
-after step (seen.Untried why) s = ends_by verdict.Skipped s
 after step (seen.Failed why) s = ends_by verdict.Blocked s
 
 -- the same, unless the talk is over

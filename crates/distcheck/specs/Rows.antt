@@ -1,7 +1,7 @@
 -- WHAT ROWS COME TO, by their talks.
 use Rattle.std.specs.Prelude.{ℕ, ◌-◌, ◌==◌, ◌≤◌, Bool, ◌&&◌, List, filter, length, All, Contains}
-use Rattle.dist_conformance.specs.Verdicts.{place_of, rank_of}
-use Rattle.dist_conformance.specs.declared.{rows.Level.Level, verdicts.TalkVerdict.TalkVerdict}
+use Rattle.dist_conformance.specs.Verdicts.{rank_of}
+use Rattle.dist_conformance.specs.declared.verdicts.TalkVerdict.{TalkVerdict}
 use Rattle.dist_conformance.specs.declared.verdicts.TalkVerdict.TheVariants as verdict
 use Rattle.distcheck.specs.{Played.played_verdict, declared.results.PlayedRow.PlayedRow, declared.tries.PlayedTalk.PlayedTalk}
 
@@ -25,10 +25,6 @@ has_verdict v row = rank_of (row_verdict row) == rank_of v
 -- how many rows have this verdict
 abbrev pub count_in : List PlayedRow → TalkVerdict → ℕ
 count_in rows v = length (filter (has_verdict v) rows)
-
--- how many rows of this level have this verdict
-abbrev pub count_of_level : List PlayedRow → Level → TalkVerdict → ℕ
-count_of_level rows l v = length (filter (λ row. (place_of row.level == place_of l) && has_verdict v row) rows)
 
 -- how many of so many rows were not played
 abbrev pub count_left_out : ℕ → List PlayedRow → ℕ

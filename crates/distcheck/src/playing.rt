@@ -1,9 +1,8 @@
 //! Plays one talk: connects, says, and listens. What is seen in each step is kept, and judged.
 
 ghost use Rattle.std.specs.Prelude.{◌≡◌, ◌<◌, [], length, IfOk, OnOk};
-ghost use Rattle.distcheck.specs.Deciding.{verdict_by_level};
 ghost use Rattle.distcheck.specs.Playing.{standing_of, standing_after};
-ghost use Rattle.distcheck.specs.Trying.{try_verdict};
+ghost use Rattle.distcheck.specs.Trying.{try_verdict, verdict_by_level};
 
 use crate::calls::{CallPlaces, OwnPort};
 use crate::fault::Fault;
@@ -11,16 +10,11 @@ use crate::queue::QueuedTalk;
 use crate::seen::{PlayedStep, StepFact};
 use crate::standing::TalkState;
 use crate::talk_link::{SocketLink, TalkLink};
-use crate::tries::TalkTry;
-use crate::waiting::{listen_until_over, milliseconds_since, now, write_pieces};
-use dist_conformance::{
-    Action, Level, Saying, TalkStep, TalkVerdict, bytes_to_say, registered_port,
-};
+use crate::waiting::{listen, milliseconds_since, now, say};
+use dist_conformance::{Action, Level, TalkStep, TalkVerdict, registered_port};
 use dist_epmd::NodeInfo;
-use dist_names::ByteString;
 use dist_program::at_port;
 use dist_secret::Cookie;
-use std::alloc::{AllocError, Global};
 use std::io::{self, ErrorKind};
 use std::net::SocketAddr;
 use std::thread::sleep;
@@ -60,6 +54,26 @@ impl Setting<'_> {
     }
 }
 
+/// One try of a talk. Only [`play`] makes one.
+#[derive(Drop)]
+pub struct TalkTry {
+    /// What was seen in its steps, as far as they were made.
+    pub played: Vec<PlayedStep>,
+    /// The verdict.
+    pub verdict: TalkVerdict,
+    /// In words, what came and is not what was wanted.
+    pub why: String,
+    // How many milliseconds it took.
+    took: u32,
+}
+
+impl TalkTry {
+    /// How many milliseconds it took.
+    pub fn took(&self) -> u32 {
+        self.took
+    }
+}
+
 // The connections of a talk that is being played, and where it makes them.
 #[derive(Drop)]
 struct TalkPlay<'a> {
@@ -92,7 +106,7 @@ impl<'a> TalkPlay<'a> {
         is_tunnelled: bool,
     ) -> Result<StepFact, Fault> {
         let Some(address) = address else {
-            return Ok(StepFact::Untried("nobody to connect to"));
+            return Ok(StepFact::Failed("nobody to connect to"));
         };
         let mut seen = StepFact::Made;
         for _ in 0..CONNECTS {
@@ -133,7 +147,7 @@ impl<'a> TalkPlay<'a> {
     fn order_dial(&mut self, info: &NodeInfo) -> Result<Option<StepFact>, Fault> {
         let rt = self.setting.rt;
         let Some(places) = self.setting.call else {
-            return Ok(Some(StepFact::Untried("nobody makes the node dial")));
+            return Ok(Some(StepFact::Failed("nobody makes the node dial")));
         };
         if self.own.is_none() {
             self.own = OwnPort::register(rt, &places.mapper, info)?;
@@ -149,7 +163,7 @@ impl<'a> TalkPlay<'a> {
     fn order_start(&mut self) -> Result<Option<StepFact>, Fault> {
         let rt = self.setting.rt;
         let Some(orders) = self.setting.start else {
-            return Ok(Some(StepFact::Untried("nobody starts the node")));
+            return Ok(Some(StepFact::Failed("nobody starts the node")));
         };
         self.own = OwnPort::open(rt, &orders).ok();
         let Some(own) = &mut self.own else {
@@ -167,45 +181,21 @@ impl<'a> TalkPlay<'a> {
         }
     }
 
-    fn say(&mut self, state: &TalkState<'_>, at: usize, saying: &Saying) -> Result<StepFact, Fault>
-        requires { at < length self.old.links.items }
-    {
-        let link = &mut self.links[at];
-        let rt = self.setting.rt;
-        let cookie = state.terms.cookie;
-        match bytes_to_say(rt.alloc(), saying, link.conn, &state.learned, cookie)? {
-            None => Ok(StepFact::Unsaid),
-            Some(bytes) => {
-                let is_whole = write_pieces(rt, link, &bytes, saying);
-                Ok(StepFact::Said(ByteString::from_vec(bytes), is_whole))
-            }
-        }
-    }
-
-    // Listens, as long as a step does.
-    fn listen(
-        &mut self,
-        state: &TalkState<'_>,
-        at: usize,
-        step: &TalkStep,
-    ) -> Result<StepFact, Fault>
-        requires { at < length self.old.links.items }
-    {
-        let heard = listen_until_over(self.setting.rt, &mut self.links[at], state, step)?;
-        let came = state.came_on(step.conn, heard.bytes.as_slice())?;
-        self.registered = registered_port(&came).or(self.registered);
-        Ok(StepFact::Heard(heard))
-    }
-
     // Makes a step on the connection of its letter. There is at most one of each.
     fn use_link(&mut self, state: &TalkState<'_>, step: &TalkStep) -> Result<StepFact, Fault> {
         let Some(at) = self.links.iter().position(|link| link.conn == step.conn) else {
             return Ok(StepFact::Failed("the connection is not open"));
         };
+        let rt = self.setting.rt;
         match &step.action {
-            Action::Say(saying) => return self.say(state, at, saying),
+            Action::Say(saying) => return say(rt, &mut self.links[at], state, saying),
             Action::Hear(_) | Action::Want(_) | Action::Tell(_) => {
-                return self.listen(state, at, step);
+                let seen = listen(rt, &mut self.links[at], state, step)?;
+                if let StepFact::Heard(heard) = &seen {
+                    let came = state.came_on(step.conn, heard.bytes())?;
+                    self.registered = registered_port(&came).or(self.registered);
+                }
+                return Ok(seen);
             }
             Action::Half => {
                 self.links[at].half();
@@ -299,23 +289,5 @@ pub fn play<'a>(setting: &Setting<'a>, queued: &QueuedTalk<'a>) -> Result<TalkTr
         verdict,
         why,
         took,
-    })
-}
-
-/// One try of a talk that there is nobody to try it with, in these words.
-#[tactic(auto, using(crate::proofs::Steps::nothing_tried))]
-pub fn try_with_nobody(
-    alloc: Global,
-    queued: &QueuedTalk<'_>,
-    why: &'static str,
-) -> Result<TalkTry, AllocError>
-    ensures { IfOk result (λ one. one.verdict ≡ try_verdict queued.now one.played.items) }
-{
-    let seen = StepFact::Untried(why);
-    Ok(TalkTry {
-        played: vec![in alloc; PlayedStep { at: 0, seen }]?,
-        verdict: TalkVerdict::Skipped,
-        why: why.to_owned(alloc)?,
-        took: 0,
     })
 }

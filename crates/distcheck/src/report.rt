@@ -1,5 +1,9 @@
 //! The report in lines: one for each section, a block for each row that deviates, is loose or was blocked, and the last lines.
 
+ghost use Rattle.std.specs.Prelude.{IfOk, OnOk, string_bytes};
+ghost use Rattle.distcheck.specs.Reports.{BeginsWith, EndsByOutcome, IsMarked, IsOutcome};
+ghost use Rattle.distcheck.specs.Rows.{conform, row_verdict};
+
 use crate::command::{CheckOrder, command_of};
 use crate::explaining::push_text;
 use crate::results::{PlayedRow, VERDICTS, conform, count_in, count_left_out, count_of_level};
@@ -72,8 +76,7 @@ impl Report<'_> {
         }
         self.text.push_str("        step    ")?;
         self.put(shown.demand_text(one))?;
-        let came = shown.arrival_text(one)?;
-        writeln!(self.text, "\n        came    {came}")
+        writeln!(self.text, "\n        came    {}", one.why)
     }
 
     // Adds what a row rests on; and of one that deviates its text, and the command that plays it alone.
@@ -101,14 +104,14 @@ impl Report<'_> {
         self.text.push_str("\n")
     }
 
-    // Adds the first line of a row: the mark of its verdict, its id, its level, its title, and which of its talks have the verdict.
-    fn put_heading(&mut self, row: &PlayedRow<'_>, mark: char) -> Result<(), AllocError> {
+    // Adds the first line of a row without its mark: its id, its level, its title, and which of its talks have the verdict.
+    fn put_heading(&mut self, row: &PlayedRow<'_>) -> Result<(), AllocError> {
         let shown = row.shown;
         let queued = shown.queued;
         let id = escape(self.alloc, queued.row.id.as_slice())?;
         let title = escape(self.alloc, queued.row.title.as_slice())?;
-        let level = queued.level.name();
-        write!(self.text, "{mark} {id:<6} {level:<7} {title}")?;
+        let level = row.level().name();
+        write!(self.text, "{id:<6} {level:<7} {title}")?;
         let all = row.talks.len();
         if all > 1 {
             let talk = escape(self.alloc, queued.talk.id.as_slice())?;
@@ -117,17 +120,31 @@ impl Report<'_> {
         self.text.push_str("\n")
     }
 
-    // Adds a block for a row that deviates, is loose or was blocked.
-    fn put_row(&mut self, row: &PlayedRow<'_>) -> Result<(), AllocError> {
+    // The block of a row, without its mark.
+    fn block_of(&self, row: &PlayedRow<'_>) -> Result<String, AllocError> {
+        let mut block = Report {
+            text: String::new(self.alloc),
+            ..*self
+        };
+        block.put_heading(row)?;
+        block.put_try(row, &row.shown.shown_try())?;
+        block.put_source(row)?;
+        Ok(block.text)
+    }
+
+    // Adds a block for a row that deviates, is loose or was blocked, behind the mark of its verdict.
+    fn put_row(&mut self, row: &PlayedRow<'_>) -> Result<(), AllocError>
+        ensures { OnOk result (IsMarked (row_verdict row.now) (string_bytes self.old.text) (string_bytes self.new.text)) }
+    {
         let mark = match row.verdict() {
-            TalkVerdict::Deviates => 'x',
-            TalkVerdict::Loose => '~',
-            TalkVerdict::Blocked => '.',
+            TalkVerdict::Deviates => "x ",
+            TalkVerdict::Loose => "~ ",
+            TalkVerdict::Blocked => ". ",
             _ => return Ok(()),
         };
-        self.put_heading(row, mark)?;
-        self.put_try(row, &row.shown.shown_try())?;
-        self.put_source(row)
+        let block = self.block_of(row)?;
+        self.text.push_str(mark)?;
+        self.text.push_str(&block)
     }
 
     // Adds how many rows of each level deviate and are loose.
@@ -140,60 +157,80 @@ impl Report<'_> {
         }
         Ok(())
     }
+}
 
-    // Adds the ids of rows: with `counted` those because of which the status is 1, else those that deviate.
-    fn put_ids(&mut self, rows: &[PlayedRow<'_>], counted: bool) -> Result<(), AllocError> {
-        let order = self.order;
-        for row in rows {
-            let is_named = if counted {
-                is_counted(row.level, row.verdict(), order.strict)
-            } else {
-                row.verdict() == TalkVerdict::Deviates
-            };
-            if is_named {
-                self.text.push_str(" ")?;
-                self.put(row.id())?;
-            }
-        }
-        self.text.push_str("\n")
-    }
-
-    // Adds how many of all rows were decided, not played and blocked, where the status is 0 and they do not conform.
-    fn put_extent(&mut self, rows: &[PlayedRow<'_>], all: usize) -> Result<(), AllocError> {
-        let blocked = count_in(rows, TalkVerdict::Blocked);
-        let left_out = count_left_out(rows, all);
-        let decided = all.saturating_sub(left_out).saturating_sub(blocked);
-        let deviates = count_in(rows, TalkVerdict::Deviates) != 0;
-        let below = if deviates { " that counts" } else { "" };
-        write!(
-            self.text,
-            "No deviation{below} in {decided} of {all} rows; {left_out} not played"
-        )?;
-        if blocked != 0 {
-            write!(self.text, ", {blocked} blocked")?;
-        }
-        if !deviates {
-            return self.text.push_str("\n");
-        }
-        self.text.push_str("; deviates below that:")?;
-        self.put_ids(rows, false)
-    }
-
-    // Adds what the rows come to, by the exit status.
-    fn put_outcome(
-        &mut self,
-        rows: &[PlayedRow<'_>],
-        all: usize,
-        exit: u8,
-    ) -> Result<(), AllocError> {
-        if exit != 0 {
-            self.text.push_str("Does not conform:")?;
-            self.put_ids(rows, true)
-        } else if conform(rows, all) {
-            self.text.push_str("Conforms.\n")
+// The ids of rows: with `counted` those because of which the status is 1, else those that deviate.
+fn ids_of(
+    alloc: Global,
+    order: &CheckOrder<'_>,
+    rows: &[PlayedRow<'_>],
+    counted: bool,
+) -> Result<String, AllocError> {
+    let mut ids = String::new(alloc);
+    for row in rows {
+        let is_named = if counted {
+            is_counted(row.level(), row.verdict(), order.strict)
         } else {
-            self.put_extent(rows, all)
+            row.verdict() == TalkVerdict::Deviates
+        };
+        if is_named {
+            write!(ids, " {}", escape(alloc, row.id())?)?;
         }
+    }
+    Ok(ids)
+}
+
+// How many of all rows were decided, not played and blocked, where the status is 0 and they do not conform.
+fn extent_of(
+    alloc: Global,
+    order: &CheckOrder<'_>,
+    rows: &[PlayedRow<'_>],
+    all: usize,
+) -> Result<String, AllocError> {
+    let blocked = count_in(rows, TalkVerdict::Blocked);
+    let left_out = count_left_out(rows, all);
+    let decided = all.saturating_sub(left_out).saturating_sub(blocked);
+    let deviates = count_in(rows, TalkVerdict::Deviates) != 0;
+    let below = if deviates { " that counts" } else { "" };
+    let mut text = format!(in alloc; "{below} in {decided} of {all} rows; {left_out} not played")?;
+    if blocked != 0 {
+        write!(text, ", {blocked} blocked")?;
+    }
+    if deviates {
+        let ids = ids_of(alloc, order, rows, false)?;
+        write!(text, "; deviates below that:{ids}")?;
+    }
+    Ok(text)
+}
+
+// A line that begins with these words.
+fn line_of(alloc: Global, front: &str, rest: &str) -> Result<String, AllocError>
+    ensures { IfOk result (λ line. BeginsWith front.now (string_bytes line)) }
+{
+    let mut line = front.to_owned(alloc)?;
+    line.push_str(rest)?;
+    line.push_str("\n")?;
+    Ok(line)
+}
+
+// The last line: what the rows come to, by the exit status.
+fn outcome_of(
+    alloc: Global,
+    order: &CheckOrder<'_>,
+    rows: &[PlayedRow<'_>],
+    all: usize,
+    exit: u8,
+) -> Result<String, AllocError>
+    ensures { IfOk result (λ line. IsOutcome exit (conform all rows.now) (string_bytes line)) }
+{
+    if exit != 0 {
+        let ids = ids_of(alloc, order, rows, true)?;
+        line_of(alloc, "Does not conform:", &ids)
+    } else if conform(rows, all) {
+        line_of(alloc, "Conforms.", "")
+    } else {
+        let extent = extent_of(alloc, order, rows, all)?;
+        line_of(alloc, "No deviation", &extent)
     }
 }
 
@@ -204,7 +241,9 @@ pub fn report_of(
     suite: &PlayedSuite<'_>,
     rows: &[PlayedRow<'_>],
     exit: u8,
-) -> Result<String, AllocError> {
+) -> Result<String, AllocError>
+    ensures { IfOk result (λ text. EndsByOutcome exit (conform suite.now.rows rows.now) (string_bytes text)) }
+{
     let text = String::new(alloc);
     let mut report = Report { alloc, order, text };
     if suite.is_one_at_a_time {
@@ -218,6 +257,8 @@ pub fn report_of(
     }
     report.put_levels(rows)?;
     report.put_counts(rows)?;
-    report.put_outcome(rows, suite.rows, exit)?;
-    Ok(report.text)
+    let outcome = outcome_of(alloc, order, rows, suite.rows, exit)?;
+    let mut text = report.text;
+    text.push_str(&outcome)?;
+    Ok(text)
 }

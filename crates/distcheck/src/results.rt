@@ -3,7 +3,7 @@
 ghost use Rattle.std.specs.Prelude.{◌≡◌, option_copied, option_map, IfOk, All, Contains};
 ghost use Rattle.std.specs.List.{find, flat_map, list_any};
 ghost use Rattle.distcheck.specs.Played.{exit_of, is_counted_talk, met_nobody};
-ghost use Rattle.distcheck.specs.Rows.{conform, count_of_level, count_in, count_left_out, row_verdict, IsRow};
+ghost use Rattle.distcheck.specs.Rows.{conform, count_in, count_left_out, row_verdict, IsRow};
 
 use crate::tries::PlayedTalk;
 use dist_conformance::{Level, Section, TalkVerdict, is_counted};
@@ -26,8 +26,6 @@ pub struct PlayedRow<'a> {
     pub talks: &'a [PlayedTalk<'a>],
     /// The first of them with the worst verdict of all.
     pub shown: &'a PlayedTalk<'a>,
-    /// Its level.
-    pub level: Level,
 }
 
 impl<'a> PlayedRow<'a> {
@@ -35,6 +33,11 @@ impl<'a> PlayedRow<'a> {
     pub fn id(&self) -> &'a [u8] {
         let shown = self.shown;
         shown.queued.row.id.as_slice()
+    }
+
+    /// Its level.
+    pub fn level(&self) -> Level {
+        self.shown.queued.level
     }
 
     /// Its section.
@@ -72,11 +75,7 @@ fn row_of<'a>(talks: &'a [PlayedTalk<'a>], first: &'a PlayedTalk<'a>) -> PlayedR
             shown = talk;
         }
     }
-    PlayedRow {
-        talks,
-        shown,
-        level: first.queued.level,
-    }
+    PlayedRow { talks, shown }
 }
 
 /// How many of these rows have this verdict.
@@ -87,11 +86,9 @@ pub fn count_in(rows: &[PlayedRow<'_>], verdict: TalkVerdict) -> usize
 }
 
 /// How many of these rows are of this level and have this verdict.
-pub fn count_of_level(rows: &[PlayedRow<'_>], level: Level, verdict: TalkVerdict) -> usize
-    ensures { result ≡ count_of_level rows.now level verdict }
-{
+pub fn count_of_level(rows: &[PlayedRow<'_>], level: Level, verdict: TalkVerdict) -> usize {
     rows.iter()
-        .filter(|row| row.level == level && row.verdict() == verdict)
+        .filter(|row| row.level() == level && row.verdict() == verdict)
         .count()
 }
 

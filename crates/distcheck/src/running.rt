@@ -1,17 +1,21 @@
 //! Plays all talks: those that are played first, then the others beside one another, then those that are played alone; and at the end
-//! once more alone what deviates.
+//! once more, alone, what deviates.
 
-ghost use Rattle.std.specs.Prelude.{◌≡◌, ◌<◌, ◌++◌, vec_len, IfOk, OnOk};
+ghost use Rattle.std.specs.Prelude.{◌≡◌, ◌<◌, ◌++◌, None, Some, vec_len, option_copied, IfOk, OnOk};
+ghost use Rattle.std.specs.{List.list_any, Option.ForSome};
 ghost use Rattle.distcheck.specs.Lanes.{all_in, lane_at, lanes_in, lanes_of, queued_talks};
-ghost use Rattle.distcheck.specs.{Played.talks_of, Trying.try_verdict};
+ghost use Rattle.distcheck.specs.{Played.AreConfirmed, Played.heard_peer, Played.IsAgain, Played.IsTwiceUnless, Played.talks_of, Trying.try_verdict};
 
 use crate::fault::Fault;
 use crate::lane::LaneReply;
-use crate::playing::{Setting, play, try_with_nobody};
+use crate::left_out::SkipReason;
+use crate::playing::{Setting, TalkTry, play};
 use crate::queue::{QueuedTalk, TalkQueue, queue_of};
-use crate::tries::{PlayedTalk, TalkTry};
+use crate::results::gone_in;
+use crate::tries::PlayedTalk;
 use crate::wanted::WantedTalks;
-use dist_conformance::{Level, SectionKind, TalkVerdict};
+use dist_conformance::{SectionKind, TalkVerdict};
+use dist_names::is_same_text;
 use std::sync::atomic::{AtomicBool, AtomicUsize, Ordering};
 use std::thread::{Threads, map_indices, sleep};
 
@@ -80,7 +84,7 @@ pub struct PlayedSuite<'a> {
     pub is_one_at_a_time: bool,
 }
 
-// Whether a second try may come to more: it may find a machine that is less busy.
+// Whether a talk is not kept.
 fn is_bad(verdict: TalkVerdict) -> bool {
     matches!(verdict, TalkVerdict::Deviates | TalkVerdict::Blocked)
 }
@@ -107,13 +111,17 @@ impl<'a> TalkCrew<'a> {
         }
     }
 
-    // Why there is nobody to try a talk with, if there is not.
-    fn reason_to_skip(&self, queued: &QueuedTalk<'_>) -> Option<&'static str> {
+    // Why a talk is left out, if it is: it may not be played, or there is nobody to try it with.
+    fn reason_to_skip(&self, queued: &QueuedTalk<'_>) -> Option<SkipReason>
+        ensures { ForSome queued.now.left_out (λ why. result ≡ Some why) }
+    {
         let silent = if self.is_serial { SILENT_ALONE } else { SILENT };
-        if self.is_gone.load(Ordering::SeqCst) {
-            Some("nobody listens any more")
+        if queued.left_out.is_some() {
+            queued.left_out
+        } else if self.is_gone.load(Ordering::SeqCst) {
+            Some(SkipReason::Gone)
         } else if self.partner(queued).is_silent(silent) {
-            Some("nothing came in any talk")
+            Some(SkipReason::Silent)
         } else {
             None
         }
@@ -133,35 +141,43 @@ impl<'a> TalkCrew<'a> {
 
     // Plays a talk again, unless it is left out. The node may still be busy with who said the talk's name before.
     fn play_again(&self, played: PlayedTalk<'a>) -> Result<PlayedTalk<'a>, Fault>
-        ensures { IfOk result (λ it. it.queued ≡ played.entry.queued) }
+        ensures { IfOk result (IsAgain played.entry) }
     {
-        let None = played.queued.left_out else {
+        let None = played.left_out else {
             return Ok(played);
         };
         sleep(self.setting.rt, self.setting.breath());
-        let PlayedTalk { queued, mut tries } = played;
+        let PlayedTalk {
+            queued,
+            left_out,
+            mut tries,
+        } = played;
         tries.push(self.play_once(&queued)?)?;
-        Ok(PlayedTalk { queued, tries })
+        Ok(PlayedTalk {
+            queued,
+            left_out,
+            tries,
+        })
     }
 
-    // Plays a talk again, if a second try may come to more. As long as nothing was ever heard it does not.
-    fn play_bad_again(&self, played: PlayedTalk<'a>) -> Result<PlayedTalk<'a>, Fault>
-        ensures { IfOk result (λ it. it.queued ≡ played.entry.queued) }
+    // Plays a talk that may be played; again, if it is blocked: the machine may be less busy then. As long as nothing was ever heard it is not.
+    fn try_talk(&self, queued: &QueuedTalk<'a>) -> Result<PlayedTalk<'a>, Fault>
+        // The talk is to be played.
+        requires { queued.now.left_out ≡ None }
+        ensures { IfOk result (λ it. it.queued ≡ queued.now) }
     {
+        let one = self.play_once(queued)?;
+        let is_blocked = one.verdict == TalkVerdict::Blocked;
+        let played = PlayedTalk {
+            queued: *queued,
+            left_out: None,
+            tries: vec![in self.setting.rt.alloc(); one]?,
+        };
         let is_gone = self.is_gone.load(Ordering::SeqCst);
-        if is_gone || !is_bad(played.last_verdict()) || !self.partner(&played.queued).is_heard() {
-            return Ok(played);
-        }
-        self.play_again(played)
-    }
-
-    // The first try of a talk.
-    fn first_try(&self, queued: &QueuedTalk<'a>) -> Result<TalkTry, Fault>
-        ensures { IfOk result (λ one. one.verdict ≡ try_verdict queued.now one.played.items) }
-    {
-        match self.reason_to_skip(queued) {
-            Some(why) => Ok(try_with_nobody(self.setting.rt.alloc(), queued, why)?),
-            None => self.play_once(queued),
+        if is_blocked && !is_gone && self.partner(queued).is_heard() {
+            self.play_again(played)
+        } else {
+            Ok(played)
         }
     }
 
@@ -169,13 +185,14 @@ impl<'a> TalkCrew<'a> {
     fn perform(&self, queued: &QueuedTalk<'a>) -> Result<PlayedTalk<'a>, Fault>
         ensures { IfOk result (λ it. it.queued ≡ queued.now) }
     {
-        let queued = *queued;
-        let mut tries = Vec::new(self.setting.rt.alloc());
-        if queued.left_out.is_some() {
-            return Ok(PlayedTalk { queued, tries });
+        match self.reason_to_skip(queued) {
+            None => self.try_talk(queued),
+            left_out => Ok(PlayedTalk {
+                queued: *queued,
+                left_out,
+                tries: Vec::new(self.setting.rt.alloc()),
+            }),
         }
-        tries.push(self.first_try(&queued)?)?;
-        self.play_bad_again(PlayedTalk { queued, tries })
     }
 
     fn play_lane(&self, lane: &[QueuedTalk<'a>]) -> Result<Vec<PlayedTalk<'a>>, Fault>
@@ -231,55 +248,53 @@ impl<'a> TalkCrew<'a> {
         Ok(replies)
     }
 
-    // Plays a talk alone that deviates beside others: it deviates unless it then meets its demand.
-    fn confirm(&self, played: PlayedTalk<'a>) -> Result<PlayedTalk<'a>, Fault>
-        ensures { IfOk result (λ it. it.queued ≡ played.entry.queued) }
+    // Plays a talk again, if it deviates, unless it is of this row: one of that deviates for good.
+    fn confirm(
+        &self,
+        played: PlayedTalk<'a>,
+        deviating: Option<&'a [u8]>,
+    ) -> Result<PlayedTalk<'a>, Fault>
+        ensures same { IfOk result (λ it. it.queued ≡ played.entry.queued) }
+        ensures twice { IfOk result (IsTwiceUnless (option_copied deviating.entry)) }
     {
-        let queued = played.queued;
-        let marks = &queued.row.marks;
-        let is_settled = played.verdict() != TalkVerdict::Deviates
-            || matches!(queued.level, Level::May)
-            || marks.alone
-            || marks.first
-            || self.is_serial
-            || self.is_gone.load(Ordering::SeqCst)
-            || !self.partner(&queued).is_heard();
-        if is_settled {
+        let is_known = match deviating {
+            Some(row) => is_same_text(row, played.queued.row.id.as_slice()),
+            None => false,
+        };
+        if is_known || played.verdict() != TalkVerdict::Deviates {
             return Ok(played);
         }
-        let played = if played.tries.len() < 2 {
-            self.play_again(played)?
-        } else {
-            played
-        };
-        if played.verdict() == TalkVerdict::Deviates {
-            let played = self.play_again(played)?;
-            self.play_bad_again(played)
-        } else {
-            Ok(played)
-        }
+        self.play_again(played)
     }
 
-    // Has what deviates confirmed. In a row of which one talk deviates for good the others are not played again.
+    // Plays once more, alone, what deviates, unless somebody is gone or nobody was ever heard. In a row of which one talk then deviates the
+    // others are not played again.
     fn confirm_all(&self, talks: Vec<PlayedTalk<'a>>) -> Result<Vec<PlayedTalk<'a>>, Fault>
-        ensures { IfOk result (λ ps. talks_of ps.items ≡ talks_of talks.entry.items) }
+        ensures talks { IfOk result (λ ps. talks_of ps.items ≡ talks_of talks.entry.items) }
+        ensures confirmed { IfOk result (λ ps. AreConfirmed ps.items) }
     {
+        if gone_in(&talks).is_some() || !is_any_heard(&talks) {
+            return Ok(talks);
+        }
         let mut confirmed = Vec::new(self.setting.rt.alloc());
-        let mut deviating: &'a [u8] = &[];
+        let mut deviating: Option<&'a [u8]> = None;
         for played in talks {
-            let row = played.queued.row.id.as_slice();
-            let played = if row == deviating {
-                played
-            } else {
-                self.confirm(played)?
-            };
-            if played.tries.len() > 2 && played.verdict() == TalkVerdict::Deviates {
-                deviating = row;
+            let played = self.confirm(played, deviating)?;
+            if played.verdict() == TalkVerdict::Deviates {
+                let row = played.queued.row;
+                deviating = Some(row.id.as_slice());
             }
             confirmed.push(played)?;
         }
         Ok(confirmed)
     }
+}
+
+// Whether a peer was heard in one of these talks.
+fn is_any_heard(talks: &[PlayedTalk<'_>]) -> bool
+    ensures { result ≡ list_any heard_peer talks.now }
+{
+    talks.iter().any(|played| played.is_heard())
 }
 
 // Appends what lanes came to.
@@ -309,11 +324,11 @@ impl<'a> TalkCrew<'a> {
         self.is_serial = self.is_serial || self.is_held_up;
         take_replies(self.play_lanes(threads)?, &mut talks)?;
         talks.append(&mut self.play_lane(&self.queue.alone)?)?;
-        self.confirm_all(talks)
+        Ok(talks)
     }
 }
 
-/// Plays the talks that are wanted, each once, and returns what became of each, in their order.
+/// Plays the talks that are wanted, and returns what became of each, in their order.
 pub fn run_talks<'a, R: Threads + Sync>(
     threads: &R,
     setting: &Setting<'a>,
@@ -321,6 +336,7 @@ pub fn run_talks<'a, R: Threads + Sync>(
     is_serial: bool,
 ) -> Result<PlayedSuite<'a>, Fault>
     ensures talks { IfOk result (λ suite. talks_of suite.talks.items ≡ wanted.now.talks.items) }
+    ensures confirmed { IfOk result (λ suite. AreConfirmed suite.talks.items) }
     ensures rows { IfOk result (λ suite. suite.rows ≡ wanted.now.rows) }
 {
     let queue = queue_of(setting.rt.alloc(), &wanted.talks)?;
@@ -336,7 +352,7 @@ pub fn run_talks<'a, R: Threads + Sync>(
     let mut talks = crew.play_all(threads)?;
     talks.sort_by_key(|played| played.queued.place)?;
     Ok(PlayedSuite {
-        talks,
+        talks: crew.confirm_all(talks)?,
         rows: wanted.rows,
         is_one_at_a_time: crew.is_held_up && crew.node.is_heard(),
     })

@@ -1,9 +1,9 @@
 //! What is seen in the steps of a talk.
 
 ghost use Rattle.std.specs.Prelude.{◌≡◌};
-ghost use Rattle.distcheck.specs.Seeing.{end_of, is_refusal};
+ghost use Rattle.distcheck.specs.Seeing.{end_of, is_heard, is_refusal};
 
-use dist_names::ByteString;
+use crate::waiting::{HeardBytes, SaidBytes};
 
 /// What became of the peer's side of a connection.
 #[derive(Clone, Copy, PartialEq, Eq)]
@@ -48,22 +48,13 @@ pub struct Timing {
     pub pause: u32,
 }
 
-/// What came on a connection in one step.
-#[derive(Drop)]
-pub struct HeardBytes {
-    /// These bytes.
-    pub bytes: ByteString,
-    /// When that was.
-    pub timing: Timing,
-}
-
 /// What is seen in a step.
 #[derive(Drop)]
 pub enum StepFact {
     /// It was made: a connection was made or taken, our side of one was ended, or time was spent. In `call none`: nobody came.
     Made,
-    /// These bytes were written. The second: whether the connection took all of them.
-    Said(ByteString, bool),
+    /// This was written.
+    Said(SaidBytes),
     /// This came.
     Heard(HeardBytes),
     /// A connection came that must not.
@@ -72,8 +63,6 @@ pub enum StepFact {
     Refused,
     /// The message has no more bytes than the step cuts it to.
     Unsaid,
-    /// There is nobody to try it with, in these words: the talk is skipped.
-    Untried(&'static str),
     /// The step was not made, for this reason: the talk is blocked.
     Failed(&'static str),
 }
@@ -84,6 +73,16 @@ impl StepFact {
         ensures { result ≡ is_refusal self.now }
     {
         matches!(self, StepFact::Refused)
+    }
+
+    /// Whether the peer was heard: a byte, or an end.
+    pub fn is_heard(&self) -> bool
+        ensures { result ≡ is_heard self.now }
+    {
+        match self {
+            StepFact::Heard(heard) => !heard.bytes().is_empty() || heard.timing.end.is_over(),
+            _ => false,
+        }
     }
 }
 

@@ -1,18 +1,18 @@
 //! How a talk stands: by its steps, and what was seen in each.
 
-ghost use Rattle.std.specs.Prelude.{◌≡◌, [], OnOk, IfOk, option_map};
-ghost use Rattle.distcheck.specs.Playing.{standing_of, beginning, ends_by, with_left, came_on, observation_in, passes, is_due};
+ghost use Rattle.std.specs.Prelude.{◌≡◌, [], OnOk, IfOk};
+ghost use Rattle.distcheck.specs.Playing.{standing_of, beginning, ends_by, with_left, came_on, observation_in, passes};
 ghost use Rattle.distcheck.specs.Playing.{by_demand, after_hearing, after_saying, after_making, next, verdict_in};
 ghost use Rattle.dist_conformance.specs.Judging.{judgement_of};
 ghost use Rattle.dist_conformance.specs.declared.verdicts.TalkVerdict.TheVariants as verdict;
 
-use crate::seen::{HeardBytes, PeerEnd, StepFact, Timing};
+use crate::seen::{PeerEnd, StepFact, Timing};
 use crate::transcript::{digits_of, letter_of};
+use crate::waiting::HeardBytes;
 use dist_conformance::{
-    Action, Demand, Judgement, Learned, Observed, Passage, TalkStep, TalkVerdict, bytes_to_say,
-    judge,
+    Action, Demand, Judgement, Learned, Observed, Passage, TalkStep, TalkVerdict, judge,
 };
-use dist_names::{ByteString, is_same_text};
+use dist_names::ByteString;
 use dist_secret::Cookie;
 use std::alloc::{AllocError, Global};
 
@@ -140,7 +140,7 @@ impl<'a> TalkState<'a> {
     ) -> Result<(), AllocError>
         ensures { OnOk result (standing_of self.new ≡ by_demand verdict conn demand.now heard.now (standing_of self.old)) }
     {
-        let came = self.came_on(conn, heard.bytes.as_slice())?;
+        let came = self.came_on(conn, heard.bytes())?;
         let judgement = self.judgement(demand, &came, heard.timing);
         let is_late = self.terms.limit <= heard.timing.elapsed;
         let alloc = *self.left.allocator();
@@ -163,7 +163,7 @@ impl<'a> TalkState<'a> {
           left = with_left conn [] (standing_of self.old).left;
         }) }
     {
-        let came = self.came_on(conn, heard.bytes.as_slice())?;
+        let came = self.came_on(conn, heard.bytes())?;
         if !self.why.is_empty() {
             self.why.push_str("; ")?;
         }
@@ -192,20 +192,14 @@ impl<'a> TalkState<'a> {
         }
     }
 
-    // Takes what was said in a step.
+    // Takes that something was said in a step.
     #[tactic(auto, unfolding(crate::specs::Playing::after_saying))]
-    fn take_said(&mut self, step: &TalkStep, said: &[u8]) -> Result<(), AllocError>
-        ensures { OnOk result (standing_of self.new ≡ after_saying step.now.conn step.now.action said.now (standing_of self.old)) }
+    fn take_said(&mut self, step: &TalkStep) -> Result<(), AllocError>
+        ensures { OnOk result (standing_of self.new ≡ after_saying step.now.action (standing_of self.old)) }
     {
-        let Action::Say(saying) = &step.action else {
-            return self.end(TalkVerdict::Blocked, NOT_MADE);
-        };
-        let alloc = *self.left.allocator();
-        let due = bytes_to_say(alloc, saying, step.conn, &self.learned, self.terms.cookie)?;
-        if is_due(due.as_ref(), said) {
-            Ok(())
-        } else {
-            self.end(TalkVerdict::Blocked, NOT_MADE)
+        match &step.action {
+            Action::Say(_) => Ok(()),
+            _ => self.end(TalkVerdict::Blocked, NOT_MADE),
         }
     }
 
@@ -237,12 +231,11 @@ impl<'a> TalkState<'a> {
         }
         match seen {
             StepFact::Made => self.take_made(step),
-            StepFact::Said(said, _) => self.take_said(step, said.as_slice()),
+            StepFact::Said(_) => self.take_said(step),
             StepFact::Heard(heard) => self.take_heard(step, heard),
             StepFact::Came => self.end(TalkVerdict::Deviates, "the node connects"),
             StepFact::Refused => self.end(TalkVerdict::Blocked, "no connection was taken"),
             StepFact::Unsaid => self.end(TalkVerdict::Skipped, UNSAID),
-            StepFact::Untried(why) => self.end(TalkVerdict::Skipped, why),
             StepFact::Failed(why) => self.end(TalkVerdict::Blocked, why),
         }
     }
@@ -256,15 +249,6 @@ impl<'a> TalkState<'a> {
         } else {
             TalkVerdict::Skipped
         }
-    }
-}
-
-fn is_due(due: Option<&Vec<u8>>, said: &[u8]) -> bool
-    ensures { result ≡ is_due (option_map (λ bytes. bytes.now.items) due.entry) said.now }
-{
-    match due {
-        Some(due) => is_same_text(due, said),
-        None => false,
     }
 }
 

@@ -1,7 +1,7 @@
 //! A connection of a talk: what is read from it, and what is written on it. Each wait has a limit.
 
 ghost use Rattle.std.specs.Prelude.{◌≡◌, IfOk, OnOk};
-ghost use Rattle.distcheck.specs.Seeing.{HearsMore, EndsAt};
+ghost use Rattle.distcheck.specs.Seeing.{HearsMore, EndsAt, SaysFront};
 
 use crate::seen::PeerEnd;
 use crate::talk_stream::{SocketTalk, TalkStream, stream_over};
@@ -71,22 +71,24 @@ impl<S: Stream> TalkLink<S> {
     }
 
     /// Writes these bytes, as far as five seconds allow. Returns whether all were taken.
-    pub fn write<C: Clock>(&mut self, clock: &C, bytes: &[u8]) -> bool {
+    pub fn write<C: Clock>(&mut self, clock: &C, bytes: &[u8]) -> bool
+        ensures { SaysFront (S.meaning self.old.stream) (S.meaning self.new.stream) bytes.now result }
+    {
         let Ok(until) = deadline_after(clock, Duration::from_secs(WRITES)) else {
             return false;
         };
-        let mut left = bytes;
+        let mut at = 0;
         for _ in 0..u64::MAX {
-            if left.is_empty() || time_left(clock, until).is_zero() {
+            if at == bytes.len() || time_left(clock, until).is_zero() {
                 break;
             }
-            match self.stream.write(left) {
+            match self.stream.write(&bytes[at..]) {
                 Took::Bytes(0) | Took::Failed => break,
-                Took::Bytes(count) => left = &left[count..],
+                Took::Bytes(count) => at += count,
                 Took::Quiet => {}
             }
         }
-        left.is_empty()
+        at == bytes.len()
     }
 }
 

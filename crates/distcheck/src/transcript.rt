@@ -56,8 +56,8 @@ fn line_of<'a>(step: &TalkStep, played: &'a PlayedStep) -> Option<TranscriptLine
             let (is_peer, act) = act_of(&step.action)?;
             (is_peer, nothing, act)
         }
-        StepFact::Said(bytes, _) => (false, bytes.as_slice(), ""),
-        StepFact::Heard(heard) => (true, heard.bytes.as_slice(), heard.timing.end.text()),
+        StepFact::Said(said) => (false, said.bytes.as_slice(), ""),
+        StepFact::Heard(heard) => (true, heard.bytes(), heard.timing.end.text()),
         StepFact::Came => (true, nothing, "connects"),
         _ => return None,
     };
@@ -80,7 +80,7 @@ pub fn lines_of<'a>(
     for (step, played) in steps.iter().zip(played) {
         if let Some(line) = line_of(step, played) {
             lines.push(line)?;
-            if matches!(played.seen, StepFact::Said(_, false)) {
+            if matches!(&played.seen, StepFact::Said(said) if !said.is_whole()) {
                 lines.push(TranscriptLine {
                     bytes: &[],
                     act: "cannot write",

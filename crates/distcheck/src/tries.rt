@@ -1,27 +1,14 @@
 //! A talk, and what became of it in each of its tries.
 
-ghost use Rattle.std.specs.Prelude.{◌≡◌, ◌<◌, [], length};
+ghost use Rattle.std.specs.Prelude.{◌≡◌, ◌<◌, Some, [], length};
 ghost use Rattle.std.specs.{List.list_any, Option.ForNone, Option.ForSome};
-ghost use Rattle.distcheck.specs.Trying.{told_verdicts, verdict_of_two, verdict_alone, tries_verdict, verdicts_of, was_refused};
-ghost use Rattle.distcheck.specs.Deciding.{counts_first, denies};
+ghost use Rattle.distcheck.specs.Trying.{told_verdicts, denies, tries_verdict, verdicts_of, was_heard, was_refused};
 
+use crate::left_out::SkipReason;
+use crate::playing::TalkTry;
 use crate::queue::QueuedTalk;
 use crate::seen::{PlayedStep, StepFact};
 use dist_conformance::{TalkStep, TalkVerdict};
-use std::alloc::AllocError;
-
-/// One try of a talk.
-#[derive(Drop)]
-pub struct TalkTry {
-    /// What was seen in its steps, as far as they were made.
-    pub played: Vec<PlayedStep>,
-    /// The verdict.
-    pub verdict: TalkVerdict,
-    /// In words, what came and is not what was wanted, or why the talk was not tried.
-    pub why: String,
-    /// How many milliseconds it took.
-    pub took: u32,
-}
 
 impl TalkTry {
     /// Whether nobody listened where it connects.
@@ -36,26 +23,29 @@ impl TalkTry {
         matches!(self.played.last(), Some(last) if matches!(last.seen, StepFact::Unsaid))
     }
 
-    /// Whether the peer let hear of itself: by a byte, or by an end.
-    pub fn is_heard(&self) -> bool {
-        self.played.iter().any(|step| match &step.seen {
-            StepFact::Heard(heard) => !heard.bytes.is_empty() || heard.timing.end.is_over(),
-            _ => false,
-        })
+    /// Whether the peer was heard.
+    pub fn is_heard(&self) -> bool
+        ensures { result ≡ was_heard self.now }
+    {
+        self.played.iter().any(|step| step.seen.is_heard())
     }
 }
 
-/// A talk, and all of its tries: none where it is left out. Else up to two beside other talks, and two more alone where it deviates in these.
+/// A talk, and all of its tries: none where it is left out. What is blocked or deviates is tried again.
 #[derive(Drop)]
 pub struct PlayedTalk<'a> {
     /// The talk.
     pub queued: QueuedTalk<'a>,
+    /// Why it was left out, if it was.
+    pub left_out: Option<SkipReason>,
     /// Its tries, in order.
     pub tries: Vec<TalkTry>,
+    // What is not to be played is left out.
+    pub ghost as_queued: { ForSome queued.left_out (λ why. left_out ≡ Some why) },
     // Nothing is tried of a talk that is left out.
-    pub ghost left_out: { ForSome queued.left_out (λ why. tries.items ≡ []) },
+    pub ghost untried: { ForSome left_out (λ why. tries.items ≡ []) },
     // Any other has a try.
-    pub ghost tried: { ForNone queued.left_out (0 < length tries.items) },
+    pub ghost tried: { ForNone left_out (0 < length tries.items) },
     // The verdict of each is the judgement of what was seen in it.
     pub ghost judged: { told_verdicts tries.items ≡ verdicts_of queued tries.items },
 }
@@ -71,7 +61,7 @@ pub struct ShownTry<'p> {
     pub took: u32,
 }
 
-// Whether a try denies a deviation in another one: it was played as far as to the demand, and met it. One that is blocked or skipped does not:
+// Whether a try denies a deviation in one before: it was played as far as to the demand, and met it. One that is blocked or skipped does not:
 // it may have met what the other left behind, such as a name that the node still holds.
 fn denies(verdict: TalkVerdict) -> bool
     ensures { result ≡ denies verdict }
@@ -82,52 +72,18 @@ fn denies(verdict: TalkVerdict) -> bool
     )
 }
 
-// Whether the first of two tries counts: it deviates, and the second does not deny that.
-fn counts_first(first: TalkVerdict, second: TalkVerdict) -> bool
-    ensures { result ≡ counts_first first second }
-{
-    matches!(first, TalkVerdict::Deviates) && !denies(second)
-}
-
-// The verdict of one try, or of two.
-fn verdict_of_two(tries: &[TalkTry]) -> TalkVerdict
-    ensures { result ≡ verdict_of_two (told_verdicts tries.now) }
-{
-    match tries {
-        [] => TalkVerdict::Skipped,
-        [first] => first.verdict,
-        [first, second, ..] if counts_first(first.verdict, second.verdict) => first.verdict,
-        [_, second, ..] => second.verdict,
-    }
-}
-
-// The verdict of a talk that deviates beside others: these are its tries alone.
-fn verdict_alone(alone: &[TalkTry]) -> TalkVerdict
-    ensures { result ≡ verdict_alone (verdict_of_two (told_verdicts alone.now)) }
-{
-    if denies(verdict_of_two(alone)) {
-        TalkVerdict::Loose
-    } else {
-        TalkVerdict::Deviates
-    }
-}
-
-fn tries_verdict(tries: &[TalkTry]) -> TalkVerdict
-    ensures { result ≡ tries_verdict (told_verdicts tries.now) }
-{
-    match tries {
-        [_, _, alone @ ..] if !alone.is_empty() => verdict_alone(alone),
-        _ => verdict_of_two(tries),
-    }
-}
-
 impl<'a> PlayedTalk<'a> {
-    /// The verdict of the talk.
+    /// The verdict of the talk: that of its last try, but a deviation stays one unless a later try denies it.
     pub fn verdict(&self) -> TalkVerdict
-        ensures verdict { result ≡ tries_verdict (verdicts_of self.now.queued self.now.tries.items) }
-        ensures left_out { ForSome self.now.queued.left_out (λ why. result ≡ TalkVerdict.Skipped) }
+        ensures { result ≡ tries_verdict (verdicts_of self.now.queued self.now.tries.items) }
     {
-        tries_verdict(&self.tries)
+        let mut verdict = TalkVerdict::Skipped;
+        for one in &self.tries {
+            if verdict != TalkVerdict::Deviates || denies(one.verdict) {
+                verdict = one.verdict;
+            }
+        }
+        verdict
     }
 
     /// Whether nobody listened in one of its tries.
@@ -137,21 +93,11 @@ impl<'a> PlayedTalk<'a> {
         self.tries.iter().any(|one| one.is_refused())
     }
 
-    /// The verdict of its last try.
-    pub fn last_verdict(&self) -> TalkVerdict {
-        self.tries
-            .last()
-            .map_or(TalkVerdict::Skipped, |one| one.verdict)
-    }
-
-    /// In words, what came in this try, or why the talk is left out.
-    pub fn arrival_text(&self, one: &ShownTry<'_>) -> Result<String, AllocError> {
-        let alloc = *self.tries.allocator();
-        if self.tries.len() > 2 && self.verdict() == TalkVerdict::Loose {
-            format!(in alloc; "only beside other talks: {}", one.why)
-        } else {
-            one.why.to_owned(alloc)
-        }
+    /// Whether the peer was heard in one of its tries.
+    pub fn is_heard(&self) -> bool
+        ensures { result ≡ list_any was_heard self.now.tries.items }
+    {
+        self.tries.iter().any(|one| one.is_heard())
     }
 
     /// Its steps.
@@ -168,23 +114,23 @@ impl<'a> PlayedTalk<'a> {
         }
     }
 
-    /// The try that is shown: the last that deviates, where one counts that does, and else the last. Of a talk that is left out, the reason.
+    /// The try that is shown: the last that deviates, where the talk does, and else the last. Of a talk that is left out, the reason.
     pub fn shown_try(&self) -> ShownTry<'_> {
-        let counts = matches!(self.verdict(), TalkVerdict::Deviates | TalkVerdict::Loose);
-        let deviates = |one: &&TalkTry| one.verdict == TalkVerdict::Deviates;
-        let shown = match self.tries.iter().rfind(deviates) {
-            Some(one) if counts => Some(one),
-            _ => self.tries.last(),
+        let shown = if self.verdict() == TalkVerdict::Deviates {
+            let mut tries = self.tries.iter();
+            tries.rfind(|one| one.verdict == TalkVerdict::Deviates)
+        } else {
+            self.tries.last()
         };
         match shown {
             Some(one) => ShownTry {
                 played: &one.played,
                 why: &one.why,
-                took: one.took,
+                took: one.took(),
             },
             None => ShownTry {
                 played: &[],
-                why: self.queued.left_out.map_or("", |why| why.text()),
+                why: self.left_out.map_or("", |why| why.text()),
                 took: 0,
             },
         }

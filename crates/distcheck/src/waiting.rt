@@ -1,18 +1,52 @@
 //! Waits: until what came is decided, and between pieces of what is written.
 
-ghost use Rattle.std.specs.Prelude.{[], IfOk};
-ghost use Rattle.distcheck.specs.Seeing.{HearsMore, EndsAt};
+ghost use Rattle.std.specs.Prelude.{◌≡◌, [], IfOk};
+ghost use Rattle.distcheck.specs.Seeing.{EndsAt, HasEnd, HearsMore, IsHeard, IsSaid, SaysFront};
 
 use crate::fault::Fault;
-use crate::seen::{HeardBytes, Timing};
+use crate::seen::{StepFact, Timing};
 use crate::standing::TalkState;
-use crate::talk_link::{SocketLink, TalkLink, WAIT};
-use dist_conformance::{Action, Judgement, Saying, TalkStep};
+use crate::talk_link::{TalkLink, WAIT};
+use dist_conformance::{Action, Judgement, Saying, TalkStep, bytes_to_say};
 use dist_names::ByteString;
 use dist_stream::Stream;
 use std::alloc::AllocError;
 use std::thread::sleep;
 use std::time::{Duration, Instant};
+
+/// What was written on a connection in one step. Only [`say`] makes it.
+#[derive(Drop)]
+pub struct SaidBytes {
+    /// These bytes, or a front of them.
+    pub bytes: ByteString,
+    // Whether the connection took all of them.
+    is_whole: bool,
+}
+
+impl SaidBytes {
+    /// Whether the connection took all of them.
+    pub fn is_whole(&self) -> bool {
+        self.is_whole
+    }
+}
+
+/// What came on a connection in one step. Only [`listen`] makes it.
+#[derive(Drop)]
+pub struct HeardBytes {
+    // These bytes.
+    bytes: ByteString,
+    /// When that was.
+    pub timing: Timing,
+}
+
+impl HeardBytes {
+    /// These bytes.
+    pub fn bytes(&self) -> &[u8]
+        ensures { result.now ≡ self.now.bytes }
+    {
+        self.bytes.as_slice()
+    }
+}
 
 /// How many milliseconds ago this was.
 pub fn milliseconds_since(rt: &HostRuntime, since: Instant) -> Result<u32, Fault> {
@@ -42,9 +76,9 @@ fn is_over(
     }
 }
 
-/// Listens on the connection of a step, until that is over. Returns what came: what was read from its stream, whatever that is.
+// Listens on the connection of a step, until that is over. Returns what came: what was read from its stream, whatever that is.
 #[tactic(auto, using(crate::proofs::Hearing::hears_none, crate::proofs::Hearing::hears_on))]
-pub fn listen_until_over<S: Stream>(
+fn listen_until_over<S: Stream>(
     rt: &HostRuntime,
     link: &mut TalkLink<S>,
     state: &TalkState<'_>,
@@ -80,27 +114,66 @@ pub fn listen_until_over<S: Stream>(
     Err(Fault::NoTime)
 }
 
+/// Listens as long as a step does. What was seen is what was read.
+pub fn listen<S: Stream>(
+    rt: &HostRuntime,
+    link: &mut TalkLink<S>,
+    state: &TalkState<'_>,
+    step: &TalkStep,
+) -> Result<StepFact, Fault>
+    ensures came { IfOk result (IsHeard (S.meaning link.old.stream) (S.meaning link.new.stream)) }
+    ensures ended { EndsAt link.old.end (S.meaning link.old.stream) → IfOk result (HasEnd (S.meaning link.new.stream)) }
+{
+    let heard = listen_until_over(rt, link, state, step)?;
+    Ok(StepFact::Heard(heard))
+}
+
 // The shortest pause between two pieces, in milliseconds, so that they do not come as one. Our own choice.
 const APART: u32 = 2;
 
-/// Writes these bytes, in pieces of this many at most, with this pause between them. Returns whether all were taken.
-pub fn write_pieces(
+// Writes these bytes, in pieces of as many as the step says at most, with its pause between them. Returns whether all were taken.
+fn write_pieces<S: Stream>(
     rt: &HostRuntime,
-    link: &mut SocketLink,
+    link: &mut TalkLink<S>,
     bytes: &[u8],
     saying: &Saying,
-) -> bool {
+) -> bool
+    ensures { SaysFront (S.meaning link.old.stream) (S.meaning link.new.stream) bytes.now result }
+{
     if saying.pieces == 0 {
         return link.write(rt, bytes);
     }
     let pause = Duration::from_millis(u64::from(saying.pause.max(APART)));
-    for (place, piece) in bytes.chunks(saying.pieces as usize).enumerate() {
-        if place != 0 {
+    let mut at = 0;
+    while at < bytes.len() {
+        if at != 0 {
             sleep(rt, pause);
         }
-        if !link.write(rt, piece) {
+        let end = bytes.len().min(at.saturating_add(saying.pieces as usize));
+        if !link.write(rt, &bytes[at..end]) {
             return false;
         }
+        at = end;
     }
     true
+}
+
+/// Says what a step says. What was seen is what was written.
+pub fn say<S: Stream>(
+    rt: &HostRuntime,
+    link: &mut TalkLink<S>,
+    state: &TalkState<'_>,
+    saying: &Saying,
+) -> Result<StepFact, Fault>
+    ensures { IfOk result (IsSaid (S.meaning link.old.stream) (S.meaning link.new.stream)) }
+{
+    let cookie = state.terms.cookie;
+    match bytes_to_say(rt.alloc(), saying, link.conn, &state.learned, cookie)? {
+        None => Ok(StepFact::Unsaid),
+        Some(bytes) => {
+            let is_whole = write_pieces(rt, link, &bytes, saying);
+            let bytes = ByteString::from_vec(bytes);
+            Ok(StepFact::Said(SaidBytes { bytes, is_whole }))
+        }
+    }
 }

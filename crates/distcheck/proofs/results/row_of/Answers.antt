@@ -15,8 +15,8 @@ loop-talk-preserved c =
     let item = c.talk-item.result in
     let new = c.if-rank.shown.now in
     let within : i < length talks = omega (arith, c.loop-talk-test.true) in
-    let of_old : c.rank.result ≡ rank_of (played_verdict old) = c.rank.ensures ∙ ap rank_of c.verdict.ensures.verdict in
-    let of_item : c.rank-in-loop-talk.result ≡ rank_of (played_verdict item) = c.rank-in-loop-talk.ensures ∙ ap rank_of c.verdict-in-loop-talk.ensures.verdict in
+    let of_old : c.rank.result ≡ rank_of (played_verdict old) = c.rank.ensures ∙ ap rank_of c.verdict.ensures in
+    let of_item : c.rank-in-loop-talk.result ≡ rank_of (played_verdict item) = c.rank-in-loop-talk.ensures ∙ ap rank_of c.verdict-in-loop-talk.ensures in
     let it : WorstOf talks (i + 1) new = elim c.if-rank.branch as (λ _. WorstOf talks (i + 1) new) [
       | then-rank w ↦ next_is_worst talks i item old new within c.talk-item.is (ap (λ (r : Bor PlayedTalk). r.now) w.shown-is)
           (omega (arith, of_old, of_item)) c.loop-talk.invariant.none_worse
