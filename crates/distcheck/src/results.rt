@@ -36,7 +36,9 @@ impl<'a> PlayedRow<'a> {
     }
 
     /// Its level.
-    pub fn level(&self) -> Level {
+    pub fn level(&self) -> Level
+        ensures { result ≡ self.now.shown.now.queued.level }
+    {
         self.shown.queued.level
     }
 
