@@ -55,6 +55,7 @@ size_t rattle_arg_count(void);
 ssize_t rattle_arg(size_t number, uint8_t *buffer, size_t room);
 ssize_t rattle_env(const char *name, uint8_t *buffer, size_t room);
 ssize_t rattle_env_at(size_t number, uint8_t *buffer, size_t room);
+int rattle_open_dir_at(int dir, const char *name);
 /* (a bool and a short number are passed in registers whose upper bits mean nothing: the cases set them) */
 int rattle_set_nonblocking(int fd, uint32_t on);
 int rattle_set_thread_name(const char *name);
@@ -267,6 +268,32 @@ static bool no_environment(void) {
     uint8_t byte;
     clearenv();
     return rattle_env_at(0, &byte, 1) == -1 && rattle_env("A", &byte, 1) == -1;
+}
+
+/* Directories. Each system has these of /proc: a link to a directory is self, a file is version. */
+
+static bool is_directory(int fd, const char *name) {
+    struct stat came, wanted;
+    return !fstat(fd, &came) && !stat(name, &wanted) && S_ISDIR(came.st_mode) && came.st_dev == wanted.st_dev && came.st_ino == wanted.st_ino;
+}
+
+static bool directories_are_opened(void) {
+    int top = rattle_open_dir_at(AT_FDCWD, "/proc"), below = rattle_open_dir_at(top, "sys");
+    if (!is_directory(top, "/proc") || !is_directory(below, "/proc/sys") || chdir("/proc")) return false;
+    return is_directory(rattle_open_dir_at(AT_FDCWD, "sys"), "/proc/sys") && is_directory(rattle_open_dir_at(below, ".."), "/proc") &&
+           is_directory(rattle_open_dir_at(below, "/proc"), "/proc") && is_directory(rattle_open_dir_at(top, "self/"), "/proc/self");
+}
+
+static bool directory_is_for_reading(void) {
+    int top = rattle_open_dir_at(AT_FDCWD, "/proc");
+    return fcntl(top, F_GETFD) == FD_CLOEXEC && (fcntl(top, F_GETFL) & (O_ACCMODE | O_PATH)) == O_RDONLY;
+}
+
+static bool no_directory(void) {
+    int top = rattle_open_dir_at(AT_FDCWD, "/proc"), file = open("/proc/version", O_RDONLY);
+    if (!has_error(rattle_open_dir_at(top, "version"), ENOTDIR) || !has_error(rattle_open_dir_at(top, "self"), ENOTDIR)) return false;
+    if (!has_error(rattle_open_dir_at(top, "no-such-name"), ENOENT) || !has_error(rattle_open_dir_at(top, ""), ENOENT)) return false;
+    return has_error(rattle_open_dir_at(-1, "sys"), EBADF) && has_error(rattle_open_dir_at(file, "sys"), ENOTDIR);
 }
 
 /* Descriptors that wait or don't. */
@@ -642,6 +669,9 @@ static const struct {
     {"env", "no such variable: -1, and nothing is written", no_such_variable},
     {"env_at", "the entries in their order, in room for less, for themselves, for more; then -1", entries_in_their_order},
     {"env_at", "without any environment: -1", no_environment},
+    {"open_dir_at", "from a directory, from the working one, by a whole path, and over a link that a slash follows", directories_are_opened},
+    {"open_dir_at", "the descriptor is for reading, and is closed by exec", directory_is_for_reading},
+    {"open_dir_at", "ENOTDIR of a file and of a link, ENOENT, EBADF", no_directory},
     {"set_nonblocking", "on and off, whatever stands beside the bool", waits_or_not},
     {"set_nonblocking", "each descriptor of the open file has it", of_each_duplicate},
     {"set_nonblocking", "no such descriptor: EBADF", nonblocking_of_none},

@@ -1,5 +1,5 @@
 /* SPDX-License-Identifier: Apache-2.0 */
-/* What the programs call of the system beside the C library, on processors for which the toolchain brings no object of it: fourteen
+/* What the programs call of the system beside the C library, on processors for which the toolchain brings no object of it: fifteen
  * functions of its crate `os`, which describes each. No proof covers this file; cases.c has what each call promises. What the system
  * answers, and errno, goes back as it is: so EINTR does, and the caller asks again. */
 #define _GNU_SOURCE
@@ -55,6 +55,9 @@ ssize_t rattle_env_at(size_t number, uint8_t *buffer, size_t room) {
     while (entry && *entry && number--) entry++;
     return copy(entry ? *entry : NULL, buffer, room);
 }
+
+/* Opens a directory for reading, and no file; a link at the name's end is not followed, unless a slash is behind it. */
+int rattle_open_dir_at(int dir, const char *name) { return openat(dir, name, O_RDONLY | O_DIRECTORY | O_NOFOLLOW | O_CLOEXEC); }
 
 int rattle_set_nonblocking(int fd, bool on) {
     int flag = on;
