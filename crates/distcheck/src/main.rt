@@ -222,7 +222,7 @@ fn heading_of(
 }
 
 // What became of all talks, in lines or as objects.
-fn text_of(
+fn result_text(
     alloc: Global,
     order: &CheckOrder<'_>,
     suite: &PlayedSuite<'_>,
@@ -252,7 +252,7 @@ fn put_report<'a, W: Write>(
     let gone = gone_in(&suite.talks);
     let rows = rows_of(alloc, &suite.talks)?;
     let exit = exit_of(&suite.talks, order.strict);
-    let text = text_of(alloc, order, suite, &rows, exit)?;
+    let text = result_text(alloc, order, suite, &rows, exit)?;
     print(out, &text)?;
     match gone {
         Some(id) => Err(Fault::Gone(escape(alloc, id)?)),

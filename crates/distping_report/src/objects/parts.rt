@@ -1,7 +1,8 @@
 //! Parts of objects: what the port mapper knows of a node, what the node sent about itself, the verdict, and what each address gave.
 
 ghost use Rattle.std.specs.Prelude.{◌≡◌, ◌≤◌, ℕ, List, OnOk, codes};
-ghost use Rattle.distping_report.specs.Objects.{Layout, Layouts, PutsNamed, PutsObjects, PutsValue, layout_levels, layout_of, member, no_member, number, object, object_levels, shape_of, text};
+ghost use Rattle.distping_report.specs.Objects.{Layout, Layouts, PutsNamed, PutsObjects, PutsValue, layout_levels, layout_of};
+ghost use Rattle.distping_report.specs.Objects.{member, no_member, number, object, object_levels, shape_of, text};
 ghost use Rattle.dist_talk.specs.Words.{status_of, verdict_word};
 
 use crate::found::ProbeOutcome;
